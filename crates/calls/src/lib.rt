@@ -6,6 +6,7 @@ use expansion::Outcome;
 use frames::FRAME;
 use grammar::limits::MOST_VARIABLES;
 use productions::room::ROOM;
+use scanner::room::TOKEN;
 use steps::ItemStep;
 use steps::finish;
 use steps::item_step;
@@ -18,15 +19,7 @@ use turns::paused;
 use turns::resumed;
 use turns::returned;
 use turns::valued;
-ghost use Prim.Native.Nat.{ℕ};
-ghost use lib.ListN.{length};
-ghost use Rattle.expansion.specs.Run.{Result};
-ghost use Rattle.terms.specs.Cells.{rowsLent};
-ghost use Rattle.choices.specs.Chosen.{Remembers};
-ghost use Rattle.frames.specs.Frames.{Standing};
-ghost use Rattle.turns.specs.Turns.{Goes};
-ghost use Rattle.calls.specs.Lent.{lentInput};
-ghost use Rattle.calls.specs.Calls.{MayGo};
+ghost use Rattle.calls.specs.Calls.{MayGo, Continues};
 
 // How many calls may wait.
 const MOST_WAITING: usize = MOST_OPEN - 1;
@@ -34,22 +27,20 @@ const MOST_WAITING: usize = MOST_OPEN - 1;
 // The items of the call at a level of `frames`, its result, and so on with the calls that wait below it. The call that goes on is kept
 // apart from its frame.
 pub fn items(
-    table: &[u8],
-    room: &[u64; ROOM],
-    memory: &mut [u8; MEMORY],
-    tokens: &[u32],
-    n: usize,
     cells: &mut [u32],
     stack: &mut [u32],
     frames: &mut [u32],
+    memory: &mut [u8; MEMORY],
+    table: &[u8],
+    room: &[u64; ROOM],
+    tokens: &[u32],
     from: Resumption,
 ) -> Advance
-    requires { ⌜ MayGo (now table) (now room) (now memory) (now tokens) n (now cells) (now stack) (now frames) from ⌝ }
-    ensures { λ r. ⌜ ((R : Result ℕ) → Standing (lentInput (now (table .entry)) (now (tokens .entry)) n (rowsLent (length (now (cells .entry))))) (now
-        (table .entry)) (now (frames .entry)) (from .level) (from .state) (now (cells .entry)) R → Goes (lentInput (now (table .entry)) (now
-        (tokens .entry)) n (rowsLent (length (now (cells .entry))))) (now (table .entry)) R (now (frames .exit)) (now (cells .exit)) r) ⌝ }
-    ensures { λ r. ⌜ Remembers (now (table .entry)) (now (memory .exit)) ⌝ }
+    requires { ⌜ MayGo (now table) (now room) (now memory) (now tokens) (now cells) (now stack) (now frames) from ⌝ }
+    ensures { λ r. ⌜ Continues (now (table .entry)) (now (tokens .entry)) (now (cells .entry)) (now (frames .entry)) from r (now (cells .exit)) (now
+        (frames .exit)) (now (memory .exit)) ⌝ }
 {
+    let n = tokens.len() / TOKEN;
     let mut vars = [0u32; MOST_VARIABLES];
     let mut args = [0u32; MOST_VARIABLES];
     let mut c = resumed(frames, &mut vars, from);
@@ -74,13 +65,22 @@ pub fn items(
                 c = valued(&mut vars, c, x, next, t);
             }
             ItemStep::Opened(callee, given, next, t) => {
-                let begun = begin(room, memory, tokens, n, MOST_WAITING - level, callee, t);
+                let begun = begin(
+                    room,
+                    memory,
+                    tokens,
+                    n,
+                    MOST_WAITING - level,
+                    callee,
+                    given,
+                    t,
+                );
                 match begun {
                     Begun::Refused(r) => {
                         return Advance::Ended(Outcome::Halted(r));
                     }
-                    Begun::Entered(first, u) => {
-                        c = entered(frames, &mut vars, &args, c, given, next, first, u);
+                    Begun::Entered(call, u) => {
+                        c = entered(frames, &mut vars, &args, c, next, call, u);
                         if frames.len() < (level + 3) * FRAME {
                             return paused(frames, &vars, c);
                         }

@@ -17,7 +17,7 @@ ghost use mathlib.Core.List.{List};
 ghost use Rattle.grammar.specs.Limits.{most};
 ghost use Rattle.productions.specs.Room.{placeFrom};
 ghost use Rattle.choices.specs.Held.{Held, HoldsSome};
-ghost use Rattle.choices.specs.Chosen.{kindsIn, entriesOf, opensOf, chosenPlace, Remembers, Chooses};
+ghost use Rattle.choices.specs.Chosen.{kindsIn, entriesOf, opensOf, chosenPlace, Remembers, MayChoose, Chooses};
 
 // The kinds, with the one that is none.
 const KINDS: usize = NO_KIND as usize + 1;
@@ -63,7 +63,7 @@ fn search(room: &[u64; ROOM], n: u8, kind: u32) -> usize
 // The same, remembered: a choice is searched for where it is met first, and then looked up. A place is remembered as one more than it is;
 // 255 and 256 are searched for each time.
 pub fn choose(room: &[u64; ROOM], memory: &mut [u8; MEMORY], n: u8, kind: u32) -> usize
-    requires { ⌜ HoldsSome (now room) ⌝ }
+    requires { ⌜ MayChoose (now room) (now memory) ⌝ }
     ensures { λ r. ⌜ ((bs : List ℕ) → Held bs (now (room .entry)) → Remembers bs (now (memory .entry)) → Chooses bs n kind r (now (memory
         .exit))) ⌝ }
 {

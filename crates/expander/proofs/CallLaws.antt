@@ -1,14 +1,17 @@
 -- Laws of the root's call and of the whole formula.
-use Prim.Native.Nat.{ℕ, _+_, _<_, _≤_}
+use Prim.Native.Nat.{ℕ, zero, suc, _+_, _-_, _*_, _/_, _<_, _≤_}
 use mathlib.Core.Path.{_≡_, refl, sym, ap, _∙_, subst}
 use mathlib.Core.Bool.{Bool, true, false}
 use mathlib.Core.List.{List, []}
+use native.Mathlib.Nat.{mul-div-cancel}
 use native.Mathlib.Omega.{arith}
 use lib.Dec.{ltb}
-use lib.ListN.{length, replicate, drop, List·getD-append}
+use lib.ListN.{length, replicate, take, drop, List·getD-append}
+use lib.Seq.{getD-take, length-take-le}
 use borrow.Author.Tests.{lt-ltb, le-ltb}
 use Rattle.answers.specs.declared.Refusal.{Refusal}
 use Rattle.answers.specs.Refusals.{refusal}
+use Rattle.scanner.specs.Rooms.{tokensFrom, tokensIn, TokensFit}
 use Rattle.expansion.specs.declared.State.{State}
 use Rattle.expansion.specs.declared.Outcome.{Outcome}
 use Rattle.expansion.specs.declared.Outcome.the-variants.{Value, Halted}
@@ -17,7 +20,9 @@ use Rattle.expansion.specs.Outcomes.{ran}
 use Rattle.expansion.specs.Expansion.{Input, runCall, initialState, ended, run}
 use Rattle.expansion.specs.Limits.{mostOpen}
 use Rattle.templates.specs.Built.{Holds}
-use Rattle.frames.specs.Frames.{frameSize, longFrames, LevelFits, Saved, withFront, resume, owed, stacked-none, Standing}
+use Rattle.steps.specs.declared.Activation.{Activation}
+use Rattle.steps.specs.Steps.{body}
+use Rattle.frames.specs.Frames.{frameSize, allFrames, LevelFits, Saved, withFront, resume, owed, stacked-none, Standing}
 use Rattle.frames.proofs.FrameLaws.{waits-saved, standing-same}
 use Rattle.terms.specs.Cells.{rowsLent}
 use Rattle.choices.specs.Chosen.{Remembers}
@@ -26,11 +31,11 @@ use Rattle.turns.specs.declared.begins.Begun.the-variants.{Entered}
 use Rattle.turns.specs.declared.Resumption.{Resumption}
 use Rattle.turns.specs.declared.Advance.{Advance}
 use Rattle.turns.specs.declared.Advance.the-variants.{Ended, Paused}
-use Rattle.calls.specs.Lent.{lentInput, Lent}
-use Rattle.calls.specs.Calls.{MayStand, MayGo}
-use Rattle.turns.specs.Begins.{Begins, CallBegunAt, CallEntered}
+use Rattle.calls.specs.Lent.{tokenCount, reading, lentInput, Lent}
+use Rattle.calls.specs.Calls.{StandsAt, MayStand, MayGo, Continues}
+use Rattle.turns.specs.Begins.{Begins, CallBegunAt, CallEntered, chosenCall, EntersChosen, Starts}
 use Rattle.turns.specs.Turns.{Goes}
-use Rattle.expander.specs.Roots.{rootItems, BodyAhead, MayGoOn}
+use Rattle.expander.specs.Roots.{rootItems, RootEntered, MayGoOn, Ends}
 use Rattle.turns.proofs.BeginLaws.{entry-weight}
 use Rattle.grammar.specs.Limits.{most}
 
@@ -38,23 +43,34 @@ use Rattle.grammar.specs.Limits.{most}
 pub holds-none : Holds (replicate 16 0) 0 []
 holds-none = record { long = refl; count = refl; same = λ i a b. absurd (omega arith) }
 
--- The root's call leaves room for its items
-pub stands-start : {bs : List ℕ} {first : ℕ} {next : State} → CallBegunAt bs mostOpen initialState first next → length bs ≤ most .bytes
-    → BodyAhead bs first next
-stands-start e h = record { whole = e .whole; inside = e .inside; light = omega (arith, entry-weight e h) }
+-- The root's call is entered, with room for its items.
+pub root-entered : (input : Input) {bs : List ℕ} (root : ℕ) {call : Activation} {next : State} → CallBegunAt bs mostOpen initialState call next
+    → call ≡ chosenCall input bs root 0 initialState
+    → length bs ≤ most .bytes
+    → RootEntered bs call next
+root-entered input root e chosen h =
+    record {
+      whole = e .whole;
+      inside = e .inside;
+      call-fits =
+          record { production-small = omega (arith, e .placed); began-small = omega (arith, ap (λ (a : Activation). a .began) chosen) };
+      no-variables = ap (λ (a : Activation). a .count) chosen;
+      light = omega (arith, entry-weight e h);
+    }
 
--- The root's alternative, saved at the lowest level
-pub standing-root : {input : Input} {bs : List ℕ} {first : ℕ} {state : State} → BodyAhead bs first state → (cells : List ℕ) {old frames : List ℕ}
-    → LevelFits frames 0 → Saved old frames 0 (replicate 16 0) 0 first
-    → Standing input bs frames 0 state cells (rootItems input bs first state cells)
+-- It is saved at the lowest level.
+pub standing-root : {input : Input} {bs : List ℕ} {call : Activation} {state : State} → RootEntered bs call state → (cells : List ℕ)
+    {old frames : List ℕ}
+    → LevelFits frames 0 → Saved old frames 0 (replicate 16 0) call
+    → Standing input bs frames 0 state cells (rootItems input bs (call .next) state cells)
 unfolding resume owed
-standing-root {first = first} t cells fits saved =
+standing-root {call = call} t cells fits saved =
     record {
       fits = fits;
-      current = record { next = first; values = [] };
+      current = record { call = call; values = [] };
       waiting = [];
       many = refl;
-      on-top = waits-saved saved holds-none (t .whole) (t .inside);
+      on-top = waits-saved saved (t .call-fits) (rw (t .no-variables) holds-none) (t .whole) (t .inside);
       counted = omega arith;
       stacked = stacked-none;
       light = omega (arith, t .light);
@@ -70,70 +86,133 @@ standing-copied {short = short} fit old e s =
     standing-same (record { few = s .fits .few; inside = omega (arith, s .fits .inside) })
     (λ i l. rw e (List·getD-append short (drop (length short) old) 0 i (omega (arith, s .fits .inside)))) s
 
--- They go on there, if it has a level more.
-pub may-go : {bs room memory tokens : List ℕ} {n : ℕ} {cells stack short frames : List ℕ} {from : Resumption}
-    → MayStand bs room memory tokens n cells stack short from
-    → length short + frameSize ≤ length frames → (old : List ℕ) → frames ≡ withFront old short
-    → MayGo bs room memory tokens n cells stack frames from
-may-go may fit old e =
+-- a room copied into a longer one, for `many` calls
+pub record Copied (short frames : List ℕ) : Type 0 where
+  -- what the longer one held
+  pub old : List ℕ
+  -- it has the same at its front
+  pub front : frames ≡ withFront old short
+  -- how many calls it is for
+  pub many : ℕ
+  -- it is as long as they need
+  pub long : length frames ≡ many * frameSize
+  -- the other is shorter
+  pub less : length short < many * frameSize
+
+-- The calls that stand in the shorter room go on in the longer one, which has a level more.
+pub may-go : {bs room memory tokens cells stack short frames : List ℕ} {from : Resumption} → MayGoOn bs room memory tokens cells stack short from
+    → Copied short frames → MayGo bs room memory tokens cells stack frames from
+may-go may c =
+    let on = may .stands in
     record {
       stands =
           record {
-            lent = may .lent;
-            remembers = may .remembers;
-            result = may .result;
-            standing = standing-copied (omega arith) old e (may .standing);
+            lent = on .lent;
+            remembers = on .remembers;
+            result = on .result;
+            standing = standing-copied (omega (arith, c .long, c .less)) (c .old) (c .front) (on .standing);
           };
-      next-fits = omega (arith, may .standing .fits .inside);
+      next-fits = omega (arith, on .standing .fits .inside, c .long, c .less);
     }
 
--- what a loop gave, by how it ended
-module _ (bs tokens : List ℕ) (count : ℕ) (cells : List ℕ) (result : Result ℕ) (frames cells′ : List ℕ) (advance : Advance)
-    (goes : Goes (lentInput bs tokens count (rowsLent (length cells))) bs result frames cells′ advance) where
-  -- It ended with the result.
-  pub goes-ended : {outcome : Outcome} → advance ≡ Ended outcome → ran outcome cells′ ≡ result
-  goes-ended e = subst (Goes (lentInput bs tokens count (rowsLent (length cells))) bs result frames cells′) e goes
+-- What they end with there, they end with.
+pub ends-copied : {bs tokens cells short frames : List ℕ} {from : Resumption} {outcome : Outcome} {cells′ : List ℕ} → Copied short frames
+    → Ends bs tokens cells frames from outcome cells′ → Ends bs tokens cells short from outcome cells′
+ends-copied c e = record { ends = λ R s. e .ends R (standing-copied (omega (arith, c .long, c .less)) (c .old) (c .front) s) }
 
-  paused-at : {from : Resumption} → advance ≡ Paused from
-      → Standing (lentInput bs tokens count (rowsLent (length cells))) bs frames (from .level) (from .state) cells′ result
-      × (length frames < longFrames)
-  paused-at e = subst (Goes (lentInput bs tokens count (rowsLent (length cells))) bs result frames cells′) e goes
+-- how far a loop went
+module _ {bs tokens cells frames : List ℕ} {from : Resumption} {advance : Advance} {cells′ frames′ memory′ : List ℕ}
+    (continues : Continues bs tokens cells frames from advance cells′ frames′ memory′) where
+  -- It ended.
+  pub ends-here : {outcome : Outcome} → advance ≡ Ended outcome → Ends bs tokens cells frames from outcome cells′
+  ends-here e = record { ends = λ R s. subst (Goes (reading bs tokens cells) bs R frames′ cells′) e (continues .goes R s) }
 
-  -- It paused where the result is still to be had, by as many cells.
-  pub goes-paused : {from : Resumption} → advance ≡ Paused from → length cells′ ≡ length cells
-      → Standing (lentInput bs tokens count (rowsLent (length cells′))) bs frames (from .level) (from .state) cells′ result
-  goes-paused e same = rw same (paused-at e .0)
+  -- It paused, with as many cells.
+  module _ {later : Resumption} (paused : advance ≡ Paused later) (same : length cells′ ≡ length cells) where
+    paused-at : (R : Result ℕ) → StandsAt bs tokens cells frames from R
+        → Standing (reading bs tokens cells) bs frames′ (later .level) (later .state) cells′ R × (length frames′ < allFrames)
+    paused-at R s = subst (Goes (reading bs tokens cells) bs R frames′ cells′) paused (continues .goes R s)
 
-  -- It pauses in no room for all calls.
-  pub goes-short : {from : Resumption} → advance ≡ Paused from → length frames < longFrames
-  goes-short e = paused-at e .1
+    stands-later : (R : Result ℕ) → StandsAt bs tokens cells frames from R → StandsAt bs tokens cells′ frames′ later R
+    stands-later R s = rw same (paused-at R s .0)
 
-  -- Where it paused, it goes on in a longer room.
-  pub may-go-on : {from : Resumption} → advance ≡ Paused from → length cells′ ≡ length cells → {room stack stack′ memory : List ℕ} {most : ℕ}
-      → Lent bs room tokens count stack → length stack′ ≡ length stack → Remembers bs memory → length frames ≤ most
-      → MayGoOn most bs room memory tokens count cells′ stack′ frames from
-  may-go-on e same lent kept remembers short =
-      record {
-        stands =
-            record {
-              lent = record { table = lent .table; tokens-fit = lent .tokens-fit; stack-long = omega (arith, lent .stack-long) };
-              remembers = remembers;
-              result = result;
-              standing = goes-paused e same;
-            };
-        frames-short = short;
-      }
+    -- It goes on in a longer room.
+    pub may-go-on : {room memory stack stack′ : List ℕ} → MayStand bs room memory tokens cells stack frames from → length stack′ ≡ length stack
+        → MayGoOn bs room memory′ tokens cells′ stack′ frames′ later
+    may-go-on may kept =
+        let lent = may .lent in
+        record {
+          stands =
+              record {
+                lent = record { table = lent .table; tokens-fit = lent .tokens-fit; stack-long = omega (arith, lent .stack-long) };
+                remembers = continues .remembers;
+                result = may .result;
+                standing = stands-later (may .result) (may .standing);
+              };
+          frames-short = paused-at (may .result) (may .standing) .1;
+        }
+
+    -- What it ends with there, it ends with.
+    pub ends-later : {outcome : Outcome} {cells″ : List ℕ} → Ends bs tokens cells′ frames′ later outcome cells″
+        → Ends bs tokens cells frames from outcome cells″
+    ends-later e = record { ends = λ R s. e .ends R (stands-later R s) }
 
 -- how a call went on
-pub entry-of : {bs : List ℕ} {depth : ℕ} {state : State} (begun : Begun) {first : ℕ} {next : State} → begun ≡ Entered first next
-    → CallEntered bs depth state begun → CallBegunAt bs depth state first next
-entry-of {bs} {depth} {state} begun e h = subst (CallEntered bs depth state) e h
+module _ {input : Input} {bs : List ℕ} {depth nonterminal given : ℕ} {state : State} {begun : Begun} {memory : List ℕ}
+    (starts : Starts input bs depth nonterminal given state begun memory) where
+  -- How it began, by what it answered.
+  pub begins-as : {begun′ : Begun} → begun ≡ begun′ → Begins input bs depth nonterminal state begun′
+  begins-as e = subst (Begins input bs depth nonterminal state) e (starts .begins)
 
--- How a call began, by what it answered.
-pub begins-as : (input : Input) (bs : List ℕ) (depth nonterminal : ℕ) (state : State) (begun : Begun) {begun′ : Begun} → begun ≡ begun′
-    → Begins input bs depth nonterminal state begun
-    → Begins input bs depth nonterminal state begun′
-begins-as input bs depth nonterminal state begun e h = subst (Begins input bs depth nonterminal state) e h
+  -- Where it is entered.
+  pub entry-of : {call : Activation} {next : State} → begun ≡ Entered call next → CallBegunAt bs depth state call next
+  entry-of e = subst (CallEntered bs depth state) e (starts .enters)
+
+  -- It is the production that is chosen.
+  pub chosen-of : {call : Activation} {next : State} → begun ≡ Entered call next → call ≡ chosenCall input bs nonterminal given state
+  chosen-of e = subst (EntersChosen input bs nonterminal given state) e (starts .entered-chosen)
+
+  -- What it gives there it gives.
+  pub call-of : {call : Activation} {next : State} → begun ≡ Entered call next → (cells : List ℕ) {result : Result ℕ}
+      → result ≡ body (runCall (depth - 1) input) bs (call .next) input [] next cells
+      → result ≡ runCall depth input nonterminal [] state cells
+  call-of e cells same = same ∙ begins-as e [] cells
+
+-- ------------------------------------------------------------------ tokens, cut behind the last
+
+tokens-same : (many from : ℕ) (room : List ℕ) (most : ℕ) → (from + many) * 4 ≤ most → tokensFrom many (take most room) from ≡ tokensFrom many room from
+unfolding tokensFrom
+tokens-same zero from room most h = refl
+tokens-same (suc many) from room most h =
+    rw (
+      getD-take most room (from * 4) 0 (omega arith),
+      getD-take most room (from * 4 + 1) 0 (omega arith),
+      getD-take most room (from * 4 + 2) 0 (omega arith),
+      getD-take most room (from * 4 + 3) 0 (omega arith),
+      tokens-same many (from + 1) room most (omega arith),
+    )
+
+module _ (tokens : List ℕ) (n : ℕ) (fit : TokensFit tokens n) where
+  cut-count : tokenCount (take (n * 4) tokens) ≡ n
+  cut-count = ap (λ (k : ℕ). k / 4) (length-take-le (n * 4) tokens (fit .long)) ∙ (let four : 0 < 4 = omega arith in mul-div-cancel n four)
+
+  -- They are the same tokens.
+  pub cut-tokens : tokensIn (take (n * 4) tokens) (tokenCount (take (n * 4) tokens)) ≡ tokensIn tokens n
+  cut-tokens = rw cut-count (tokens-same n 0 tokens (n * 4) (omega arith))
+
+  -- So what is read is the same.
+  pub cut-reading : (bs cells : List ℕ) → reading bs (take (n * 4) tokens) cells ≡ lentInput bs tokens n (rowsLent (length cells))
+  cut-reading bs cells = rw cut-tokens
+
+  -- They fit.
+  pub cut-fits : TokensFit (take (n * 4) tokens) (tokenCount (take (n * 4) tokens))
+  cut-fits =
+      rw cut-count
+      (record {
+        long = omega (arith, length-take-le (n * 4) tokens (fit .long));
+        few = fit .few;
+        values = λ i l. rw (getD-take (n * 4) tokens (i * 4 + 3) 0 (omega arith)) (fit .values i l);
+      })
 
 -- ------------------------------------------------------------------ the whole formula
 
@@ -163,10 +242,3 @@ pub run-is : (input : Input) (root : ℕ) (cells : List ℕ) {result : Result �
     → after result (ended input) ≡ run input root cells
 unfolding run
 run-is input root cells e = rw e
-
--- The root's call, entered at an offset.
-pub run-root : (input : Input) (bs : List ℕ) (root first : ℕ) (next : State) → Begins input bs mostOpen root initialState (Entered first next)
-    → (cells : List ℕ) → {result : Result ℕ}
-    → result ≡ rootItems input bs first next cells
-    → result ≡ runCall mostOpen input root [] initialState cells
-run-root input bs root first next b cells e = e ∙ b [] cells

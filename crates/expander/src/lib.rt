@@ -1,9 +1,11 @@
 // The expander, from tokens to cells: the root's call, in rooms of frames that are as long as the calls that wait need.
+use answers::causes::TOKEN_LEFT_OVER;
 use answers::refuse;
 use calls::items;
 use choices::MEMORY;
 use expansion::Outcome;
 use expansion::State;
+use frames::ALL_FRAMES;
 use frames::LONG_FRAMES;
 use frames::MIDDLE_FRAMES;
 use frames::SHORT_FRAMES;
@@ -11,6 +13,8 @@ use frames::copy;
 use frames::save;
 use grammar::limits::MOST_VARIABLES;
 use productions::room::ROOM;
+use scanner::room::TOKEN;
+use steps::Activation;
 use turns::Advance;
 use turns::Resumption;
 use turns::begins::Begun;
@@ -19,147 +23,96 @@ ghost use Prim.Native.Nat.{ℕ};
 ghost use mathlib.Core.Path.{_≡_};
 ghost use mathlib.Core.List.{List};
 ghost use lib.ListN.{length};
-ghost use Rattle.expansion.specs.Run.{Result, after};
+ghost use Rattle.expansion.specs.Run.{after};
 ghost use Rattle.expansion.specs.Outcomes.{ran};
 ghost use Rattle.expansion.specs.Expansion.{Input, ended, run};
 ghost use Rattle.terms.specs.Cells.{rowsLent};
-ghost use Rattle.frames.specs.Frames.{shortFrames, middleFrames, Standing};
-ghost use Rattle.calls.specs.Lent.{lentInput, Lent};
-ghost use Rattle.expander.specs.Roots.{rootItems, MayBeginRoot, MayGoOn};
+ghost use Rattle.calls.specs.Lent.{reading, lentInput, Lent};
+ghost use Rattle.calls.specs.Calls.{MayGo};
+ghost use Rattle.expander.specs.Roots.{rootItems, MayBeginRoot, MayGoOn, Ends};
 
-// The calls that stand in a shorter room, in a room for all that may be open: there they do not pause.
-fn deep_items(
-    table: &[u8],
-    room: &[u64; ROOM],
-    memory: &mut [u8; MEMORY],
-    tokens: &[u32],
-    n: usize,
-    cells: &mut [u32],
-    stack: &mut [u32],
-    short: &[u32],
-    from: Resumption,
-) -> Outcome
-    requires { ⌜ MayGoOn middleFrames (now table) (now room) (now memory) (now tokens) n (now cells) (now stack) (now short) from ⌝ }
-    ensures { λ r. ⌜ ((R : Result ℕ) → Standing (lentInput (now (table .entry)) (now (tokens .entry)) n (rowsLent (length (now (cells .entry))))) (now
-        (table .entry)) (now (short .entry)) (from .level) (from .state) (now (cells .entry)) R → ran r (now (cells .exit)) ≡ R) ⌝ }
-{
-    let mut frames = [0u32; LONG_FRAMES];
-    copy(&mut frames, short);
-    let progress = items(
-        table,
-        room,
-        memory,
-        tokens,
-        n,
-        cells,
-        stack,
-        &mut frames,
-        from,
-    );
-    match progress {
-        Advance::Ended(o) => o,
-        Advance::Paused(_) => Outcome::Halted(refuse(19, 0, 0, 0)),
-    }
-}
+// A formula of fewer tokens than these whose calls do not fit a shorter room most often has them all fit a middle room, or a long one.
+const FEW_TOKENS: usize = 64 * TOKEN;
 
-// The same, from a short room on, in a room for 128 calls: most formulas that nest deeply fit there, and it is zeroed at less cost.
-fn middle_items(
-    table: &[u8],
-    room: &[u64; ROOM],
-    memory: &mut [u8; MEMORY],
-    tokens: &[u32],
-    n: usize,
-    cells: &mut [u32],
-    stack: &mut [u32],
-    short: &[u32],
-    from: Resumption,
-) -> Outcome
-    requires { ⌜ MayGoOn shortFrames (now table) (now room) (now memory) (now tokens) n (now cells) (now stack) (now short) from ⌝ }
-    ensures { λ r. ⌜ ((R : Result ℕ) → Standing (lentInput (now (table .entry)) (now (tokens .entry)) n (rowsLent (length (now (cells .entry))))) (now
-        (table .entry)) (now (short .entry)) (from .level) (from .state) (now (cells .entry)) R → ran r (now (cells .exit)) ≡ R) ⌝ }
-{
-    let mut frames = [0u32; MIDDLE_FRAMES];
-    copy(&mut frames, short);
-    let progress = items(
-        table,
-        room,
-        memory,
-        tokens,
-        n,
-        cells,
-        stack,
-        &mut frames,
-        from,
-    );
-    match progress {
-        Advance::Ended(o) => o,
-        Advance::Paused(r) => {
-            deep_items(table, room, memory, tokens, n, cells, stack, &frames, r)
-        }
-    }
-}
+const MANY_TOKENS: usize = 512 * TOKEN;
 
-// A formula of so many tokens whose calls do not fit a short room needs the long one most often.
-const MANY_TOKENS: usize = 256;
-
-// The same, from a short room on.
+// The calls that stand in a room too short for one more go on in a longer one, which is zeroed at more cost the longer it is.
+// It calls itself, by `items_in`: so it is laid into no caller, and formulas whose calls fit the short room have no long one on their stack.
 fn longer_items(
-    table: &[u8],
-    room: &[u64; ROOM],
-    memory: &mut [u8; MEMORY],
-    tokens: &[u32],
-    n: usize,
     cells: &mut [u32],
     stack: &mut [u32],
+    memory: &mut [u8; MEMORY],
+    table: &[u8],
+    room: &[u64; ROOM],
+    tokens: &[u32],
     short: &[u32],
     from: Resumption,
 ) -> Outcome
-    requires { ⌜ MayGoOn shortFrames (now table) (now room) (now memory) (now tokens) n (now cells) (now stack) (now short) from ⌝ }
-    ensures { λ r. ⌜ ((R : Result ℕ) → Standing (lentInput (now (table .entry)) (now (tokens .entry)) n (rowsLent (length (now (cells .entry))))) (now
-        (table .entry)) (now (short .entry)) (from .level) (from .state) (now (cells .entry)) R → ran r (now (cells .exit)) ≡ R) ⌝ }
+    requires { ⌜ MayGoOn (now table) (now room) (now memory) (now tokens) (now cells) (now stack) (now short) from ⌝ }
+    ensures { λ r. ⌜ Ends (now (table .entry)) (now (tokens .entry)) (now (cells .entry)) (now (short .entry)) from r (now (cells .exit)) ⌝ }
 {
-    if n < MANY_TOKENS {
-        middle_items(table, room, memory, tokens, n, cells, stack, short, from)
-    } else {
-        deep_items(table, room, memory, tokens, n, cells, stack, short, from)
+    let few = tokens.len() < FEW_TOKENS;
+    if few && short.len() < MIDDLE_FRAMES {
+        let mut frames = [0u32; MIDDLE_FRAMES];
+        copy(&mut frames, short);
+        return items_in(cells, stack, &mut frames, memory, table, room, tokens, from);
+    }
+    let not_many = tokens.len() < MANY_TOKENS;
+    if not_many && short.len() < LONG_FRAMES {
+        let mut frames = [0u32; LONG_FRAMES];
+        copy(&mut frames, short);
+        return items_in(cells, stack, &mut frames, memory, table, room, tokens, from);
+    }
+    let mut frames = [0u32; ALL_FRAMES];
+    copy(&mut frames, short);
+    items_in(cells, stack, &mut frames, memory, table, room, tokens, from)
+}
+
+// The calls that stand in a room go on to their end, there and in longer rooms.
+fn items_in(
+    cells: &mut [u32],
+    stack: &mut [u32],
+    frames: &mut [u32],
+    memory: &mut [u8; MEMORY],
+    table: &[u8],
+    room: &[u64; ROOM],
+    tokens: &[u32],
+    from: Resumption,
+) -> Outcome
+    requires { ⌜ MayGo (now table) (now room) (now memory) (now tokens) (now cells) (now stack) (now frames) from ⌝ }
+    ensures { λ r. ⌜ Ends (now (table .entry)) (now (tokens .entry)) (now (cells .entry)) (now (frames .entry)) from r (now (cells .exit)) ⌝ }
+{
+    let progress = items(cells, stack, frames, memory, table, room, tokens, from);
+    match progress {
+        Advance::Ended(o) => o,
+        Advance::Paused(r) => { longer_items(cells, stack, memory, table, room, tokens, frames, r) }
     }
 }
 
-// The items of the root's alternative from an offset on, and its result: in a short room first, which is zeroed at less cost.
+// The root's call, entered: in a short room first.
 fn root_items(
-    table: &[u8],
-    room: &[u64; ROOM],
-    memory: &mut [u8; MEMORY],
-    tokens: &[u32],
-    n: usize,
     cells: &mut [u32],
     stack: &mut [u32],
-    start: usize,
+    memory: &mut [u8; MEMORY],
+    table: &[u8],
+    room: &[u64; ROOM],
+    tokens: &[u32],
+    call: Activation,
     s: State,
 ) -> Outcome
-    requires { ⌜ MayBeginRoot (now table) (now room) (now memory) (now tokens) n (now stack) start s ⌝ }
-    ensures { λ r. ⌜ ran r (now (cells .exit)) ≡ rootItems (lentInput (now (table .entry)) (now (tokens .entry)) n (rowsLent (length (now (cells
-        .entry))))) (now (table .entry)) start s (now (cells .entry)) ⌝ }
+    requires { ⌜ MayBeginRoot (now table) (now room) (now memory) (now tokens) (now stack) call s ⌝ }
+    ensures { λ r. ⌜ ran r (now (cells .exit)) ≡ rootItems (reading (now (table .entry)) (now (tokens .entry)) (now (cells .entry))) (now (table .entry))
+        (call .next) s (now (cells .entry)) ⌝ }
 {
     let vars = [0u32; MOST_VARIABLES];
     let mut frames = [0u32; SHORT_FRAMES];
-    save(&mut frames, 0, &vars, 0, start);
+    save(&mut frames, 0, &vars, call);
     let from = Resumption { level: 0, state: s };
-    let progress = items(
-        table,
-        room,
-        memory,
-        tokens,
-        n,
-        cells,
-        stack,
-        &mut frames,
-        from,
-    );
+    let progress = items(cells, stack, &mut frames, memory, table, room, tokens, from);
     match progress {
         Advance::Ended(o) => o,
         Advance::Paused(r) => {
-            longer_items(table, room, memory, tokens, n, cells, stack, &frames, r)
+            longer_items(cells, stack, memory, table, room, tokens, &frames, r)
         }
     }
 }
@@ -173,7 +126,7 @@ fn ended(n: usize, outcome: Outcome) -> Outcome
         Outcome::Value(v, s) => {
             let at = s.at;
             if at < n {
-                return Outcome::Halted(refuse(18, at as u64, 0, 0));
+                return Outcome::Halted(refuse(TOKEN_LEFT_OVER, at as u64, 0, 0));
             }
             Outcome::Value(v, s)
         }
@@ -202,8 +155,18 @@ pub fn run(
     let begun = begin_root(room, &mut memory, tokens, n, root);
     match begun {
         Begun::Refused(r) => Outcome::Halted(r),
-        Begun::Entered(start, t) => {
-            let outcome = root_items(table, room, &mut memory, tokens, n, cells, stack, start, t);
+        Begun::Entered(call, t) => {
+            let end = n * TOKEN;
+            let outcome = root_items(
+                cells,
+                stack,
+                &mut memory,
+                table,
+                room,
+                &tokens[..end],
+                call,
+                t,
+            );
             ended(n, outcome)
         }
     }

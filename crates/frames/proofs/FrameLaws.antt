@@ -1,6 +1,6 @@
 -- Laws of the calls that wait: how they stand in a room, and what they make of the value of the call above them.
 use Prim.Native.Nat.{ℕ, suc, _+_, _*_, _<_, _≤_}
-use mathlib.Core.Path.{_≡_, refl, sym, _∙_}
+use mathlib.Core.Path.{_≡_, refl, sym, ap, _∙_, subst}
 use mathlib.Core.Bool.{true}
 use mathlib.Core.List.{List, [], _∷_, _++_}
 use native.Mathlib.Omega.{arith}
@@ -15,7 +15,8 @@ use Rattle.expansion.specs.declared.State.{State}
 use Rattle.expansion.specs.Run.{Result, halt}
 use Rattle.expansion.specs.Expansion.{Input}
 use Rattle.templates.specs.Built.{Holds}
-use Rattle.frames.specs.Frames.{frameSize, LevelFits, Saved, Loaded, withFront, Frame, resume, Waits, Stacked, stacked-none, stacked-one}
+use Rattle.steps.specs.declared.Activation.{Activation}
+use Rattle.frames.specs.Frames.{frameSize, activationIn, LevelFits, CallFits, Saved, Loaded, withFront, Frame, resume, Waits, Stacked, stacked-none, stacked-one}
 use Rattle.frames.specs.Frames.{Standing}
 
 -- ------------------------------------------------------------------ 16 variables, copied one by one
@@ -55,30 +56,74 @@ saving-next {old} {new} {base} {vars} {done} c h room =
         rw (e, getD-set-same new (base + done) (getD vars done 0) 0 (omega (arith, c .long)))
     by place l (no n) = getD-set-other new (base + done) (base + place) (getD vars done 0) 0 (λ e. n (omega arith)) ∙ c .values place (omega arith)
 
--- All 16 stand, and the two numbers behind them.
+-- four numbers stored behind 16 from a base on
+module _ (room : List ℕ) (base first second third fourth : ℕ) where
+  abbrev one : List ℕ
+  one = set room (base + 16) first
+
+  abbrev two : List ℕ
+  two = set one (base + 17) second
+
+  abbrev three : List ℕ
+  three = set two (base + 18) third
+
+  abbrev four : List ℕ
+  four = set three (base + 19) fourth
+
+  -- all others stay
+  four-other : (place : ℕ) → ((offset : ℕ) → 16 ≤ offset → offset < 20 → place ≡ base + offset → ⊥) → getD four place 0 ≡ getD room place 0
+  four-other place apart =
+      getD-set-other three (base + 19) place fourth 0 (apart 19 (omega arith) (omega arith))
+      ∙ getD-set-other two (base + 18) place third 0 (apart 18 (omega arith) (omega arith))
+      ∙ getD-set-other one (base + 17) place second 0 (apart 17 (omega arith) (omega arith))
+      ∙ getD-set-other room (base + 16) place first 0 (apart 16 (omega arith) (omega arith))
+
+  module _ (fit : base + 20 ≤ length room) where
+    four-1 : getD four (base + 16) 0 ≡ first
+    four-1 =
+        getD-set-other three (base + 19) (base + 16) fourth 0 (λ e. omega arith)
+        ∙ getD-set-other two (base + 18) (base + 16) third 0 (λ e. omega arith)
+        ∙ getD-set-other one (base + 17) (base + 16) second 0 (λ e. omega arith)
+        ∙ getD-set-same room (base + 16) first 0 (omega arith)
+
+    four-2 : getD four (base + 17) 0 ≡ second
+    four-2 =
+        getD-set-other three (base + 19) (base + 17) fourth 0 (λ e. omega arith)
+        ∙ getD-set-other two (base + 18) (base + 17) third 0 (λ e. omega arith)
+        ∙ getD-set-same one (base + 17) second 0 (simp length-set (omega arith))
+
+    four-3 : getD four (base + 18) 0 ≡ third
+    four-3 =
+        getD-set-other three (base + 19) (base + 18) fourth 0 (λ e. omega arith)
+        ∙ getD-set-same two (base + 18) third 0 (simp length-set (omega arith))
+
+    four-4 : getD four (base + 19) 0 ≡ fourth
+    four-4 = getD-set-same three (base + 19) fourth 0 (simp length-set (omega arith))
+
+-- All 16 stand, and the activation behind them.
 pub saving-end : {old new : List ℕ} {level : ℕ} {vars : List ℕ} {done : ℕ} → Saving old new (level * frameSize) vars done → 16 ≤ done
     → level * frameSize + frameSize ≤ length old
-    → (count next : ℕ)
-    → Saved old (set (set new (level * frameSize + 16) count) (level * frameSize + 17) next) level vars count next
-saving-end {old} {new} {level} {vars} {done} c h room count next =
+    → (call : Activation)
+    → Saved old (four new (level * frameSize) (call .production) (call .began) (call .count) (call .next)) level vars call
+saving-end {old} {new} {level} {vars} {done} c h room call =
     record {
-      long = length-set (set new (level * frameSize + 16) count) (level * frameSize + 17) next ∙ length-set new (level * frameSize + 16) count ∙ c .long;
-      same = λ j l. kept j (λ e. omega arith) (λ e. omega arith) ∙ c .same j l;
-      values = λ j l. kept (level * frameSize + j) (λ e. omega arith) (λ e. omega arith) ∙ c .values j (omega arith);
-      counted =
-          getD-set-other (set new (level * frameSize + 16) count) (level * frameSize + 17) (level * frameSize + 16) next 0 (λ e. omega arith)
-          ∙ getD-set-same new (level * frameSize + 16) count 0 (omega (arith, c .long));
-      next-is =
-          getD-set-same (set new (level * frameSize + 16) count) (level * frameSize + 17) next 0
-          (omega (arith, c .long, length-set new (level * frameSize + 16) count));
-      above = λ j l. kept j (λ e. omega arith) (λ e. omega arith) ∙ c .above j (omega arith);
+      long = simp length-set (c .long);
+      same = λ j l. kept j (λ o a b e. omega arith) ∙ c .same j l;
+      values = λ j l. kept (level * frameSize + j) (λ o a b e. omega arith) ∙ c .values j (omega arith);
+      call-is =
+          let fit : level * frameSize + 20 ≤ length new = omega (arith, c .long) in
+          rw (
+            four-1 new (level * frameSize) (call .production) (call .began) (call .count) (call .next) fit,
+            four-2 new (level * frameSize) (call .production) (call .began) (call .count) (call .next) fit,
+            four-3 new (level * frameSize) (call .production) (call .began) (call .count) (call .next) fit,
+            four-4 new (level * frameSize) (call .production) (call .began) (call .count) (call .next) fit,
+          );
+      above = λ j l. kept j (λ o a b e. omega arith) ∙ c .above j (omega arith);
     }
   where
-    kept : (place : ℕ) → (place ≡ level * frameSize + 16 → ⊥) → (place ≡ level * frameSize + 17 → ⊥)
-        → getD (set (set new (level * frameSize + 16) count) (level * frameSize + 17) next) place 0 ≡ getD new place 0
-    kept place a b =
-        getD-set-other (set new (level * frameSize + 16) count) (level * frameSize + 17) place next 0 b
-        ∙ getD-set-other new (level * frameSize + 16) place count 0 a
+    kept : (place : ℕ) → ((offset : ℕ) → 16 ≤ offset → offset < 20 → place ≡ level * frameSize + offset → ⊥)
+        → getD (four new (level * frameSize) (call .production) (call .began) (call .count) (call .next)) place 0 ≡ getD new place 0
+    kept place apart = four-other new (level * frameSize) (call .production) (call .began) (call .count) (call .next) place apart
 
 -- `done` of 16 variables are read back from a base on
 pub record Loading (frames : List ℕ) (base : ℕ) (vars : List ℕ) (done : ℕ) : Type 0 where
@@ -112,6 +157,14 @@ loading-next {frames} {base} {vars} {done} c h =
 pub loading-end : {frames : List ℕ} {level : ℕ} {vars : List ℕ} {done : ℕ} → Loading frames (level * frameSize) vars done → 16 ≤ done → Loaded frames level vars
 loading-end c h = record { long = c .long; values = λ j l. c .values j (omega arith) }
 
+-- The four numbers of an activation are read.
+pub activation-read : (frames : List ℕ) (level : ℕ) {production began count next : ℕ} → production ≡ activationIn frames level .production
+    → began ≡ activationIn frames level .began
+    → count ≡ activationIn frames level .count
+    → next ≡ activationIn frames level .next
+    → _≡_ {A = Activation} (record { production = production; began = began; count = count; next = next }) (activationIn frames level)
+activation-read frames level p b c n = rw (p, b, c, n)
+
 -- ------------------------------------------------------------------ the calls that wait
 
 -- Calls that wait pass a refusal on.
@@ -121,13 +174,26 @@ unfolding resume
 resume-halt input bs [] refusal cells = refl
 resume-halt input bs (f ∷ fs) refusal cells = resume-halt input bs fs refusal cells
 
+-- the activation at a level, in a room that is the same there
+activation-same : (old new : List ℕ) (level : ℕ)
+    → ((place : ℕ) → place < level * frameSize + frameSize → getD new place 0 ≡ getD old place 0)
+    → activationIn new level ≡ activationIn old level
+activation-same old new level h =
+    rw (
+      h (level * frameSize + 16) (omega arith),
+      h (level * frameSize + 17) (omega arith),
+      h (level * frameSize + 18) (omega arith),
+      h (level * frameSize + 19) (omega arith),
+    )
+
 waits-same : {bs old new : List ℕ} {level : ℕ} {frame : Frame} → Waits bs old level frame
     → ((place : ℕ) → place < level * frameSize + frameSize → getD new place 0 ≡ getD old place 0)
     → Waits bs new level frame
-waits-same {level = level} w h =
+waits-same {old = old} {new = new} {level = level} w h =
     record {
-      counted = h (level * frameSize + 16) (omega arith) ∙ w .counted;
-      next-is = h (level * frameSize + 17) (omega arith) ∙ w .next-is;
+      call-is = activation-same old new level h ∙ w .call-is;
+      call-fits = w .call-fits;
+      counted = w .counted;
       held = λ i a b. h (level * frameSize + i) (omega arith) ∙ w .held i a b;
       whole = w .whole;
       inside = w .inside;
@@ -139,44 +205,56 @@ pub stacked-same : {bs old new : List ℕ} {fs : List Frame} → ((place : ℕ) 
 stacked-same h stacked-none = stacked-none
 stacked-same h (stacked-one w few s) = stacked-one (waits-same w (λ i l. h i (omega arith))) few (stacked-same (λ i l. h i (omega arith)) s)
 
+-- where a call goes on, how many variables it has, and that its activation fits, as its frame has them
+pub waits-next : {bs frames : List ℕ} {level : ℕ} {frame : Frame} → Waits bs frames level frame → activationIn frames level .next ≡ frame .call .next
+waits-next w = ap (λ (a : Activation). a .next) (w .call-is)
+
+pub waits-count : {bs frames : List ℕ} {level : ℕ} {frame : Frame} → Waits bs frames level frame → activationIn frames level .count ≡ frame .call .count
+waits-count w = ap (λ (a : Activation). a .count) (w .call-is)
+
+pub waits-fits : {bs frames : List ℕ} {level : ℕ} {frame : Frame} → Waits bs frames level frame → CallFits (activationIn frames level)
+waits-fits w = subst CallFits (sym (w .call-is)) (w .call-fits)
+
 -- a call that is saved
-pub waits-saved : {bs old new vars : List ℕ} {count next level : ℕ} {values : List ℕ} → Saved old new level vars count next
-    → Holds vars count values
-    → wholeBody (fieldsAt bs next) ≡ true
-    → next ≤ length bs
-    → Waits bs new level (record { next = next; values = values })
-waits-saved v g w inside =
+pub waits-saved : {bs old new vars : List ℕ} {level : ℕ} {call : Activation} {values : List ℕ} → Saved old new level vars call
+    → CallFits call
+    → Holds vars (call .count) values
+    → wholeBody (fieldsAt bs (call .next)) ≡ true
+    → call .next ≤ length bs
+    → Waits bs new level (record { call = call; values = values })
+waits-saved v fits g w inside =
     record {
-      counted = v .counted ∙ sym (g .count);
-      next-is = v .next-is;
+      call-is = v .call-is;
+      call-fits = fits;
+      counted = sym (g .count);
       held = λ i a b. v .values i a ∙ g .same i a (omega (arith, g .count));
       whole = w;
       inside = inside;
     }
 
 -- one more waits
-pub stacked-more : {bs old new vars : List ℕ} {count next level : ℕ} {values : List ℕ} {fs : List Frame} → length fs ≡ level
-    → Saved old new level vars count next
-    → Holds vars count values
-    → wholeBody (fieldsAt bs next) ≡ true
-    → count < length bs + next
-    → next ≤ length bs
+pub stacked-more : {bs old new vars : List ℕ} {level : ℕ} {call : Activation} {values : List ℕ} {fs : List Frame} → length fs ≡ level
+    → Saved old new level vars call
+    → CallFits call
+    → Holds vars (call .count) values
+    → wholeBody (fieldsAt bs (call .next)) ≡ true
+    → call .count < length bs + call .next
+    → call .next ≤ length bs
     → Stacked bs old fs
-    → Stacked bs new (record { next = next; values = values } ∷ fs)
-stacked-more {next = next} {values = values} {fs = fs} e v g w few inside s =
-    stacked-one {f = record { next = next; values = values }} {fs = fs} (rw e (waits-saved v g w inside))
+    → Stacked bs new (record { call = call; values = values } ∷ fs)
+stacked-more {call = call} {values = values} {fs = fs} e v fits g w few inside s =
+    stacked-one {f = record { call = call; values = values }} {fs = fs} (rw e (waits-saved v fits g w inside))
     (omega (arith, g .count))
     (stacked-same (λ i l. v .same i (omega arith)) s)
 
 -- the variables of the innermost, read back
-pub waits-holds : {bs frames vars : List ℕ} {level : ℕ} {frame : Frame} {count : ℕ} → Waits bs frames level frame → Loaded frames level vars
-    → count ≡ getD frames (level * frameSize + 16) 0
-    → Holds vars count (frame .values)
-waits-holds w l e =
+pub waits-holds : {bs frames vars : List ℕ} {level : ℕ} {frame : Frame} → Waits bs frames level frame → Loaded frames level vars
+    → Holds vars (activationIn frames level .count) (frame .values)
+waits-holds w l =
     record {
       long = l .long;
-      count = sym (e ∙ w .counted);
-      same = λ i a b. l .values i a ∙ w .held i a (omega (arith, e, w .counted));
+      count = sym (waits-count w ∙ w .counted);
+      same = λ i a b. l .values i a ∙ w .held i a (omega (arith, waits-count w, w .counted));
     }
 
 -- ------------------------------------------------------------------ where an expansion stands

@@ -1,6 +1,6 @@
--- The calls that wait in a room. Each has its variables, how many there are, and the offset to go on at. These definitions mirror
--- code: nobody needs them to believe `expand`.
-use Prim.Native.Nat.{ℕ, _+_, _-_, _*_, _<_, _≤_}
+-- The calls that wait in a room. Each has the values of its variables and its activation. These definitions mirror code: nobody needs
+-- them to believe `expand`.
+use Prim.Native.Nat.{ℕ, _+_, _-_, _*_, _^_, _<_, _≤_}
 use mathlib.Core.Path.{_≡_}
 use mathlib.Core.Bool.{true}
 use mathlib.Core.List.{List, [], _∷_, _++_}
@@ -13,26 +13,25 @@ use Rattle.expansion.specs.Run.{Result, after}
 use Rattle.expansion.specs.Limits.{mostOpen}
 use Rattle.expansion.specs.Expansion.{Input, runCall}
 use Rattle.steps.specs.Steps.{body, weight, mostWeight}
+use Rattle.steps.specs.declared.Activation.{Activation}
 
--- where a frame has the count of its variables and the offset to go on at, behind their values
-abbrev pub countAt : ℕ
-countAt = mostVariables
-
-abbrev pub nextAt : ℕ
-nextAt = countAt + 1
-
+-- the numbers of a frame: the values of the variables, then the activation
 abbrev pub frameSize : ℕ
-frameSize = nextAt + 1
+frameSize = mostVariables + 4
 
--- the numbers of a short room, for 32 calls, of a middle one, for 128, and of a long one, for all that may be open
-abbrev pub shortFrames : ℕ
-shortFrames = 32 * frameSize
+-- the activation that stands at a level of a room
+abbrev pub activationIn : List ℕ → ℕ → Activation
+activationIn frames level =
+    record {
+      production = getD frames (level * frameSize + mostVariables) 0;
+      began = getD frames (level * frameSize + (mostVariables + 1)) 0;
+      count = getD frames (level * frameSize + (mostVariables + 2)) 0;
+      next = getD frames (level * frameSize + (mostVariables + 3)) 0;
+    }
 
-abbrev pub middleFrames : ℕ
-middleFrames = 128 * frameSize
-
-abbrev pub longFrames : ℕ
-longFrames = (mostOpen + 1) * frameSize
+-- the numbers of a room for all calls that may be open
+abbrev pub allFrames : ℕ
+allFrames = (mostOpen + 1) * frameSize
 
 -- as many calls as may wait: one less than may be open
 abbrev pub mostWaiting : ℕ
@@ -43,13 +42,23 @@ pub record LevelFits (frames : List ℕ) (level : ℕ) : Type 0 where
   pub few : level ≤ mostWaiting
   pub inside : level * frameSize + frameSize ≤ length frames
 
+-- the place of a call's production and the token at which it began fit numbers of a room
+pub record CallFits (call : Activation) : Type 0 where
+  pub production-small : call .production < 2 ^ 32
+  pub began-small : call .began < 2 ^ 32
+
+-- so do all numbers of its activation
+pub record Storable (call : Activation) : Type 0 where
+  pub call-fits : CallFits call
+  pub count-small : call .count < 2 ^ 32
+  pub next-small : call .next < 2 ^ 32
+
 -- one more stands above `level` others; all other numbers of the room stay
-pub record Saved (old new : List ℕ) (level : ℕ) (vars : List ℕ) (count next : ℕ) : Type 0 where
+pub record Saved (old new : List ℕ) (level : ℕ) (vars : List ℕ) (call : Activation) : Type 0 where
   pub long : length new ≡ length old
   pub same : (i : ℕ) → i < level * frameSize → getD new i 0 ≡ getD old i 0
   pub values : (i : ℕ) → i < mostVariables → getD new (level * frameSize + i) 0 ≡ getD vars i 0
-  pub counted : getD new (level * frameSize + countAt) 0 ≡ count
-  pub next-is : getD new (level * frameSize + nextAt) 0 ≡ next
+  pub call-is : activationIn new level ≡ call
   pub above : (i : ℕ) → level * frameSize + frameSize ≤ i → getD new i 0 ≡ getD old i 0
 
 -- a room with another at its front
@@ -63,33 +72,34 @@ pub record Loaded (frames : List ℕ) (level : ℕ) (vars : List ℕ) : Type 0 w
 
 -- ------------------------------------------------------------------ the calls that wait
 
--- a call that waits: where its items go on, and the values of its variables
+-- a call that waits: its activation, and the values of its variables
 pub record Frame : Type 0 where
-  pub next : ℕ
+  pub call : Activation
   pub values : List ℕ
 
 -- what the calls that wait, the innermost first, make of what the call above them gives
 unfoldable pub resume : Input → List ℕ → List Frame → Result ℕ → Result ℕ
 resume I bs [] r = r
 resume I bs (f ∷ fs) r =
-    resume I bs fs (after r (λ x. body (runCall (mostWaiting - length fs) I) bs (f .next) I (f .values ++ (x ∷ []))))
+    resume I bs fs (after r (λ x. body (runCall (mostWaiting - length fs) I) bs (f .call .next) I (f .values ++ (x ∷ []))))
 
 -- the bytes of the alternatives that they go on with
 unfoldable pub owed : List ℕ → List Frame → ℕ
 owed bs [] = 0
-owed bs (f ∷ fs) = (length bs - f .next) + owed bs fs
+owed bs (f ∷ fs) = (length bs - f .call .next) + owed bs fs
 
 -- a call stands at a level of the room
 pub record Waits (bs frames : List ℕ) (level : ℕ) (f : Frame) : Type 0 where
-  pub counted : getD frames (level * frameSize + countAt) 0 ≡ length (f .values)
-  pub next-is : getD frames (level * frameSize + nextAt) 0 ≡ f .next
+  pub call-is : activationIn frames level ≡ f .call
+  pub call-fits : CallFits (f .call)
+  pub counted : f .call .count ≡ length (f .values)
   pub held : (i : ℕ) → i < mostVariables → i < length (f .values) → getD frames (level * frameSize + i) 0 ≡ getD (f .values) i 0
-  pub whole : wholeBody (fieldsAt bs (f .next)) ≡ true
-  pub inside : f .next ≤ length bs
+  pub whole : wholeBody (fieldsAt bs (f .call .next)) ≡ true
+  pub inside : f .call .next ≤ length bs
 
 pub data Stacked (bs frames : List ℕ) : List Frame → Type 0 where
   stacked-none : Stacked bs frames []
-  stacked-one : {f : Frame} {fs : List Frame} → Waits bs frames (length fs) f → length (f .values) < length bs + f .next → Stacked bs frames fs
+  stacked-one : {f : Frame} {fs : List Frame} → Waits bs frames (length fs) f → length (f .values) < length bs + f .call .next → Stacked bs frames fs
       → Stacked bs frames (f ∷ fs)
 
 -- ------------------------------------------------------------------ where an expansion stands
@@ -101,7 +111,7 @@ pub record Standing (I : Input) (bs frames : List ℕ) (level : ℕ) (here : Sta
   pub waiting : List Frame
   pub many : length waiting ≡ level
   pub on-top : Waits bs frames level current
-  pub counted : length (current .values) ≤ length bs + current .next
+  pub counted : length (current .values) ≤ length bs + current .call .next
   pub stacked : Stacked bs frames waiting
-  pub light : weight here + (length bs - current .next) + owed bs waiting ≤ mostWeight
-  pub rest : resume I bs waiting (body (runCall (mostWaiting - level) I) bs (current .next) I (current .values) here cells) ≡ R
+  pub light : weight here + (length bs - current .call .next) + owed bs waiting ≤ mostWeight
+  pub rest : resume I bs waiting (body (runCall (mostWaiting - level) I) bs (current .call .next) I (current .values) here cells) ≡ R

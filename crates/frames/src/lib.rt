@@ -1,40 +1,39 @@
-// The calls that wait. Each has the values of its variables, how many variables there are, and the offset to go on at.
+// The calls that wait. Each has the values of its variables and its activation.
 use expansion::MOST_OPEN;
 use grammar::limits::MOST_VARIABLES;
 use spellings::wide_number;
-ghost use Prim.Native.Nat.{_+_, _*_, _^_, _≤_, _<_};
+use steps::Activation;
+ghost use Prim.Native.Nat.{_≤_};
 ghost use mathlib.Core.Path.{_≡_};
-ghost use lib.ListN.{length, getD};
-ghost use Rattle.frames.specs.Frames.{frameSize, countAt, nextAt, LevelFits, Saved, Loaded, withFront};
+ghost use lib.ListN.{length};
+ghost use Rattle.frames.specs.Frames.{activationIn, LevelFits, Storable, Saved, Loaded, withFront};
 
-// Where a frame has the count of its variables and the offset to go on at, behind their values.
-const COUNT: usize = MOST_VARIABLES;
+// Where a frame has the numbers of the activation, behind the values of the variables.
+const PRODUCTION: usize = MOST_VARIABLES;
+
+const BEGAN: usize = PRODUCTION + 1;
+
+const COUNT: usize = BEGAN + 1;
 
 const NEXT: usize = COUNT + 1;
 
 // The numbers of a frame.
 pub const FRAME: usize = NEXT + 1;
 
-// The numbers of a room for 32 calls.
-pub const SHORT_FRAMES: usize = 32 * FRAME;
+// The numbers of rooms for 16, 64 and 256 calls, and for all calls that may be open.
+pub const SHORT_FRAMES: usize = 16 * FRAME;
 
-// The numbers of a room for 128 calls.
-pub const MIDDLE_FRAMES: usize = 128 * FRAME;
+pub const MIDDLE_FRAMES: usize = 64 * FRAME;
 
-// The numbers of a room for all calls that may be open.
-pub const LONG_FRAMES: usize = (MOST_OPEN + 1) * FRAME;
+pub const LONG_FRAMES: usize = 256 * FRAME;
+
+pub const ALL_FRAMES: usize = (MOST_OPEN + 1) * FRAME;
 
 // One more call waits above `level` others.
-pub fn save(
-    frames: &mut [u32],
-    level: usize,
-    vars: &[u32; MOST_VARIABLES],
-    count: usize,
-    next: usize,
-)
+pub fn save(frames: &mut [u32], level: usize, vars: &[u32; MOST_VARIABLES], call: Activation)
     requires { ⌜ LevelFits (now frames) level ⌝ }
-    requires { ⌜ (count < 2 ^ 32) × (next < 2 ^ 32) ⌝ }
-    ensures { λ r. ⌜ Saved (now (frames .entry)) (now (frames .exit)) level (now (vars .entry)) count next ⌝ }
+    requires { ⌜ Storable call ⌝ }
+    ensures { λ r. ⌜ Saved (now (frames .entry)) (now (frames .exit)) level (now (vars .entry)) call ⌝ }
 {
     let base = level * FRAME;
     let mut i: usize = 0;
@@ -42,8 +41,10 @@ pub fn save(
         frames[base + i] = vars[i];
         i += 1;
     }
-    frames[base + COUNT] = count as u32;
-    frames[base + NEXT] = next as u32;
+    frames[base + PRODUCTION] = call.production as u32;
+    frames[base + BEGAN] = call.began as u32;
+    frames[base + COUNT] = call.count as u32;
+    frames[base + NEXT] = call.next as u32;
 }
 
 // The variables of a call that waits.
@@ -61,20 +62,18 @@ pub fn load(frames: &[u32], level: usize) -> [u32; MOST_VARIABLES]
     vars
 }
 
-// How many variables it has.
-pub fn count_of(frames: &[u32], level: usize) -> usize
+// Its activation.
+pub fn activation_at(frames: &[u32], level: usize) -> Activation
     requires { ⌜ LevelFits (now frames) level ⌝ }
-    ensures { λ r. ⌜ r ≡ getD (now (frames .entry)) (level * frameSize + countAt) 0 ⌝ }
+    ensures { λ r. ⌜ r ≡ activationIn (now (frames .entry)) level ⌝ }
 {
-    wide_number(frames[level * FRAME + COUNT])
-}
-
-// Where it goes on.
-pub fn next_of(frames: &[u32], level: usize) -> usize
-    requires { ⌜ LevelFits (now frames) level ⌝ }
-    ensures { λ r. ⌜ r ≡ getD (now (frames .entry)) (level * frameSize + nextAt) 0 ⌝ }
-{
-    wide_number(frames[level * FRAME + NEXT])
+    let base = level * FRAME;
+    Activation {
+        production: wide_number(frames[base + PRODUCTION]),
+        began: wide_number(frames[base + BEGAN]),
+        count: wide_number(frames[base + COUNT]),
+        next: wide_number(frames[base + NEXT]),
+    }
 }
 
 // The frames of a room at the front of one that is no shorter.

@@ -55,11 +55,19 @@ pub enum ItemStep {
     Opened(u8, usize, usize, State),
 }
 
-// Where a call goes on: how many variables it has, the offset of its next item, how many calls wait below it, and the state. The values of
-// its variables stand in an array; the seventeenth and later ones are named by no template.
-pub struct Cursor {
+// The activation of a call: the place of its production in the room of the grammar, the index of the token at which it began, how many
+// variables it has, and the offset of its next item. The values of its variables stand in an array; the seventeenth and later ones are named
+// by no template.
+pub struct Activation {
+    pub production: usize,
+    pub began: usize,
     pub count: usize,
-    pub at: usize,
+    pub next: usize,
+}
+
+// Where a call goes on: its activation, how many calls wait below it, and the state.
+pub struct Cursor {
+    pub call: Activation,
     pub level: usize,
     pub state: State,
 }
@@ -128,13 +136,13 @@ fn do_item(
 ) -> ItemStep
     requires { ⌜ MayDo (now v) (now tokens) n (c .state) (now stack) ⌝ }
     ensures { λ r. ⌜ ((bs : List ℕ) (at : ℕ) (I : Input) (M : List ℕ) → ItemAt bs at (now (v .entry)) next → I .tokens ≡ tokensIn (now
-        (tokens .entry)) n → I .rows ≡ rowsLent (length (now (cells .entry))) → Holds (now (vars .entry)) (c .count) M → Steps bs at I M (c .state) (now
+        (tokens .entry)) n → I .rows ≡ rowsLent (length (now (cells .entry))) → Holds (now (vars .entry)) (c .call .count) M → Steps bs at I M (c .state) (now
         (cells .entry)) r (now (out .exit)) (now (cells .exit))) ⌝ }
     ensures { λ r. ⌜ ((bs : List ℕ) (at : ℕ) → ItemAt bs at (now (v .entry)) next → Advances bs at (c .state) r) ⌝ }
     ensures { λ r. ⌜ KeepsArray (now (out .entry)) r (now (out .exit)) ⌝ }
 {
     let s = c.state;
-    let count = c.count;
+    let count = c.call.count;
     let kind = byte(v, 0);
     let operand = byte(v, 1);
     if kind == CALL_ITEM {
@@ -168,14 +176,14 @@ pub fn item_step(
     cells: &mut [u32],
     stack: &mut [u32],
 ) -> ItemStep
-    requires { ⌜ MayStep (now table) (c .at) (now tokens) n (c .state) (now stack) ⌝ }
+    requires { ⌜ MayStep (now table) (c .call .next) (now tokens) n (c .state) (now stack) ⌝ }
     ensures { λ r. ⌜ ((I : Input) (M : List ℕ) → I .tokens ≡ tokensIn (now (tokens .entry)) n → I .rows ≡ rowsLent (length (now (cells .entry))) →
-        Holds (now (vars .entry)) (c .count) M → Steps (now (table .entry)) (c .at) I M (c .state) (now (cells .entry)) r (now (out .exit))
+        Holds (now (vars .entry)) (c .call .count) M → Steps (now (table .entry)) (c .call .next) I M (c .state) (now (cells .entry)) r (now (out .exit))
         (now (cells .exit))) ⌝ }
-    ensures { λ r. ⌜ Advances (now (table .entry)) (c .at) (c .state) r ⌝ }
+    ensures { λ r. ⌜ Advances (now (table .entry)) (c .call .next) (c .state) r ⌝ }
     ensures { λ r. ⌜ KeepsArray (now (out .entry)) r (now (out .exit)) ⌝ }
 {
-    let at = c.at;
+    let at = c.call.next;
     let front = front_at(table, at);
     match front {
         Front::Nothing => ItemStep::Finished,
@@ -241,14 +249,14 @@ pub fn finish(
     cells: &mut [u32],
     stack: &mut [u32],
 ) -> Outcome
-    requires { ⌜ MayFinish (now table) (c .at) (now stack) ⌝ }
-    ensures { λ r. ⌜ ((I : Input) (M : List ℕ) → I .rows ≡ rowsLent (length (now (cells .entry))) → Holds (now (vars .entry)) (c .count) M → ran r (now
-        (cells .exit)) ≡ build (resultOf (fieldsAt (now (table .entry)) (c .at))) I M (c .state) (now (cells .entry))) ⌝ }
+    requires { ⌜ MayFinish (now table) (c .call .next) (now stack) ⌝ }
+    ensures { λ r. ⌜ ((I : Input) (M : List ℕ) → I .rows ≡ rowsLent (length (now (cells .entry))) → Holds (now (vars .entry)) (c .call .count) M → ran r (now
+        (cells .exit)) ≡ build (resultOf (fieldsAt (now (table .entry)) (c .call .next))) I M (c .state) (now (cells .entry))) ⌝ }
     ensures { λ r. ⌜ Stays (c .state) r ⌝ }
 {
     let s = c.state;
-    let at = c.at;
-    let count = c.count;
+    let at = c.call.next;
+    let count = c.call.count;
     let front = front_at(table, at);
     match front {
         Front::Nothing => first_variable(vars, count, s),

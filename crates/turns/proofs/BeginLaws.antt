@@ -21,9 +21,10 @@ use Rattle.expansion.specs.Expansion.{Input, nextToken, misfit, build, runItems
 use Rattle.tokens.specs.Tokens.{endToken}
 use Rattle.expansion.specs.Limits.{mostCalls}
 use Rattle.choices.specs.Held.{Held}
-use Rattle.choices.specs.Chosen.{firstSetsOf, chosenStart, Remembers, Chooses}
+use Rattle.choices.specs.Chosen.{firstSetsOf, entriesOf, chosenPlace, chosenStart, Remembers, Chooses}
 use Rattle.choices.proofs.ChoiceLaws.{chosen-nowhere, chosen-here, chosen-whole, chosen-inside, start-is, start-chosen}
 use Rattle.steps.specs.Steps.{body, weight}
+use Rattle.steps.specs.declared.Activation.{Activation}
 use Rattle.turns.specs.Lent.{lentInput}
 use Rattle.turns.specs.declared.begins.Begun.{Begun}
 use Rattle.turns.specs.declared.begins.Begun.the-variants.{Refused, Entered}
@@ -66,19 +67,19 @@ positive zero g = absurd (g refl)
 positive (suc left) g = omega arith
 
 -- a refusal, whatever is remembered
-starts-refused : {lent : Input} {bs : List ℕ} {depth nonterminal : ℕ} {state : State} {cause other : Refusal} → cause ≡ other
+starts-refused : {lent : Input} {bs : List ℕ} {depth nonterminal given : ℕ} {state : State} {cause other : Refusal} → cause ≡ other
     → ((vs cells : List ℕ) → halt other cells ≡ runCall depth lent nonterminal vs state cells)
     → {memory : List ℕ}
     → Remembers bs memory
-    → Starts lent bs depth nonterminal state (Refused cause) memory
+    → Starts lent bs depth nonterminal given state (Refused cause) memory
 starts-refused e h m = record { begins = λ vs cells. rw e (h vs cells); enters = tt; entered-chosen = tt; remembers = m }
 
-module _ {bs room : List ℕ} (held : Held bs room) (tokens : List ℕ) (count rows depth nonterminal : ℕ) (state : State) where
+module _ {bs room : List ℕ} (held : Held bs room) (tokens : List ℕ) (count rows depth nonterminal given : ℕ) (state : State) where
   abbrev input : Input
   input = lentInput bs tokens count rows
 
   abbrev Ends : Begun → List ℕ → Type 0
-  Ends b memory = Starts input bs depth nonterminal state b memory
+  Ends b memory = Starts input bs depth nonterminal given state b memory
 
   -- Refusal 19: no more calls may be open.
   pub starts-closed : {memory : List ℕ} → Remembers bs memory → depth ≡ 0 → {cause : Refusal} → cause ≡ refusal 19 (state .at) 0 0 → Ends (Refused cause) memory
@@ -113,7 +114,8 @@ module _ {bs room : List ℕ} (held : Held bs room) (tokens : List ℕ) (count r
           (by-choice (chosen-nowhere held nonterminal kind (ch .place-is) l)) (ch .memory-is)
 
       -- The items of the rule that is chosen stand at the offset that the room has.
-      pub starts-at : place < 256 → {start : ℕ} → start ≡ startIn room place → {next : State} → next ≡ callBegun state → Ends (Entered start next) memory
+      pub starts-at : place < 256 → {start : ℕ} → start ≡ startIn room place → {next : State} → next ≡ callBegun state
+          → Ends (Entered (record { production = place; began = state .at; count = given; next = start }) next) memory
       unfolding body productionAt
       starts-at l {start} es {next} et =
           record {
@@ -124,15 +126,21 @@ module _ {bs room : List ℕ} (held : Held bs room) (tokens : List ℕ) (count r
                 record {
                   whole = rw es (chosen-whole held nonterminal kind (ch .place-is) l);
                   inside = omega (arith, es, chosen-inside held nonterminal kind (ch .place-is) l);
+                  placed = l;
                   may-open = positive depth may-open;
                   may-call = may-call;
                   begun = et;
                 };
-            entered-chosen = es ∙ start-chosen held nonterminal kind (ch .place-is) l ∙ ap (chosenStart bs nonterminal) ekind;
+            entered-chosen =
+                let at-start : start ≡ chosenStart bs nonterminal (nextToken input state .kind)
+                = es ∙ start-chosen held nonterminal kind (ch .place-is) l ∙ ap (chosenStart bs nonterminal) ekind in
+                let at-place : place ≡ chosenPlace (entriesOf bs) nonterminal (nextToken input state .kind)
+                = ch .place-is ∙ ap (chosenPlace (entriesOf bs) nonterminal) ekind in
+                cc (at-start, at-place);
             remembers = ch .memory-is;
           }
 
 -- One more call leaves room for its items.
-pub entry-weight : {bs : List ℕ} {depth : ℕ} {state : State} {start : ℕ} {next : State} → CallBegunAt bs depth state start next → length bs ≤ most .bytes
-    → weight next + (length bs - start) ≤ weight state
+pub entry-weight : {bs : List ℕ} {depth : ℕ} {state : State} {call : Activation} {next : State} → CallBegunAt bs depth state call next → length bs ≤ most .bytes
+    → weight next + (length bs - call .next) ≤ weight state
 entry-weight e h = omega (arith, ap weight (e .begun), e .may-call)

@@ -20,32 +20,29 @@ use Rattle.choices.specs.Chosen.{Remembers}
 use Rattle.steps.specs.declared.ItemStep.{ItemStep}
 use Rattle.steps.specs.declared.ItemStep.the-variants.{Finished, Stopped, Taken, Opened}
 use Rattle.steps.specs.Steps.{body, weight, Steps, Onward, Advances, Stays}
-use Rattle.frames.specs.Frames.{frameSize, mostWaiting, LevelFits, Saved, Loaded, Frame, resume, owed, Waits, Stacked, stacked-none, stacked-one, Standing}
-use Rattle.frames.proofs.FrameLaws.{resume-halt, stacked-same, stacked-more, waits-saved, waits-holds}
+use Rattle.frames.specs.Frames.{frameSize, activationIn, mostWaiting, LevelFits, CallFits, Saved, Loaded, Frame, resume, owed, Waits, Stacked}
+use Rattle.frames.specs.Frames.{stacked-none, stacked-one, Standing}
+use Rattle.frames.proofs.FrameLaws.{resume-halt, stacked-same, stacked-more, waits-next, waits-count, waits-fits, waits-saved, waits-holds}
 use Rattle.turns.specs.declared.begins.Begun.{Begun}
 use Rattle.turns.specs.declared.begins.Begun.the-variants.{Refused, Entered}
 use Rattle.turns.specs.declared.Resumption.{Resumption}
+use Rattle.steps.specs.declared.Activation.{Activation}
 use Rattle.steps.specs.declared.Cursor.{Cursor}
 use Rattle.turns.specs.declared.Advance.{Advance}
 use Rattle.turns.specs.declared.Advance.the-variants.{Paused}
-use Rattle.turns.specs.Begins.{Begins, CallBegunAt, CallEntered, Starts}
-use Rattle.turns.specs.Turns.{cursorAt, moved, enteredAt, resumption, Resumes, Values, Returns, Savable, Pushes, Pauses, left, Going, Calling}
+use Rattle.turns.specs.Begins.{Begins, CallBegunAt, CallEntered, chosenCall, EntersChosen, Starts}
+use Rattle.turns.specs.Turns.{cursorAt, goingOn, moved, enteredAt, resumption, Resumes, Values, Returns, Savable, Pushes, Pauses, callWeight, left}
+use Rattle.turns.specs.Turns.{Going, Calling}
 use Rattle.turns.specs.Turns.{Goes, TurnStands, Turns}
 use Rattle.turns.proofs.BeginLaws.{positive, entry-weight}
 use Rattle.grammar.specs.Limits.{most}
 use Rattle.expansion.specs.Limits.{mostCalls}
 
 -- The call at a level of the room is read back.
-pub resumes-at : {frames : List ℕ} {from : Resumption} {vars : List ℕ} → Loaded frames (from .level) vars → {count at : ℕ}
-    → count ≡ cursorAt frames from .count
-    → at ≡ cursorAt frames from .at
-    → Resumes frames from vars (record { count = count; at = at; level = from .level; state = from .state })
-resumes-at {frames} {from} l {count} ec ea =
-    record {
-      loaded = l;
-      cursor-is =
-          rw (ea, ec);
-    }
+pub resumes-at : {frames : List ℕ} {from : Resumption} {vars : List ℕ} → Loaded frames (from .level) vars → {call : Activation}
+    → call ≡ activationIn frames (from .level)
+    → Resumes frames from vars (record { call = call; level = from .level; state = from .state })
+resumes-at l e = record { loaded = l; cursor-is = rw e }
 
 -- The call at a level of the room is loaded.
 pub going-resumed : {input : Input} {bs frames : List ℕ} {from : Resumption} {cells : List ℕ} {result : Result ℕ}
@@ -55,22 +52,28 @@ pub going-resumed : {input : Input} {bs frames : List ℕ} {from : Resumption} {
     → Going input bs frames vars cursor cells result
 going-resumed {input} {bs} {frames} {from} {cells} {result} s {vars} r =
     let w = s .on-top in
-    let e = w .next-is in
+    let e = waits-next w in
     rw (r .cursor-is)
     (record {
       whole = rw e (w .whole);
       inside = omega (arith, e, w .inside);
-      counted = omega (arith, e, w .counted, s .counted);
+      call-fits = waits-fits w;
+      counted = omega (arith, e, waits-count w, w .counted, s .counted);
       waiting = s .waiting;
       many = s .many;
       fits = s .fits;
       stacked = s .stacked;
       light = omega (arith, s .light, e);
       M = s .current .values;
-      holds = waits-holds w (r .loaded) refl;
+      holds = waits-holds w (r .loaded);
       rest =
           rw e (s .rest);
     })
+
+-- another count of variables and another offset change nothing of what a call began with
+same-call : {call : Activation} → CallFits call → {count next : ℕ}
+    → CallFits (record { production = call .production; began = call .began; count = count; next = next })
+same-call f = record { production-small = f .production-small; began-small = f .began-small }
 
 -- an item takes no more than it leaves behind
 onward-light : {bs : List ℕ} {at next : ℕ} {state state′ : State} → Onward bs at next state state′ → (more : ℕ) {most : ℕ}
@@ -84,17 +87,17 @@ light-below heavy over lighter over′ e f h = omega arith
 -- What the item at a cursor does, and how far it goes.
 pub record Stepped (input : Input) (bs vars : List ℕ) (cursor : Cursor) (cells : List ℕ) (step : ItemStep) (args cells′ : List ℕ) : Type 0 where
   -- under any values of the variables it does what the definition does
-  pub does : (values : List ℕ) → Holds vars (cursor .count) values → Steps bs (cursor .at) input values (cursor .state) cells step args cells′
+  pub does : (values : List ℕ) → Holds vars (cursor .call .count) values → Steps bs (cursor .call .next) input values (cursor .state) cells step args cells′
   -- the next offset, if there is one, is behind it and inside the table
-  pub advances : Advances bs (cursor .at) (cursor .state) step
+  pub advances : Advances bs (cursor .call .next) (cursor .state) step
 
 -- No item stands at a cursor, and what the result of the alternative gives.
 pub record Resulting (input : Input) (bs vars : List ℕ) (cursor : Cursor) (cells : List ℕ) (outcome : Outcome) (cells′ : List ℕ) : Type 0 where
   -- the items are done
-  pub no-item : itemsOf (fieldsAt bs (cursor .at)) ≡ []
+  pub no-item : itemsOf (fieldsAt bs (cursor .call .next)) ≡ []
   -- under any values of the variables it gives what the result's template gives
-  pub gives : (values : List ℕ) → Holds vars (cursor .count) values
-      → ran outcome cells′ ≡ build (resultOf (fieldsAt bs (cursor .at))) input values (cursor .state) cells
+  pub gives : (values : List ℕ) → Holds vars (cursor .call .count) values
+      → ran outcome cells′ ≡ build (resultOf (fieldsAt bs (cursor .call .next))) input values (cursor .state) cells
   -- it takes no token, draws no fresh name and begins no call
   pub stays : Stays (cursor .state) outcome
 
@@ -104,22 +107,22 @@ module _ {input : Input} {bs frames vars : List ℕ} {cursor : Cursor} {cells : 
   callee = runCall (mostWaiting - cursor .level) input
 
   abbrev now-left : Result ℕ
-  now-left = body callee bs (cursor .at) input (going .M) (cursor .state) cells
+  now-left = body callee bs (cursor .call .next) input (going .M) (cursor .state) cells
 
   -- The counters are small.
   pub going-bounds : (cursor .state .at < 2 ^ 32) × (cursor .state .fresh < 2 ^ 31)
   going-bounds = (omega (arith, going .light), omega (arith, going .light))
 
   -- A room that is too short: the call that goes on is saved too.
-  pub going-paused : {frames′ : List ℕ} → Saved frames frames′ (cursor .level) vars (cursor .count) (cursor .at) → length frames′ ≡ length frames
+  pub going-paused : {frames′ : List ℕ} → Saved frames frames′ (cursor .level) vars (cursor .call) → length frames′ ≡ length frames
       → Standing input bs frames′ (cursor .level) (cursor .state) cells result
   going-paused saved long =
       record {
         fits = record { few = going .fits .few; inside = omega (arith, going .fits .inside, long) };
-        current = record { next = cursor .at; values = going .M };
+        current = record { call = cursor .call; values = going .M };
         waiting = going .waiting;
         many = going .many;
-        on-top = waits-saved saved (going .holds) (going .whole) (going .inside);
+        on-top = waits-saved saved (going .call-fits) (going .holds) (going .whole) (going .inside);
         counted = omega (arith, going .counted, going .holds .count);
         stacked = stacked-same (λ i l. saved .same i (omega (arith, going .many))) (going .stacked);
         light = going .light;
@@ -136,7 +139,7 @@ module _ {input : Input} {bs frames vars : List ℕ} {cursor : Cursor} {cells : 
   -- ---------------------------------------------------------------- the item that stands at the cursor
 
   module _ {step : ItemStep} {args cells′ : List ℕ} (stepped : Stepped input bs vars cursor cells step args cells′) where
-    steps : {item-step : ItemStep} → step ≡ item-step → Steps bs (cursor .at) input (going .M) (cursor .state) cells item-step args cells′
+    steps : {item-step : ItemStep} → step ≡ item-step → Steps bs (cursor .call .next) input (going .M) (cursor .state) cells item-step args cells′
     steps e = rw e at (stepped .does (going .M) (going .holds))
 
     -- The item refuses.
@@ -144,8 +147,8 @@ module _ {input : Input} {bs frames vars : List ℕ} {cursor : Cursor} {cells : 
     step-stopped e = halted (sym (steps e callee))
 
     -- No item is left.
-    pub step-none : step ≡ Finished → itemsOf (fieldsAt bs (cursor .at)) ≡ []
-    step-none e = subst (Advances bs (cursor .at) (cursor .state)) e (stepped .advances)
+    pub step-none : step ≡ Finished → itemsOf (fieldsAt bs (cursor .call .next)) ≡ []
+    step-none e = subst (Advances bs (cursor .call .next) (cursor .state)) e (stepped .advances)
 
     -- The cells are as they were.
     pub step-finished : step ≡ Finished → Going input bs frames vars cursor cells′ result
@@ -153,11 +156,11 @@ module _ {input : Input} {bs frames vars : List ℕ} {cursor : Cursor} {cells : 
 
     -- The item gives a value.
     module _ {made-value next : ℕ} {state′ : State} (equal : step ≡ Taken made-value next state′) where
-      taken-onward : Onward bs (cursor .at) next (cursor .state) state′
-      taken-onward = subst (Advances bs (cursor .at) (cursor .state)) equal (stepped .advances)
+      taken-onward : Onward bs (cursor .call .next) next (cursor .state) state′
+      taken-onward = subst (Advances bs (cursor .call .next) (cursor .state)) equal (stepped .advances)
 
       -- It has few variables.
-      pub taken-few : cursor .count ≤ length bs + length bs
+      pub taken-few : cursor .call .count ≤ length bs + length bs
       taken-few = omega (arith, going .counted, taken-onward .less, taken-onward .inside)
 
       -- The value is its next variable, and it goes on behind the item.
@@ -172,6 +175,7 @@ module _ {input : Input} {bs frames vars : List ℕ} {cursor : Cursor} {cells : 
               record {
                 whole = o .whole;
                 inside = o .inside;
+                call-fits = same-call (going .call-fits);
                 counted = omega (arith, going .counted, o .less);
                 waiting = going .waiting;
                 many = going .many;
@@ -193,10 +197,11 @@ module _ {input : Input} {bs frames vars : List ℕ} {cursor : Cursor} {cells : 
         → Calling input bs frames vars cursor args nonterminal given next state′ cells′ result
     step-opened e spare =
         let q = steps e in
-        let a : Onward _ _ _ _ _ × (_ ≤ _) = subst (Advances bs (cursor .at) (cursor .state)) e (stepped .advances) in
+        let a : Onward _ _ _ _ _ × (_ ≤ _) = subst (Advances bs (cursor .call .next) (cursor .state)) e (stepped .advances) in
         record {
           onward = a .0;
           few-given = a .1;
+          call-fits = going .call-fits;
           counted = going .counted;
           waiting = going .waiting;
           many = going .many;
@@ -219,7 +224,7 @@ module _ {input : Input} {bs frames vars : List ℕ} {cursor : Cursor} {cells : 
     gives-all =
         resulting .gives (going .M) (going .holds)
         ∙ ap
-        (λ (is : List Item). after (runItems callee input is (going .M) (cursor .state) cells) (λ M. build (resultOf (fieldsAt bs (cursor .at))) input M))
+        (λ (is : List Item). after (runItems callee input is (going .M) (cursor .state) cells) (λ M. build (resultOf (fieldsAt bs (cursor .call .next))) input M))
         (sym (resulting .no-item))
 
     given-by : {other : Outcome} → outcome ≡ other → ran other cells′ ≡ now-left
@@ -253,13 +258,13 @@ module _ {input : Input} {bs frames vars : List ℕ} {cursor : Cursor} {cells : 
 
         top-frame : (frame : Frame) × (fs : List Frame) × (going .waiting ≡ frame ∷ fs) × (length fs ≡ from .level)
             × Waits bs frames (from .level) frame × Stacked bs frames fs
-            × (length (frame .values) < length bs + frame .next)
+            × (length (frame .values) < length bs + frame .call .next)
         top-frame = by (going .waiting) refl (going .stacked)
           where
             by : (ws : List Frame) → going .waiting ≡ ws → Stacked bs frames ws
                 → (frame : Frame) × (fs : List Frame) × (going .waiting ≡ frame ∷ fs) × (length fs ≡ from .level)
                 × Waits bs frames (from .level) frame × Stacked bs frames fs
-                × (length (frame .values) < length bs + frame .next)
+                × (length (frame .values) < length bs + frame .call .next)
             by [] ef stacked-none = absurd (below (sym (going .many) ∙ ap length ef))
             by (f ∷ fs) ef (stacked-one w few st) =
                 let l : length fs ≡ from .level = omega (arith, going .many, ap length ef) in
@@ -272,32 +277,33 @@ module _ {input : Input} {bs frames vars : List ℕ} {cursor : Cursor} {cells : 
           abbrev at-top : Cursor
           at-top = cursorAt frames from
 
-          at-few : at-top .count < length bs + at-top .at
-          at-few = omega (arith, top-frame .4 .next-is, top-frame .4 .counted, top-frame .6)
+          at-few : at-top .call .count < length bs + at-top .call .next
+          at-few = omega (arith, waits-next (top-frame .4), waits-count (top-frame .4), top-frame .4 .counted, top-frame .6)
 
           closed-going : {vars₂ : List ℕ}
-              → ((values : List ℕ) → Holds vars₁ (at-top .count) values → Holds vars₂ (at-top .count + 1) (values ++ (made-value ∷ [])))
-              → Going input bs frames vars₂ (moved at-top (at-top .at) next) cells′ result
+              → ((values : List ℕ) → Holds vars₁ (at-top .call .count) values → Holds vars₂ (at-top .call .count + 1) (values ++ (made-value ∷ [])))
+              → Going input bs frames vars₂ (moved at-top (at-top .call .next) next) cells′ result
           unfolding resume owed
           closed-going put =
               let f = top-frame .0 in
               let fs = top-frame .1 in
               let w = top-frame .4 in
               record {
-                whole = rw (w .next-is) (w .whole);
-                inside = omega (arith, w .next-is, w .inside);
+                whole = rw (waits-next w) (w .whole);
+                inside = omega (arith, waits-next w, w .inside);
+                call-fits = same-call (waits-fits w);
                 counted = omega (arith, at-few);
                 waiting = fs;
                 many = top-frame .3;
                 fits = below-fits;
                 stacked = top-frame .5;
                 light =
-                    light-below (length bs - cursor .at) (owed bs (going .waiting)) (length bs - at-top .at) (owed bs fs) weight-same
-                    (ap (owed bs) (top-frame .2) ∙ ap (λ (a : ℕ). length bs - a + owed bs fs) (sym (w .next-is))) (going .light);
+                    light-below (length bs - cursor .call .next) (owed bs (going .waiting)) (length bs - at-top .call .next) (owed bs fs) weight-same
+                    (ap (owed bs) (top-frame .2) ∙ ap (λ (a : ℕ). length bs - a + owed bs fs) (sym (waits-next w))) (going .light);
                 M = f .values ++ (made-value ∷ []);
-                holds = put (f .values) (waits-holds w (resumes .loaded) refl);
+                holds = put (f .values) (waits-holds w (resumes .loaded));
                 rest =
-                    rw (w .next-is, sym (top-frame .3)) (rw (top-frame .2) at (instead (given-by equal)));
+                    rw (waits-next w, sym (top-frame .3)) (rw (top-frame .2) at (instead (given-by equal)));
               }
 
         -- The value is its next variable, and it goes on where it waited.
@@ -324,16 +330,20 @@ module _ {input : Input} {bs frames vars : List ℕ} {cursor : Cursor} {args : L
   depth = mostWaiting - cursor .level
 
   -- The call that calls can be saved.
-  pub calling-savable : length bs ≤ most .bytes → Savable frames cursor next
+  pub calling-savable : length bs ≤ most .bytes → Savable frames (cursor .level) (goingOn (cursor .call) next)
   calling-savable small =
       let o = calling .onward in
       record {
         fits = record { few = calling .few; inside = omega (arith, calling .spare) };
-        few = omega (arith, calling .counted, o .less, o .inside);
-        near = omega (arith, o .inside);
+        storable =
+            record {
+              call-fits = same-call (calling .call-fits);
+              count-small = omega (arith, calling .counted, o .less, o .inside);
+              next-small = omega (arith, o .inside);
+            };
       }
 
-  module _ {begun : Begun} {memory : List ℕ} (starts : Starts input bs depth callee′ state′ begun memory) where
+  module _ {begun : Begun} {memory : List ℕ} (starts : Starts input bs depth callee′ given state′ begun memory) where
     begun-as : {other : Begun} → begun ≡ other → Begins input bs depth callee′ state′ other
     begun-as e = subst (Begins input bs depth callee′ state′) e (starts .begins)
 
@@ -344,29 +354,40 @@ module _ {input : Input} {bs frames vars : List ℕ} {cursor : Cursor} {args : L
         ∙ rw (sym (begun-as e (calling .vs) cells)) at (calling .rest)
 
     -- It is entered, and the call that called waits.
-    module _ {first : ℕ} {further : State} (equal : begun ≡ Entered first further) where
+    module _ {call : Activation} {further : State} (equal : begun ≡ Entered call further) where
       -- A whole alternative stands where it is entered.
-      opened-entry : CallBegunAt bs depth state′ first further
+      opened-entry : CallBegunAt bs depth state′ call further
       opened-entry = subst (CallEntered bs depth state′) equal (starts .enters)
 
-      module _ {frames′ vars′ : List ℕ} {other : Cursor} (pushes : Pushes frames vars args cursor given next first further frames′ vars′ other)
+      -- It is the production that is chosen.
+      opened-chosen : call ≡ chosenCall input bs callee′ given state′
+      opened-chosen = subst (EntersChosen input bs callee′ given state′) equal (starts .entered-chosen)
+
+      module _ {frames′ vars′ : List ℕ} {other : Cursor} (pushes : Pushes frames vars args cursor next call further frames′ vars′ other)
           (long : length frames′ ≡ length frames) (small : length bs ≤ most .bytes) where
-        going-at : Going input bs frames′ args (enteredAt cursor given first further) cells result
+        going-at : Going input bs frames′ args (enteredAt cursor call further) cells result
         unfolding resume owed
         going-at =
             let o = calling .onward in
+            let light = onward-light o (owed bs (calling .waiting)) (calling .light) in
+            let count-is : call .count ≡ given = ap (λ (a : Activation). a .count) opened-chosen in
             record {
               whole = opened-entry .whole;
               inside = opened-entry .inside;
+              call-fits =
+                  record {
+                    production-small = omega (arith, opened-entry .placed);
+                    began-small = omega (arith, light, ap (λ (a : Activation). a .began) opened-chosen);
+                  };
               counted = omega (arith, calling .few-given);
-              waiting = record { next = next; values = calling .M } ∷ calling .waiting;
+              waiting = record { call = goingOn (cursor .call) next; values = calling .M } ∷ calling .waiting;
               many = omega (arith, calling .many);
               fits = record { few = omega (arith, opened-entry .may-open); inside = omega (arith, calling .spare, long) };
-              stacked = stacked-more (calling .many) (pushes .saved) (calling .holds) (o .whole) (omega (arith, calling .counted, o .less)) (o .inside)
-                  (calling .stacked);
-              light = omega (arith, onward-light o (owed bs (calling .waiting)) (calling .light), entry-weight opened-entry small);
+              stacked = stacked-more (calling .many) (pushes .saved) (same-call (calling .call-fits)) (calling .holds) (o .whole)
+                  (omega (arith, calling .counted, o .less)) (o .inside) (calling .stacked);
+              light = omega (arith, light, entry-weight opened-entry small);
               M = calling .vs;
-              holds = calling .given;
+              holds = rw count-is (calling .given);
               rest =
                   let z : mostWaiting - (cursor .level + 1) ≡ mostWaiting - cursor .level - 1 = omega arith in
                   rw (calling .many, z, begun-as equal (calling .vs) cells) (calling .rest);
@@ -377,10 +398,14 @@ module _ {input : Input} {bs frames vars : List ℕ} {cursor : Cursor} {args : L
         opened-going = rw (pushes .vars-are, pushes .cursor-is) going-at
 
         -- It can be saved.
-        pub opened-savable : Savable frames′ other (other .at)
+        pub opened-savable : Savable frames′ (other .level) (other .call)
         opened-savable =
             let g = opened-going in
-            record { fits = g .fits; few = omega (arith, g .counted, g .inside); near = omega (arith, g .inside) }
+            record {
+              fits = g .fits;
+              storable =
+                  record { call-fits = g .call-fits; count-small = omega (arith, g .counted, g .inside); next-small = omega (arith, g .inside) };
+            }
 
         -- The call that is entered goes on.
         pub opened-on : (cursor .level + 3) * frameSize ≤ length frames′ → Turns input bs (left bs cursor) result frames′ vars′ cells other
@@ -393,7 +418,7 @@ module _ {input : Input} {bs frames vars : List ℕ} {cursor : Cursor} {args : L
                     arith,
                     small,
                     opened-entry .may-call,
-                    ap (λ (q : State). 40000 * (mostCalls - q .calls)) (opened-entry .begun),
+                    ap (λ (q : State). callWeight * (mostCalls - q .calls)) (opened-entry .begun),
                     calling .onward .called,
                   );
             })

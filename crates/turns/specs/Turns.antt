@@ -4,7 +4,8 @@ use Prim.Native.Nat.{ℕ, _+_, _-_, _*_, _^_, _<_, _≤_}
 use mathlib.Core.Path.{_≡_}
 use mathlib.Core.Bool.{true}
 use mathlib.Core.List.{List, [], _∷_, _++_}
-use lib.ListN.{length, getD}
+use lib.ListN.{length}
+use Rattle.grammar.specs.Limits.{most}
 use Rattle.grammar.specs.Lookup.{fieldsAt}
 use Rattle.productions.specs.Index.{wholeBody}
 use Rattle.expansion.specs.declared.State.{State}
@@ -13,8 +14,10 @@ use Rattle.expansion.specs.Outcomes.{ran}
 use Rattle.expansion.specs.Expansion.{Input, runCall}
 use Rattle.templates.specs.Built.{Holds, withValue}
 use Rattle.steps.specs.Steps.{body, weight, mostWeight, Onward}
-use Rattle.frames.specs.Frames.{frameSize, countAt, nextAt, longFrames, mostWaiting, LevelFits, Saved, Loaded, Frame, resume, owed, Stacked, Standing}
+use Rattle.frames.specs.Frames.{frameSize, activationIn, allFrames, mostWaiting, LevelFits, CallFits, Storable, Saved, Loaded, Frame, resume, owed}
+use Rattle.frames.specs.Frames.{Stacked, Standing}
 use Rattle.turns.specs.declared.Resumption.{Resumption}
+use Rattle.steps.specs.declared.Activation.{Activation}
 use Rattle.steps.specs.declared.Cursor.{Cursor}
 use Rattle.turns.specs.declared.Advance.{Advance}
 use Rattle.turns.specs.declared.Advance.the-variants.{Ended, Paused}
@@ -24,21 +27,24 @@ use Rattle.expansion.specs.Limits.{mostCalls}
 
 -- the cursor of the call that stands at a level of the room
 abbrev pub cursorAt : List ℕ → Resumption → Cursor
-cursorAt frames from =
-    record {
-      count = getD frames (from .level * frameSize + countAt) 0;
-      at = getD frames (from .level * frameSize + nextAt) 0;
-      level = from .level;
-      state = from .state;
-    }
+cursorAt frames from = record { call = activationIn frames (from .level); level = from .level; state = from .state }
+
+-- the activation of a call that goes on at an offset
+abbrev pub goingOn : Activation → ℕ → Activation
+goingOn call next = record { production = call .production; began = call .began; count = call .count; next = next }
 
 -- the cursor of a call that has one variable more and goes on at an offset
 abbrev pub moved : Cursor → ℕ → State → Cursor
-moved c next t = record { count = c .count + 1; at = next; level = c .level; state = t }
+moved c next t =
+    record {
+      call = record { production = c .call .production; began = c .call .began; count = c .call .count + 1; next = next };
+      level = c .level;
+      state = t;
+    }
 
--- the cursor of a call that is entered with so many arguments, one level higher
-abbrev pub enteredAt : Cursor → ℕ → ℕ → State → Cursor
-enteredAt c given first t = record { count = given; at = first; level = c .level + 1; state = t }
+-- the cursor of a call that is entered one level higher
+abbrev pub enteredAt : Cursor → Activation → State → Cursor
+enteredAt c callee t = record { call = callee; level = c .level + 1; state = t }
 
 -- where the call of a cursor goes on from its frame
 abbrev pub resumption : Cursor → Resumption
@@ -51,7 +57,7 @@ pub record Resumes (frames : List ℕ) (from : Resumption) (vars : List ℕ) (c 
 
 -- a value is one more variable
 pub record Values (vars : List ℕ) (c : Cursor) (x next : ℕ) (t : State) (vars′ : List ℕ) (d : Cursor) : Type 0 where
-  pub vars-are : vars′ ≡ withValue vars (c .count) x
+  pub vars-are : vars′ ≡ withValue vars (c .call .count) x
   pub cursor-is : d ≡ moved c next t
 
 -- a value goes to the call at a level
@@ -59,59 +65,67 @@ pub record Returns (frames : List ℕ) (level x : ℕ) (t : State) (vars′ : Li
   pub vars : List ℕ
   pub waiting : Cursor
   pub resumes : Resumes frames (record { level = level; state = t }) vars waiting
-  pub values : Values vars waiting x (waiting .at) t vars′ d
+  pub values : Values vars waiting x (waiting .call .next) t vars′ d
 
--- a call that is to go on at an offset can be saved in its frame
-pub record Savable (frames : List ℕ) (c : Cursor) (next : ℕ) : Type 0 where
-  pub fits : LevelFits frames (c .level)
-  pub few : c .count < 2 ^ 32
-  pub near : next < 2 ^ 32
+-- a call can be saved at a level
+pub record Savable (frames : List ℕ) (level : ℕ) (call : Activation) : Type 0 where
+  pub fits : LevelFits frames level
+  pub storable : Storable call
 
--- it is saved, and the call that is entered has its arguments
-pub record Pushes (frames vars args : List ℕ) (c : Cursor) (given next first : ℕ) (t : State) (frames′ vars′ : List ℕ) (d : Cursor) : Type 0 where
-  pub saved : Saved frames frames′ (c .level) vars (c .count) next
+-- the call that calls is saved, and the one that is entered has its arguments
+pub record Pushes (frames vars args : List ℕ) (c : Cursor) (next : ℕ) (callee : Activation) (t : State) (frames′ vars′ : List ℕ) (d : Cursor) : Type 0 where
+  pub saved : Saved frames frames′ (c .level) vars (goingOn (c .call) next)
   pub vars-are : vars′ ≡ args
-  pub cursor-is : d ≡ enteredAt c given first t
+  pub cursor-is : d ≡ enteredAt c callee t
 
 -- the call that goes on is saved
 pub record Pauses (frames vars : List ℕ) (c : Cursor) (frames′ : List ℕ) (p : Advance) : Type 0 where
-  pub saved : Saved frames frames′ (c .level) vars (c .count) (c .at)
+  pub saved : Saved frames frames′ (c .level) vars (c .call)
   pub paused : p ≡ Paused (resumption c)
+
+-- a call that waits counts for more than the bytes that are left, and a call that may still be begun for more than both
+abbrev pub waitingWeight : ℕ
+waitingWeight = most .bytes + 1
+
+abbrev pub callWeight : ℕ
+callWeight = 2 * waitingWeight
 
 -- Calls left, then calls that wait, then bytes left: what falls with each turn.
 abbrev pub left : List ℕ → Cursor → ℕ
-left bs c = 40000 * (mostCalls - c .state .calls) + 16386 * c .level + (length bs - c .at)
+left bs c = callWeight * (mostCalls - c .state .calls) + waitingWeight * c .level + (length bs - c .call .next)
 
 -- ------------------------------------------------------------------ where an expansion stands
 
 -- what is left of the call that goes on, and of the calls that wait, gives R
 pub record Going (I : Input) (bs frames vars : List ℕ) (c : Cursor) (cells : List ℕ) (R : Result ℕ) : Type 0 where
-  pub whole : wholeBody (fieldsAt bs (c .at)) ≡ true
-  pub inside : c .at ≤ length bs
-  pub counted : c .count ≤ length bs + c .at
+  pub whole : wholeBody (fieldsAt bs (c .call .next)) ≡ true
+  pub inside : c .call .next ≤ length bs
+  pub call-fits : CallFits (c .call)
+  pub counted : c .call .count ≤ length bs + c .call .next
   pub waiting : List Frame
   pub many : length waiting ≡ c .level
   pub fits : LevelFits frames (c .level)
   pub stacked : Stacked bs frames waiting
-  pub light : weight (c .state) + (length bs - c .at) + owed bs waiting ≤ mostWeight
+  pub light : weight (c .state) + (length bs - c .call .next) + owed bs waiting ≤ mostWeight
   pub M : List ℕ
-  pub holds : Holds vars (c .count) M
-  pub rest : resume I bs waiting (body (runCall (mostWaiting - c .level) I) bs (c .at) I M (c .state) cells) ≡ R
+  pub holds : Holds vars (c .call .count) M
+  pub rest : resume I bs waiting (body (runCall (mostWaiting - c .level) I) bs (c .call .next) I M (c .state) cells) ≡ R
 
 -- the same, where its item is a call with arguments in an array, and the room has one level more
 pub record Calling (I : Input) (bs frames vars : List ℕ) (c : Cursor) (args : List ℕ) (callee given′ next : ℕ) (t : State) (cells : List ℕ)
     (R : Result ℕ) : Type 0 where
-  pub onward : Onward bs (c .at) next (c .state) t
+  pub onward : Onward bs (c .call .next) next (c .state) t
   pub few-given : given′ ≤ length bs
-  pub counted : c .count ≤ length bs + c .at
+  pub call-fits : CallFits (c .call)
+  pub counted : c .call .count ≤ length bs + c .call .next
   pub waiting : List Frame
   pub many : length waiting ≡ c .level
   pub few : c .level ≤ mostWaiting
   pub spare : (c .level + 2) * frameSize ≤ length frames
   pub stacked : Stacked bs frames waiting
-  pub light : weight (c .state) + (length bs - c .at) + owed bs waiting ≤ mostWeight
+  pub light : weight (c .state) + (length bs - c .call .next) + owed bs waiting ≤ mostWeight
   pub M : List ℕ
-  pub holds : Holds vars (c .count) M
+  pub holds : Holds vars (c .call .count) M
   pub vs : List ℕ
   pub given : Holds args given′ vs
   pub rest :
@@ -124,7 +138,7 @@ pub record Calling (I : Input) (bs frames vars : List ℕ) (c : Cursor) (args : 
 -- it ended with R, or the room was too short and it stands where R is still to be had
 abbrev pub Goes : Input → List ℕ → Result ℕ → List ℕ → List ℕ → Advance → Type 0
 Goes I bs R frames cells (Ended o) = ran o cells ≡ R
-Goes I bs R frames cells (Paused from) = Standing I bs frames (from .level) (from .state) cells R × (length frames < longFrames)
+Goes I bs R frames cells (Paused from) = Standing I bs frames (from .level) (from .state) cells R × (length frames < allFrames)
 
 -- a call goes on in a room that has one level more
 abbrev pub TurnStands : Input → List ℕ → Result ℕ → List ℕ → List ℕ → List ℕ → Cursor → Type 0

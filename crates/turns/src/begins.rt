@@ -1,5 +1,7 @@
 // The beginning of a call.
 use answers::Refusal;
+use answers::causes::TOO_MANY_CALLS;
+use answers::causes::TOO_MANY_OPEN_CALLS;
 use answers::refuse;
 use choices::MEMORY;
 use choices::choose;
@@ -10,8 +12,9 @@ use productions::room::NO_PLACE;
 use productions::room::ROOM;
 use productions::room::start;
 use scanner::room::kind_at;
+use steps::Activation;
 use steps::taking::misfit;
-ghost use Prim.Native.Nat.{ℕ, _≤_};
+ghost use Prim.Native.Nat.{ℕ, _<_, _≤_};
 ghost use mathlib.Core.Path.{_≡_};
 ghost use mathlib.Core.List.{List};
 ghost use Rattle.expansion.specs.Expansion.{callBegun, initialState};
@@ -21,10 +24,10 @@ ghost use Rattle.choices.specs.Chosen.{Remembers};
 ghost use Rattle.turns.specs.Lent.{MayBegin, lentInput};
 ghost use Rattle.turns.specs.Begins.{Starts};
 
-// How a call begins: it refuses, or a production is entered at an offset.
+// How a call begins: it refuses, or a production is entered.
 pub enum Begun {
     Refused(Refusal),
-    Entered(usize, State),
+    Entered(Activation, State),
 }
 
 // The state with one more call begun.
@@ -40,7 +43,37 @@ fn with_call(s: State) -> State
     }
 }
 
-// The beginning of a call of a nonterminal, while `depth` more calls may be open: tested 19, 20, 17.
+// A call that may be begun, of a nonterminal with so many arguments: tested 17.
+fn enter(
+    room: &[u64; ROOM],
+    memory: &mut [u8; MEMORY],
+    tokens: &[u32],
+    n: usize,
+    nonterminal: u8,
+    given: usize,
+    s: State,
+) -> Begun
+    requires { ⌜ MayBegin (now room) (now memory) (now tokens) n ⌝ }
+    requires { ⌜ s .calls < mostCalls ⌝ }
+    ensures { λ r. ⌜ ((bs : List ℕ) (rows depth : ℕ) → Held bs (now (room .entry)) → Remembers bs (now (memory .entry)) → 0 < depth →
+        Starts (lentInput bs (now (tokens .entry)) n rows) bs depth nonterminal given s r (now (memory .exit))) ⌝ }
+{
+    let at = s.at;
+    let kind = kind_at(tokens, n, at);
+    let place = choose(room, memory, nonterminal, kind);
+    if place < NO_PLACE {
+        let call = Activation {
+            production: place,
+            began: at,
+            count: given,
+            next: start(room, place),
+        };
+        return Begun::Entered(call, with_call(s));
+    }
+    Begun::Refused(misfit(at, kinds_of(room, nonterminal)))
+}
+
+// The beginning of a call of a nonterminal with so many arguments, while `depth` more calls may be open: tested 19, 20, 17.
 pub fn begin(
     room: &[u64; ROOM],
     memory: &mut [u8; MEMORY],
@@ -48,29 +81,25 @@ pub fn begin(
     n: usize,
     depth: usize,
     nonterminal: u8,
+    given: usize,
     s: State,
 ) -> Begun
-    requires { ⌜ MayBegin (now room) (now tokens) n ⌝ }
+    requires { ⌜ MayBegin (now room) (now memory) (now tokens) n ⌝ }
     ensures { λ r. ⌜ ((bs : List ℕ) (rows : ℕ) → Held bs (now (room .entry)) → Remembers bs (now (memory .entry)) → Starts (lentInput bs (now
-        (tokens .entry)) n rows) bs depth nonterminal s r (now (memory .exit))) ⌝ }
+        (tokens .entry)) n rows) bs depth nonterminal given s r (now (memory .exit))) ⌝ }
 {
     let at = s.at;
     let calls = s.calls;
     if depth == 0 {
-        return Begun::Refused(refuse(19, at as u64, 0, 0));
+        return Begun::Refused(refuse(TOO_MANY_OPEN_CALLS, at as u64, 0, 0));
     }
     if MOST_CALLS <= calls {
-        return Begun::Refused(refuse(20, at as u64, 0, 0));
+        return Begun::Refused(refuse(TOO_MANY_CALLS, at as u64, 0, 0));
     }
-    let kind = kind_at(tokens, n, at);
-    let place = choose(room, memory, nonterminal, kind);
-    if place < NO_PLACE {
-        return Begun::Entered(start(room, place), with_call(s));
-    }
-    Begun::Refused(misfit(at, kinds_of(room, nonterminal)))
+    enter(room, memory, tokens, n, nonterminal, given, s)
 }
 
-// The beginning of the root's call: none is open and none was begun, so that only 17 is tested.
+// The beginning of the root's call, which has no arguments: none is open and none was begun, so that only 17 is tested.
 pub fn begin_root(
     room: &[u64; ROOM],
     memory: &mut [u8; MEMORY],
@@ -78,9 +107,9 @@ pub fn begin_root(
     n: usize,
     root: u8,
 ) -> Begun
-    requires { ⌜ MayBegin (now room) (now tokens) n ⌝ }
+    requires { ⌜ MayBegin (now room) (now memory) (now tokens) n ⌝ }
     ensures { λ r. ⌜ ((bs : List ℕ) (rows : ℕ) → Held bs (now (room .entry)) → Remembers bs (now (memory .entry)) → Starts (lentInput bs (now
-        (tokens .entry)) n rows) bs mostOpen root initialState r (now (memory .exit))) ⌝ }
+        (tokens .entry)) n rows) bs mostOpen root 0 initialState r (now (memory .exit))) ⌝ }
 {
     let s = State {
         at: 0,
@@ -88,10 +117,5 @@ pub fn begin_root(
         calls: 0,
         made: 0,
     };
-    let kind = kind_at(tokens, n, 0);
-    let place = choose(room, memory, root, kind);
-    if place < NO_PLACE {
-        return Begun::Entered(start(room, place), with_call(s));
-    }
-    Begun::Refused(misfit(0, kinds_of(room, root)))
+    enter(room, memory, tokens, n, root, 0, s)
 }

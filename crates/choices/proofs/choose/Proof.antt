@@ -1,9 +1,24 @@
 -- `choose`: what is remembered is what is chosen; what is not is searched for, and remembered.
 use native.Mathlib.Omega.{arith}
 use borrow.Author.Needs.{needs}
+use mathlib.Core.List.{List}
+use Prim.Native.Nat.{ℕ}
+use Rattle.choices.specs.Held.{HoldsSome}
+use Rattle.choices.specs.Chosen.{MayChoose}
 use Rattle.choices.proofs.ChoiceLaws as laws
 use Rattle.choices.proofs.choose.Statement.{statement}
 use Rattle.choices.proofs.choose.Tie as tie
+
+-- a room whose memory is right holds the grammar of a table
+module _ {room memory : List ℕ} (may : MayChoose room memory) where
+  some : HoldsSome room
+  some = record { bs = may .bs; held = may .held }
+
+search-requires : tie.Need-search-requires
+search-requires c κs = some (c .before .before .pre)
+
+search-requires-2 : tie.Need-search-requires-2
+search-requires-2 c κs = some (c .before .before .before .before .before .pre)
 
 returns : tie.Need-returns
 returns c =
@@ -41,7 +56,7 @@ choose-spec =
     tie.close
     (tie.spec
     returns
-    (λ c κs. search needs)
+    search-requires
     returns-2
     (λ c. search needs)
     (λ c. search needs)
@@ -49,7 +64,7 @@ choose-spec =
     (λ c κs. search needs)
     (λ c. search needs)
     returns-3
-    (λ c κs. search needs)
+    search-requires-2
     (λ c. search needs)
     (λ c. search needs)
     (λ c. search needs)

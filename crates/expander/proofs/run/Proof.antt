@@ -1,17 +1,17 @@
 -- `run`: a call of the root, and nothing left over.
-use Prim.Native.Nat.{ℕ}
-use mathlib.Core.Path.{_≡_, _∙_}
+use Prim.Native.Nat.{ℕ, _*_}
+use mathlib.Core.Path.{_≡_, sym, _∙_}
 use mathlib.Core.List.{[]}
+use native.Mathlib.Omega.{arith}
 use borrow.Author.Needs.{needs}
 use lib.ListN.{length}
+use lib.Seq.{length-take-le}
 use Rattle.expansion.specs.Run.{Result, after}
 use Rattle.expansion.specs.Expansion.{Input, runCall, initialState, ended, run}
 use Rattle.expansion.specs.Limits.{mostOpen}
 use Rattle.terms.specs.Cells.{rowsLent}
 use Rattle.calls.specs.Lent.{lentInput}
-use Rattle.turns.specs.declared.begins.Begun.{Begun}
-use Rattle.turns.specs.declared.begins.Begun.the-variants.{Entered}
-use Rattle.turns.specs.Begins.{Begins, CallBegunAt, Starts}
+use Rattle.turns.specs.Begins.{Starts}
 use Rattle.choices.proofs.ChoiceLaws.{remembers-none}
 use Rattle.steps.proofs.TokenLaws.{token-count}
 use Rattle.expander.proofs.CallLaws as laws
@@ -26,54 +26,62 @@ module _ (point : tie.After-begin-root) where
   abbrev input : Input
   input = lentInput (entry .args .table .now) (entry .args .tokens .now) (entry .args .n) (rowsLent (length (entry .args .cells .now)))
 
-  starts : Starts input (entry .args .table .now) mostOpen (entry .args .root) initialState (point .begin-root .result) (point .begin-root .last .1 .0)
+  starts : Starts input (entry .args .table .now) mostOpen (entry .args .root) 0 initialState (point .begin-root .result) (point .begin-root .last .1 .0)
   starts =
       point .begin-root .ensures (entry .args .table .now) (rowsLent (length (entry .args .cells .now)))
       (entry .pre .table) (remembers-none (entry .args .table .now))
-
-  begins : {begun : Begun} → point .begin-root .result ≡ begun → Begins input (entry .args .table .now) mostOpen (entry .args .root) initialState begun
-  begins e =
-      laws.begins-as input (entry .args .table .now) mostOpen (entry .args .root) initialState (point .begin-root .result) e (starts .begins)
-
-  enters : {first : ℕ} {state : _} → point .begin-root .result ≡ Entered first state → CallBegunAt (entry .args .table .now) mostOpen initialState first state
-  enters e = laws.entry-of (point .begin-root .result) e (starts .enters)
 
   runs : {result : Result ℕ} → result ≡ runCall mostOpen input (entry .args .root) [] initialState (entry .args .cells .now)
       → after result (ended input) ≡ run input (entry .args .root) (entry .args .cells .now)
   runs e = laws.run-is input (entry .args .root) (entry .args .cells .now) e
 
+begin-root-requires : tie.Need-begin-root-requires
+begin-root-requires c κs =
+    let given = c .before .before .before .before .before .pre in
+    record { may-choose = record { bs = _; held = given .table; remembers = remembers-none _ }; tokens-fit = given .tokens-fit }
+
+slice-aggregate-root-items : tie.Need-slice-aggregate-root-items
+slice-aggregate-root-items c =
+    let begun-place = c .before .before .before .before .before in
+    sym (length-take-le _ _ (entry (begun-place .before .before) .pre .tokens-fit .long))
+
 root-items-requires : tie.Need-root-items-requires
 root-items-requires c κs =
-    let begun-place = c .before .before .before .before in
+    let begun-place = c .before .before .before .before .before in
     let p = begun-place .before .before in
+    let given = entry p .pre in
+    let equal = begun-place .begun2 .given .1 in
     record {
-      lent = entry p .pre;
+      lent = record { table = given .table; tokens-fit = laws.cut-fits _ _ (given .tokens-fit); stack-long = given .stack-long };
       remembers = starts p .remembers;
-      stands = laws.stands-start (enters p (begun-place .begun2 .given .1)) (entry p .pre .table .grammar .small);
+      entered = laws.root-entered (input p) _ (laws.entry-of (starts p) equal) (laws.chosen-of (starts p) equal) (given .table .grammar .small);
     }
 
 returns : tie.Need-returns
 returns c =
     let p = c .before .before .before in
-    runs p (begins p (c .before .begun .given .1) [] (entry p .args .cells .now))
+    runs p (laws.begins-as (starts p) (c .before .begun .given .1) [] (entry p .args .cells .now))
 
 returns-2 : tie.Need-returns-2
 returns-2 c =
     let root-place = c .before .before .before .before .before in
-    let begun-place = root-place .before .before .before .before .before in
+    let begun-place = root-place .before .before .before .before .before .before in
     let p = begun-place .before .before in
     let lent = entry p .args in
-    c .ended .ensures (input p) (let from-3 = root-place .root-items .last .1 .1 .1 in from-3 .1 .1 .0) (token-count (lent .tokens .now) (lent .n))
-    ∙ runs p (laws.run-root (input p) _ _ _ _ (begins p (begun-place .begun2 .given .1)) (lent .cells .now) (root-place .root-items .ensures))
+    let same = laws.cut-reading (lent .tokens .now) (lent .n) (entry p .pre .tokens-fit) (lent .table .now) (lent .cells .now) in
+    c .ended .ensures (input p) (root-place .root-items .last .0) (token-count (lent .tokens .now) (lent .n))
+    ∙ runs p (laws.call-of (starts p) (begun-place .begun2 .given .1) (lent .cells .now) (rw same at (root-place .root-items .ensures)))
 
 -- the function meets its contract
 pub run-spec : {M : Type 1} → statement M
 run-spec =
     tie.close
     (tie.spec
-    (λ c κs. search needs)
+    begin-root-requires
     (λ c. search needs)
     (λ c. search needs)
+    (λ c. search needs)
+    slice-aggregate-root-items
     root-items-requires
     (λ c κs. search needs)
     returns

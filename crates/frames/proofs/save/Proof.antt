@@ -1,4 +1,4 @@
--- `save`: 16 variables, one by one, then two numbers.
+-- `save`: 16 variables, one by one, then the four numbers of the activation.
 use Prim.Native.Nat.{_-_}
 use native.Mathlib.Omega.{arith}
 use lib.ListN.{length-set}
@@ -8,11 +8,11 @@ use Rattle.frames.proofs.save.Statement.{statement}
 use Rattle.frames.proofs.save.Tie as tie
 
 abbrev Inv-loop : tie.InvT-loop
-Inv-loop frames₀ level vars count next base i₀ frames i =
+Inv-loop frames₀ level vars call base i₀ frames i =
     laws.Saving frames₀ frames base vars i
 
 abbrev μ-loop : tie.MeasureT-loop
-μ-loop frames₀ level vars count next base i₀ frames i =
+μ-loop frames₀ level vars call base i₀ frames i =
     16 - i
 
 loop-holds : tie.Need-loop-holds Inv-loop μ-loop
@@ -25,7 +25,17 @@ loop-again c =
 
 slice-write-frames-3 : tie.Need-slice-write-frames-3 Inv-loop μ-loop
 slice-write-frames-3 c =
-    let l = c .before in
+    let l = c .before .before .before in
+    simp length-set (omega (arith, l .before .pre .0 .inside, l .loop .inv .long))
+
+slice-write-frames-4 : tie.Need-slice-write-frames-4 Inv-loop μ-loop
+slice-write-frames-4 c =
+    let l = c .before .before .before .before in
+    simp length-set (omega (arith, l .before .pre .0 .inside, l .loop .inv .long))
+
+slice-write-frames-5 : tie.Need-slice-write-frames-5 Inv-loop μ-loop
+slice-write-frames-5 c =
+    let l = c .before .before .before .before .before in
     simp length-set (omega (arith, l .before .pre .0 .inside, l .loop .inv .long))
 
 returns : tie.Need-returns Inv-loop μ-loop
@@ -56,5 +66,13 @@ save-spec =
     (λ c. search needs)
     (λ c. search needs)
     slice-write-frames-3
+    (λ c. search needs)
+    (λ c. search needs)
+    (λ c. search needs)
+    slice-write-frames-4
+    (λ c. search needs)
+    (λ c. search needs)
+    (λ c. search needs)
+    slice-write-frames-5
     (λ c. search needs)
     returns)

@@ -46,7 +46,7 @@ module _ (point : tie.After-build-arguments) where
   cells′ = let from-3 = point .build-arguments .last .1 .1 .1 in let from-6 = from-3 .1 .1 .1 in from-6 .1 .0
 
   lists : (input : Input) (values : List ℕ) → input .rows ≡ rowsLent (length (entry .args .cells .now))
-      → Holds (entry .args .vars .now) (entry .args .c .count) values
+      → Holds (entry .args .vars .now) (entry .args .c .call .count) values
       → Lists (entry .args .c .state) (point .build-arguments .result) out′ cells′
       (buildAll (found (templatesOf (drop 2 (entry .args .v .now)))) input values (entry .args .c .state) (entry .args .cells .now))
   lists input values er g = point .build-arguments .ensures .0 input (entry .args .c .state) values (er ∙ sym (rows-place .rows-of .ensures)) g

@@ -28,16 +28,16 @@ module _ (point : tie.After-front-at) where
     abbrev gives : Template → Result ℕ
     gives t = build t input values (entry .args .c .state) (entry .args .cells .now)
 
-    as-result : {template : Template} → template ≡ resultOf (fieldsAt (entry .args .table .now) (entry .args .c .at)) → {result : Result ℕ}
-        → result ≡ gives template → result ≡ gives (resultOf (fieldsAt (entry .args .table .now) (entry .args .c .at)))
+    as-result : {template : Template} → template ≡ resultOf (fieldsAt (entry .args .table .now) (entry .args .c .call .next)) → {result : Result ℕ}
+        → result ≡ gives template → result ≡ gives (resultOf (fieldsAt (entry .args .table .now) (entry .args .c .call .next)))
     as-result e f = f ∙ ap gives e
 
   module _ {tag size : ℕ} (equal : point .front-at .result ≡ Field tag size) where
-    stands : Field tag size ≡ frontOf (drop (entry .args .c .at) (entry .args .table .now))
+    stands : Field tag size ≡ frontOf (drop (entry .args .c .call .next) (entry .args .table .now))
     stands = sym equal ∙ point .front-at .ensures
 
-    inside : entry .args .c .at + (3 + size) ≤ length (entry .args .table .now)
-    inside = front-inside (entry .args .table .now) (entry .args .c .at) stands
+    inside : entry .args .c .call .next + (3 + size) ≤ length (entry .args .table .now)
+    inside = front-inside (entry .args .table .now) (entry .args .c .call .next) stands
 
 returns : tie.Need-returns
 returns c =

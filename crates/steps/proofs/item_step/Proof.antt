@@ -19,15 +19,15 @@ module _ (point : tie.After-front-at) where
   entry = point .before .before .before .before .before
 
   module _ {tag size : ℕ} (equal : point .front-at .result ≡ Field tag size) where
-    stands : Field tag size ≡ frontOf (drop (entry .args .c .at) (entry .args .table .now))
+    stands : Field tag size ≡ frontOf (drop (entry .args .c .call .next) (entry .args .table .now))
     stands = sym equal ∙ point .front-at .ensures
 
-    inside : entry .args .c .at + (3 + size) ≤ length (entry .args .table .now)
-    inside = front-inside (entry .args .table .now) (entry .args .c .at) stands
+    inside : entry .args .c .call .next + (3 + size) ≤ length (entry .args .table .now)
+    inside = front-inside (entry .args .table .now) (entry .args .c .call .next) stands
 
     item : tag ≡ 6
-        → ItemAt (entry .args .table .now) (entry .args .c .at) (laws.value (entry .args .table .now) (entry .args .c .at) stands)
-        (entry .args .c .at + 3 + size)
+        → ItemAt (entry .args .table .now) (entry .args .c .call .next) (laws.value (entry .args .table .now) (entry .args .c .call .next) stands)
+        (entry .args .c .call .next + 3 + size)
     item i = laws.item-at _ _ stands i (entry .pre .whole)
 
 returns : tie.Need-returns

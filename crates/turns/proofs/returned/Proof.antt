@@ -13,7 +13,7 @@ valued-requires c κs =
     let r = c .before in
     let known = r .before .before in
     let level = known .before .args .level in
-    omega (arith, known .shared-slice-known .given (level * frameSize + 16), ap (λ (d : Cursor). d .count) (r .resumed .ensures .cursor-is))
+    omega (arith, known .shared-slice-known .given (level * frameSize + 18), ap (λ (d : Cursor). d .call .count) (r .resumed .ensures .cursor-is))
 
 -- the function meets its contract
 pub returned-spec : {M : Type 1} → statement M
