@@ -27,6 +27,7 @@ use Rattle.productions.specs.Normal.{Production, normalized}
 use Rattle.clashes.specs.CheckFirsts.{checkFirsts}
 use Rattle.clashes.specs.FirstRefusals.{Says}
 use Rattle.clashes.proofs.ClashTheorems.{result-exactly}
+use Rattle.checker.specs.Syntax.{syntaxOf}
 use Rattle.checker.specs.Check.{passedTable, check}
 use Rattle.checker.specs.Passes.{grammarOf, Passes}
 use Rattle.checker.specs.Laid.{Laid}
@@ -75,7 +76,7 @@ same e = cc
 module _ (bs : List ℕ) (bytes : (place : ℕ) → getD bs place 0 < 256) where
   -- what the check refuses, part by part
   from-firsts : (table : Table) {cause : Refusal} → decode bs ≡ ok table → checkSorts table ≡ ok tt → (checked : Checked (Unit {0}))
-      → checkFirsts (grammarOf table) ≡ checked → verdict (checked >> ok table) ≡ Refused cause → RefusesTable bs cause
+      → checkFirsts (grammarOf table) ≡ checked → verdict (checked >> ok (syntaxOf table)) ≡ Refused cause → RefusesTable bs cause
   from-firsts table {cause} d s (ok u) e h = never cause (sym h)
   from-firsts table d s (bad q) e h =
       let (encoded, within) = decode-exactly bs bytes table .0 d in
@@ -83,14 +84,14 @@ module _ (bs : List ℕ) (bytes : (place : ℕ) → getD bs place 0 < 256) where
       (result-exactly (grammarOf table) (bad _) .0 (e ∙ ap bad (same h)))
 
   from-sorts : (table : Table) {cause : Refusal} → decode bs ≡ ok table → (checked : Checked (Unit {0})) → checkSorts table ≡ checked
-      → verdict (checked >> checkFirsts (grammarOf table) >> ok table) ≡ Refused cause → RefusesTable bs cause
+      → verdict (checked >> checkFirsts (grammarOf table) >> ok (syntaxOf table)) ≡ Refused cause → RefusesTable bs cause
   from-sorts table d (ok u) e h = from-firsts table d e (checkFirsts (grammarOf table)) refl h
   from-sorts table d (bad q) e h =
       let (encoded, within) = decode-exactly bs bytes table .0 d in
       unlaid (by-sorts encoded within (missorted-exactly table within _ .0 (e ∙ ap bad (same h))))
 
   from-layout : {cause : Refusal} (checked : Checked Table) → decode bs ≡ checked
-      → verdict (checked >>= λ t. checkSorts t >> checkFirsts (grammarOf t) >> ok t) ≡ Refused cause → RefusesTable bs cause
+      → verdict (checked >>= λ t. checkSorts t >> checkFirsts (grammarOf t) >> ok (syntaxOf t)) ≡ Refused cause → RefusesTable bs cause
   from-layout (ok t) e h = from-sorts t e (checkSorts t) refl h
   from-layout (bad q) e h = unlaid (by-layout (misplaced-exactly bs bytes _ .0 (e ∙ ap bad (same h))))
 

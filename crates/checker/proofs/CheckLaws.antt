@@ -26,6 +26,7 @@ use Rattle.productions.proofs.Places.{productions-at, whole-places}
 use Rattle.firsts.specs.Room.{productionsIn, tableRoom, WholeIndex}
 use Rattle.clashes.specs.CheckCalls.{FirstsChecked}
 use Rattle.productions.proofs.NormalizedByFields.{normalized-by}
+use Rattle.checker.specs.Syntax.{syntaxOf}
 use Rattle.checker.specs.Check.{passedTable, check}
 use Rattle.checker.specs.CheckedInto.{roomAfter, CheckedInto}
 use Rattle.checker.specs.Passes.{grammarOf}
@@ -109,7 +110,7 @@ module _ (bs : List ℕ) where
       unfolding check passedTable
       by-firsts =
           let t = encoded .0 in
-          cc (decoded, sorts-ok, verdict-then (checkFirsts (grammarOf t)) t, indexed)
+          cc (decoded, sorts-ok, verdict-then (checkFirsts (grammarOf t)) (syntaxOf t), indexed)
 
       room-written : (room : List ℕ) → roomAfter bs room ≡ overwritten (tableRoom bs) room
       unfolding roomAfter

@@ -25,29 +25,30 @@ use Rattle.judgements.specs.CheckSorts.{checkSorts}
 use Rattle.judgements.proofs.SortTheorems.{sorts-exactly, sort-refusals}
 use Rattle.clashes.specs.CheckFirsts.{checkFirsts}
 use Rattle.clashes.proofs.ClashTheorems.{passes-exactly, left-recursion-lowest, clash-lowest}
+use Rattle.checker.specs.Syntax.{Syntax, syntaxOf}
 use Rattle.checker.specs.Check.{passedTable, check}
 use Rattle.checker.specs.Passes.{grammarOf, Passes}
 use Rattle.checker.specs.Laid.{Laid}
 
 -- the table's rules, checked in order
-abbrev rules : Table → Checked Table
-rules t = checkSorts t >> checkFirsts (grammarOf t) >> ok t
+abbrev rules : Table → Checked Syntax
+rules t = checkSorts t >> checkFirsts (grammarOf t) >> ok (syntaxOf t)
 
 -- a refusal is no pass
 pub never : {A : Type 0} (cause : Refusal) → Refused cause ≡ Passed → A
 never cause e = let z : _≡_ {A = ℕ} 0 1 = cc in absurd (omega arith)
 
 -- both checks of a table passed
-both : (table : Table) (checked other : Checked (Unit {0})) → verdict (checked >> other >> ok table) ≡ Passed → (checked ≡ ok tt) × (other ≡ ok tt)
-both table (ok a) (ok b) e = (refl, refl)
-both table (ok a) (bad r) e = never r e
-both table (bad r) other e = never r e
+both : (syntax : Syntax) (checked other : Checked (Unit {0})) → verdict (checked >> other >> ok syntax) ≡ Passed → (checked ≡ ok tt) × (other ≡ ok tt)
+both syntax (ok a) (ok b) e = (refl, refl)
+both syntax (ok a) (bad r) e = never r e
+both syntax (bad r) other e = never r e
 
 module _ (bs : List ℕ) where
   -- the table that was decoded, with both checks passed
   accepted : (checked : Checked Table) → decode bs ≡ checked → verdict (checked >>= rules) ≡ Passed
       → (table : Table) × (decode bs ≡ ok table) × (checkSorts table ≡ ok tt) × (checkFirsts (grammarOf table) ≡ ok tt)
-  accepted (ok t) e h = let b = both t (checkSorts t) (checkFirsts (grammarOf t)) h in (t, e, b .0, b .1)
+  accepted (ok t) e h = let b = both (syntaxOf t) (checkSorts t) (checkFirsts (grammarOf t)) h in (t, e, b .0, b .1)
   accepted (bad r) e h = never r h
 
   accepts : (table : Table) → decode bs ≡ ok table → checkSorts table ≡ ok tt → checkFirsts (grammarOf table) ≡ ok tt → check bs ≡ Passed
@@ -134,14 +135,14 @@ module _ (bs : List ℕ) (bytes : (place : ℕ) → getD bs place 0 < 256) where
       passed-never e = never cause (sym e)
 
       by-firsts : (table : Table) → decode bs ≡ ok table → checkSorts table ≡ ok tt → (checked : Checked (Unit {0})) → checkFirsts (grammarOf table) ≡ checked
-          → verdict (checked >> ok table) ≡ Refused cause → (laid : Laid bs) × (checkFirsts (grammarOf (laid .table)) ≡ bad cause)
+          → verdict (checked >> ok (syntaxOf table)) ≡ Refused cause → (laid : Laid bs) × (checkFirsts (grammarOf (laid .table)) ≡ bad cause)
       by-firsts table d s (ok u) e h = passed-never h
       by-firsts table d s (bad q) e h =
           let w = decode-exactly bs bytes table .0 d in
           (record { table = table; encoded = w .0; within = w .1; sorted = sorts-exactly table (w .1) .0 s }, e ∙ ap bad (same h))
 
       by-sorts : (table : Table) → decode bs ≡ ok table → (checked : Checked (Unit {0})) → checkSorts table ≡ checked
-          → verdict (checked >> checkFirsts (grammarOf table) >> ok table) ≡ Refused cause
+          → verdict (checked >> checkFirsts (grammarOf table) >> ok (syntaxOf table)) ≡ Refused cause
           → (laid : Laid bs) × (checkFirsts (grammarOf (laid .table)) ≡ bad cause)
       by-sorts table d (ok u) e h = by-firsts table d e (checkFirsts (grammarOf table)) refl h
       by-sorts table d (bad q) e h = not-sort {number = q .number} (omega (arith, over, ap (λ (x : Refusal). x .number) (same h))) (sort-refusals table q e .0)
@@ -189,8 +190,8 @@ module _ (bs : List ℕ) (bytes : (place : ℕ) → getD bs place 0 < 256) where
 
 -- ------------------------------------------------------------------ the table of bytes that pass
 
--- Bytes that pass are those of the table whose rules they meet.
-pub passed-table : (bs : List ℕ) (passes : Passes bs) → passedTable bs ≡ ok (passes .table)
+-- Of bytes that pass the check hands on what an expansion needs of the table whose rules they meet.
+pub passed-table : (bs : List ℕ) (passes : Passes bs) → passedTable bs ≡ ok (syntaxOf (passes .table))
 unfolding passedTable
 passed-table bs passes =
     rw (

@@ -3,15 +3,15 @@ use Prim.Native.Nat.{ℕ}
 use mathlib.Core.List.{List}
 use Rattle.answers.specs.Checked.{Checked, ok, bad, _>>=_, _>>_, verdict}
 use Rattle.answers.specs.declared.Verdict.{Verdict}
-use Rattle.grammar.specs.Table.{Table}
 use Rattle.decoding.specs.Decode.{decode}
 use Rattle.judgements.specs.CheckSorts.{checkSorts}
 use Rattle.productions.specs.Normal.{normalized}
 use Rattle.clashes.specs.CheckFirsts.{checkFirsts}
+use Rattle.checker.specs.Syntax.{Syntax, syntaxOf}
 
--- the table that some bytes are, if it passes
-unfoldable pub passedTable : List ℕ → Checked Table
-passedTable bs = decode bs >>= λ t. checkSorts t >> checkFirsts (normalized (t .blocks)) >> ok t
+-- what an expansion needs of the table that some bytes are, if it passes
+unfoldable pub passedTable : List ℕ → Checked Syntax
+passedTable bs = decode bs >>= λ t. checkSorts t >> checkFirsts (normalized (t .blocks)) >> ok (syntaxOf t)
 
 -- what `check_table` answers
 unfoldable pub check : List ℕ → Verdict

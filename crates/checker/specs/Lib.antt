@@ -1,3 +1,4 @@
+pub mod Syntax
 pub mod Check
 pub mod Passes
 pub mod CheckedInto

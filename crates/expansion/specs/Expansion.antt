@@ -10,12 +10,12 @@ use lib.Count.{ones}
 use Rattle.answers.specs.Refusals.{refusal}
 use Rattle.kinds.specs.Kinds.{hasKind, only}
 use Rattle.grammar.specs.Sorts.{label}
-use Rattle.grammar.specs.Table.{Table, Template, Templates, variable, outsideVar, outsideLabel, make, none, more}
+use Rattle.grammar.specs.Table.{Template, Templates, variable, outsideVar, outsideLabel, make, none, more}
 use Rattle.grammar.specs.Table.{Terminal, keyword, ide, number, kindOf, Item, terminal, local, call}
 use Rattle.terms.specs.Cells.{columns, rowNumbers, rowsLent, wordName, freshName, outsideName}
 use Rattle.tokens.specs.declared.Token.{Token}
 use Rattle.tokens.specs.Tokens.{endToken}
-use Rattle.productions.specs.Normal.{Production, normalized}
+use Rattle.productions.specs.Normal.{Production}
 use Rattle.firsts.specs.FirstSets.{nullables, firstSets, firstOf, allPassed}
 use Rattle.expansion.specs.declared.State.{State}
 use Rattle.expansion.specs.Run.{Result, done, halt, Run, return, after, _>>=_}
@@ -58,9 +58,9 @@ pub record Input : Type 0 where
   pub tokens : List Token
   pub rows : ℕ
 
--- from a passed table, the tokens of a formula and the cells lent
-abbrev pub inputOf : Table → List Token → List ℕ → Input
-inputOf t tokens cells = record { grammar = ready (normalized (t .blocks)); tokens = tokens; rows = rowsLent (length cells) }
+-- from the productions of a passed table, the tokens of a formula and the cells lent
+abbrev pub inputOf : List Production → List Token → List ℕ → Input
+inputOf g tokens cells = record { grammar = ready g; tokens = tokens; rows = rowsLent (length cells) }
 
 -- ------------------------------------------------------------------ the next token
 

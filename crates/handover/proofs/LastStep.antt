@@ -1,16 +1,16 @@
 -- A parse's result, handed to the last step: it is given what it asks, and what it then answers and writes is what the expansion does.
 use Prim.Native.Nat.{ℕ, _*_, _≤_}
 use mathlib.Core.Path.{_≡_, sym, ap, _∙_}
-use mathlib.Core.List.{List, [], _++_}
+use mathlib.Core.List.{List, []}
 use native.Mathlib.Omega.{arith}
-use lib.ListN.{length, take, length-append}
-use lib.Seq.{sets, length-sets, length-take-le}
+use lib.ListN.{length, take}
+use lib.Seq.{length-sets, length-take-le}
 use Rattle.answers.specs.declared.Refusal.{Refusal}
 use Rattle.answers.specs.declared.Answer.{Answer}
 use Rattle.answers.specs.declared.Answer.the-variants.{Refusing}
 use Rattle.spellings.specs.Bytes.{isWord}
 use Rattle.grammar.specs.Limits.{most}
-use Rattle.grammar.specs.Table.{Lexicon, lexiconOfTable}
+use Rattle.grammar.specs.Table.{Lexicon}
 use Rattle.terms.specs.Cells.{columns, mostCells, rowsLent}
 use Rattle.terms.specs.Term.{Name, Term}
 use Rattle.terms.specs.Rows.{termAt}
@@ -19,9 +19,10 @@ use Rattle.terms.specs.Emit.{textOf, emitted}
 use Rattle.decoding.proofs.Split.{Bytes}
 use Rattle.tokens.specs.Scan.{Lexed, scan}
 use Rattle.tokens.specs.Tokens.{mostTokens, spelled}
-use Rattle.scanner.specs.Rooms.{tokenRows, wordPlaces, scanInto}
+use Rattle.scanner.specs.Rooms.{RoomFor, wordPlaces, scanInto}
 use Rattle.scanner.proofs.AfterScan.{Holds, scan-holds}
-use Rattle.checker.specs.Passes.{grammarOf, Passes}
+use Rattle.checker.specs.Syntax.{Syntax, syntaxOf}
+use Rattle.checker.specs.Passes.{Passes}
 use Rattle.writer.specs.Pool.{spelledBy}
 use Rattle.emitter.specs.Emittable.{Emittable}
 use Rattle.expansion.specs.declared.State.{State}
@@ -35,8 +36,7 @@ use Rattle.meaning.specs.Expand.{expanded, withCells, finished, expandTable, ex
 use Rattle.meaning.specs.Meaning as Meaning
 use Rattle.meaning.proofs.Stages as stages
 use Rattle.parser.specs.declared.Parsed.{Parsed}
-use Rattle.parser.specs.Parse.{WordRoom, parsedInto, parseInto}
-use Rattle.parser.proofs.Joining.{words-room}
+use Rattle.parser.specs.Parse.{Parseable, parsedInto, parseInto}
 use Rattle.handover.proofs.Naming as naming
 use Rattle.handover.proofs.Ending.{Ended, Reached, ended, refusing, reached}
 
@@ -49,19 +49,19 @@ pub record RowsLie (made : ℕ) (cells : List ℕ) : Type 0 where
 
 -- ------------------------------------------------------------------ a value
 
-module _ {bs : List ℕ} (bytes : Bytes bs) {formula words cells words′ cells′ : List ℕ} (room : WordRoom formula words) {row count : ℕ} {state : State}
-    (value : Reached bs formula words cells count row state words′ cells′) where
-  abbrev P : Passes bs
-  P = value .passes
+module _ {bs : List ℕ} (bytes : Bytes bs) (passes : Passes bs) {formula tokens words cells tokens′ words′ cells′ : List ℕ} (room : RoomFor formula tokens words)
+    {row count : ℕ} {state : State} (value : Reached (syntaxOf (passes .table)) formula tokens words cells count row state tokens′ words′ cells′) where
+  abbrev T : Passing (passes .table)
+  T = passingOf passes
 
-  abbrev T : Passing (P .table)
-  T = passingOf P
+  abbrev syntax : Syntax
+  syntax = syntaxOf (passes .table)
 
   abbrev lex : Lexicon
-  lex = lexiconOfTable (P .table)
+  lex = syntax .lexicon
 
   abbrev few : length (lex .outsides) ≤ most .outsides
-  few = P .within .outsideCount
+  few = passes .within .outsideCount
 
   abbrev lexed : Lexed
   lexed = scan lex formula
@@ -69,42 +69,32 @@ module _ {bs : List ℕ} (bytes : Bytes bs) {formula words cells words′ cells�
   abbrev spell : ℕ → List ℕ
   spell = spelled lex (lexed .words)
 
-  -- the words do not depend on the room for tokens: they are known by one of four numbers a byte of the formula
-  abbrev four : List ℕ
-  four = formula ++ formula ++ formula ++ formula
-
-  four-long : length four ≡ length formula * 4
-  four-long = omega (arith, length-append (formula ++ formula ++ formula) formula, length-append (formula ++ formula) formula, length-append formula formula)
-
-  holds : Holds lex few formula (sets four 0 (tokenRows (lexed .tokens))) words′ (value .many) count
-  unfolding scanInto
-  holds =
-      scan-holds lex few formula {tokens = four} {words = words} (record { for-tokens = λ n a b. omega (arith, four-long); for-words = words-room room })
-      (cc (value .answered, value .places))
+  holds : Holds lex few formula tokens′ words′ (value .many) count
+  holds = scan-holds lex few formula room (value .fills)
 
   -- the words are few, and lie in their room
   few-words : count ≤ mostTokens
   few-words = omega (arith, holds .few-words, holds .tokens-fit .few)
 
   words-lie : count * 2 ≤ length words′
+  unfolding scanInto
   words-lie =
-      let short : value .many ≤ length formula = omega (arith, holds .tokens-fit .long, length-sets four 0 (tokenRows (lexed .tokens)), four-long) in
-      let kept : length words′ ≡ length words = ap length (value .places) ∙ length-sets words 0 (wordPlaces 0 (lexed .tokens)) in
-      omega (arith, kept, words-room room count (omega (arith, short, holds .few-words)) few-words)
+      let kept : length words′ ≡ length words = cc (value .fills, length-sets words 0 (wordPlaces 0 (lexed .tokens))) in
+      omega (arith, kept, room .for-words count (omega (arith, holds .few-words, holds .few-tokens)) few-words)
 
-  abbrev S : Meaning.Scans (P .table) formula (lexed .tokens) (lexed .words)
-  S = stages.scans-of (P .table) T formula (value .answered)
+  abbrev S : Meaning.Scans syntax formula (lexed .tokens) (lexed .words)
+  S = stages.scans-of (passes .table) T formula (value .answered)
 
   abbrev L : Lexemes
   L = record { spell = spell; tokens = lexed .tokens; small = expansion.scanned-is-small lex few formula }
 
-  derived : Figure3.Parses (grammarOf (P .table)) spell (P .table .root) (lexed .tokens) (termAt (state .made) spell cells′ row)
-  derived = expansion.accepted-is-derived (P .table) T L (rowsLent (length cells)) cells (omega arith) row state cells′ (value .runs)
+  derived : Figure3.Parses (syntax .productions) spell (syntax .root) (lexed .tokens) (termAt (state .made) spell cells′ row)
+  derived = expansion.accepted-is-derived (passes .table) T L (rowsLent (length cells)) cells (omega arith) row state cells′ (value .runs)
 
   leaves : (state .made ≤ rowsLent (length cells)) × (length cells′ ≡ length cells)
       × (termAt (state .made) spell (take (state .made * columns) cells′) row ≡ termAt (state .made) spell cells′ row)
   leaves =
-      let l = expansion.accepted-leaves (P .table) T L (rowsLent (length cells)) cells (omega arith) (value .runs) in
+      let l = expansion.accepted-leaves (passes .table) T L (rowsLent (length cells)) cells (omega arith) (value .runs) in
       (l .few, l .as-many, l .same)
 
   lie : RowsLie (state .made) cells′
@@ -112,13 +102,13 @@ module _ {bs : List ℕ} (bytes : Bytes bs) {formula words cells words′ cells�
 
   named : WellNamed spell (termAt (state .made) spell cells′ row)
   named =
-      naming.placed-named spell few (expansion.derived-is-supplied (P .table) T L derived)
-      (λ w a k. ap isWord (stages.words-as-written (P .table) T formula S w a k) ∙ stages.spelled-at (P .table) T formula S w a k .is-word)
-      (λ n l. ap isWord (stages.outsides-as-listed (P .table) T formula S n l) ∙ stages.each-getD (P .within .outsides) n [] l)
-      (expansion.derived-is-placed (P .table) T L derived)
+      naming.placed-named spell few (expansion.derived-is-supplied (passes .table) T L derived)
+      (λ w a k. ap isWord (stages.words-as-written (passes .table) T formula S w a k) ∙ stages.spelled-at (passes .table) T formula S w a k .is-word)
+      (λ n l. ap isWord (stages.outsides-as-listed (passes .table) T formula S n l) ∙ stages.each-getD (passes .within .outsides) n [] l)
+      (expansion.derived-is-placed (passes .table) T L derived)
 
   abbrev spelled-is : spelledBy bs formula words′ count ≡ spell
-  spelled-is = naming.spelled-by bs bytes P formula words′ (value .answered) (holds .words-are)
+  spelled-is = naming.spelled-by bs bytes passes formula words′ (value .answered) (holds .words-are)
 
   -- the term in the rows made, with the spellings that the last step reads
   term-is : termAt (state .made) (spelledBy bs formula words′ count) (take (state .made * columns) cells′) row ≡ termAt (state .made) spell cells′ row
@@ -132,9 +122,9 @@ module _ {bs : List ℕ} (bytes : Bytes bs) {formula words cells words′ cells�
       record {
         few = few-words;
         lie = words-lie;
-        outsidesFit = naming.outsides-fit bs bytes P;
-        wordsFit = naming.words-fit bs bytes P formula words′ (value .answered) (holds .words-are);
-        distinct = naming.distinct bs bytes P formula words′ (value .answered) (holds .words-are);
+        outsidesFit = naming.outsides-fit bs bytes passes;
+        wordsFit = naming.words-fit bs bytes passes formula words′ (value .answered) (holds .words-are);
+        distinct = naming.distinct bs bytes passes formula words′ (value .answered) (holds .words-are);
         whole = record { few = omega (arith, long, lie .few); whole = omega (arith, long) };
         rowsLie = omega (arith, long);
         wellNamed =
@@ -144,7 +134,7 @@ module _ {bs : List ℕ} (bytes : Bytes bs) {formula words cells words′ cells�
   -- an expansion that reaches a value is the last step on it
   finishes : (text : List ℕ) → expand bs formula cells text ≡ finished spell text (done row state cells′)
   unfolding expandTable
-  finishes text = stages.expand-passed bs P formula cells text ∙ rw (value .answered, value .runs)
+  finishes text = stages.expand-passed bs passes formula cells text ∙ rw (value .answered, value .runs)
 
   writes : (text : List ℕ) {answer : Answer} {text′ : List ℕ}
       → emitted textOf (state .made) (termAt (state .made) (spelledBy bs formula words′ count) (take (state .made * columns) cells′) row) text
@@ -154,33 +144,39 @@ module _ {bs : List ℕ} (bytes : Bytes bs) {formula words cells words′ cells�
       sym
       (finishes text ∙ ap (λ (u : Term Name). withCells cells′ (emitted textOf (state .made) u text)) (sym term-is) ∙ ap (withCells cells′) e)
 
--- ------------------------------------------------------------------ a parse by size, handed over
+-- ------------------------------------------------------------------ a parse, handed over
 
-module _ (bs : List ℕ) (bytes : Bytes bs) {formula words : List ℕ} (room : WordRoom formula words) (cells : List ℕ) {words′ cells′ : List ℕ} {parsed : Parsed}
-    (whole : parsedInto parsed [] words′ cells′ ≡ parseInto bs formula [] words cells) where
-  ends : {outcome : Outcome} → parsed .outcome ≡ outcome → Ended bs formula words cells (parsed .words) words′ cells′ outcome
-  ends e = rw e at (ended bs formula words cells [] bytes whole)
+module _ (bs : List ℕ) (bytes : Bytes bs) {room formula tokens words : List ℕ} (asked : Parseable bs room formula tokens words) (cells : List ℕ)
+    {tokens′ words′ cells′ : List ℕ} {parsed : Parsed}
+    (whole : (P : Passes bs) → parsedInto parsed tokens′ words′ cells′ ≡ parseInto (syntaxOf (P .table)) formula tokens words cells) where
+  abbrev passed : Passes bs
+  passed = asked .checked .passes
+
+  ends : {outcome : Outcome} → parsed .outcome ≡ outcome
+      → Ended (syntaxOf (passed .table)) formula tokens words cells (parsed .words) tokens′ words′ cells′ outcome
+  ends e = rw e at (ended (syntaxOf (passed .table)) formula tokens words cells (whole passed))
 
   -- A call whose parse refuses.
   pub call-refuses : (text : List ℕ) {refusal : Refusal} → parsed .outcome ≡ Halted refusal
       → expanded (Refusing refusal) cells′ text ≡ expand bs formula cells text
-  call-refuses text e = sym (refusing bs formula words cells (ends e) text)
+  call-refuses text e =
+      sym (stages.expand-passed bs passed formula cells text ∙ refusing (syntaxOf (passed .table)) formula tokens words cells (ends e) text)
 
   module _ {row : ℕ} {state : State} (value : parsed .outcome ≡ Value row state) where
-    abbrev at-value : Reached bs formula words cells (parsed .words) row state words′ cells′
-    at-value = reached bs formula words cells (ends value)
+    abbrev at-value : Reached (syntaxOf (passed .table)) formula tokens words cells (parsed .words) row state tokens′ words′ cells′
+    at-value = reached (syntaxOf (passed .table)) formula tokens words cells (ends value)
 
     -- The rows made lie in the cells.
     pub rows-lie : RowsLie (state .made) cells′
-    rows-lie = lie bytes room at-value
+    rows-lie = lie bytes passed (asked .rooms) at-value
 
     -- The last step is given what it asks.
     pub emittable : Emittable bs formula words′ (parsed .words) (take (state .made * columns) cells′) (state .made) row
-    emittable = given bytes room at-value
+    emittable = given bytes passed (asked .rooms) at-value
 
     -- What the last step answers and writes is what the expansion does.
     pub emits : (text : List ℕ) {answer : Answer} {text′ : List ℕ}
         → emitted textOf (state .made) (termAt (state .made) (spelledBy bs formula words′ (parsed .words)) (take (state .made * columns) cells′) row) text
         ≡ record { answer = answer; text = text′ }
         → expanded answer cells′ text′ ≡ expand bs formula cells text
-    emits = writes bytes room at-value
+    emits = writes bytes passed (asked .rooms) at-value

@@ -7,7 +7,7 @@ use native.Mathlib.Omega.{arith}
 use lib.ListN.{length, getD}
 use Rattle.grammar.specs.Limits.{most}
 use Rattle.spellings.specs.Bytes.{isWord}
-use Rattle.grammar.specs.Table.{Lexicon, lexiconOfTable}
+use Rattle.grammar.specs.Table.{Lexicon}
 use Rattle.grammar.specs.Lookup.{lexiconOf}
 use Rattle.decoding.specs.Within.{Each, each-none, each-more, Different, different-none, different-more, Among}
 use Rattle.decoding.proofs.Split.{Bytes}
@@ -29,6 +29,7 @@ use Rattle.soundness.specs.Places.{binder-local, Placed, placed-variable, place
 use Rattle.soundness.specs.Places.{placed-nil, placed-cons}
 use Rattle.soundness.specs.Places.{Supplied, supplied-word, supplied-outside}
 use Rattle.soundness.proofs.Normalizing as normalizing
+use Rattle.checker.specs.Syntax.{syntaxOf}
 use Rattle.checker.specs.Passes.{Passes}
 use Rattle.parser.proofs.Joining.{lexicon-passed}
 
@@ -103,12 +104,12 @@ module _ (bs : List ℕ) (bytes : Bytes bs) (passes : Passes bs) where
   outsides-fit number =
       rw (lexicon-passed bytes passes) (short-words (passes .table .outsides) (λ i l. each-at (passes .within .outsides) i [] l) number)
 
-  module _ (formula words : List ℕ) {many count : ℕ} (answered : scan (lexiconOfTable (passes .table)) formula .answer ≡ Tokens many count)
-      (words-are : wordsIn formula words count ≡ scan (lexiconOfTable (passes .table)) formula .words) where
-    words-list : Words formula words count (scan (lexiconOfTable (passes .table)) formula .words)
+  module _ (formula words : List ℕ) {many count : ℕ} (answered : scan (syntaxOf (passes .table) .lexicon) formula .answer ≡ Tokens many count)
+      (words-are : wordsIn formula words count ≡ scan (syntaxOf (passes .table) .lexicon) formula .words) where
+    words-list : Words formula words count (scan (syntaxOf (passes .table) .lexicon) formula .words)
     words-list =
         record {
-          many = sym (tokens-counted (lexiconOfTable (passes .table)) (passes .within .outsideCount) formula answered .1);
+          many = sym (tokens-counted (syntaxOf (passes .table) .lexicon) (passes .within .outsideCount) formula answered .1);
           each =
               λ i l.
               let z : 0 + i ≡ i = omega arith in
@@ -116,26 +117,26 @@ module _ (bs : List ℕ) (bytes : Bytes bs) (passes : Passes bs) where
         }
 
     -- The spellings that the last step reads are those of the formula's words and the table's outside names.
-    pub spelled-by : spelledBy bs formula words count ≡ spelled (lexiconOfTable (passes .table)) (scan (lexiconOfTable (passes .table)) formula .words)
+    pub spelled-by : spelledBy bs formula words count ≡ spelled (syntaxOf (passes .table) .lexicon) (scan (syntaxOf (passes .table) .lexicon) formula .words)
     spelled-by =
-        spelled-lists bs formula words (scan (lexiconOfTable (passes .table)) formula .words) words-list
-        ∙ ap (λ (l : Lexicon). spelled l (scan (lexiconOfTable (passes .table)) formula .words)) (lexicon-passed bytes passes)
+        spelled-lists bs formula words (scan (syntaxOf (passes .table) .lexicon) formula .words) words-list
+        ∙ ap (λ (l : Lexicon). spelled l (scan (syntaxOf (passes .table) .lexicon) formula .words)) (lexicon-passed bytes passes)
 
     -- So has a word of the formula.
     pub words-fit : (index : ℕ) → index < count → length (spanned formula words index) < spellingRoom
     words-fit index l =
-        let plain = scan-plain (lexiconOfTable (passes .table)) (passes .within .outsideCount) formula in
+        let plain = scan-plain (syntaxOf (passes .table) .lexicon) (passes .within .outsideCount) formula in
         let at = words-list .each index l in
         omega (
           arith,
-          word-length (getD (scan (lexiconOfTable (passes .table)) formula .words) index []) (plain .are-words index (omega (arith, words-list .many))),
+          word-length (getD (scan (syntaxOf (passes .table) .lexicon) formula .words) index []) (plain .are-words index (omega (arith, words-list .many))),
           ap length at,
         )
 
     -- Different numbers stand for different spellings.
     pub distinct : Distinct (spelledBy bs formula words count)
     distinct =
-        let plain = scan-plain (lexiconOfTable (passes .table)) (passes .within .outsideCount) formula in
+        let plain = scan-plain (syntaxOf (passes .table) .lexicon) (passes .within .outsideCount) formula in
         rw spelled-by
-        (apart-lists (lexiconOfTable (passes .table)) (scan (lexiconOfTable (passes .table)) formula .words)
+        (apart-lists (syntaxOf (passes .table) .lexicon) (scan (syntaxOf (passes .table) .lexicon) formula .words)
         (different-once (passes .within .outsidesDiffer)) (plain .once) (plain .no-outside))

@@ -10,9 +10,10 @@ use Rattle.answers.specs.declared.Answer.the-variants.{Accepted, Refusing}
 use Rattle.answers.specs.declared.Verdict.the-variants.{Refused}
 use Rattle.answers.specs.Refusals.{refusal}
 use Rattle.answers.specs.Checked.{Checked, ok, bad, verdict}
-use Rattle.grammar.specs.Table.{Table, lexiconOfTable}
+use Rattle.grammar.specs.Table.{Table}
 use Rattle.tokens.specs.Unscanned.{Unscans}
 use Rattle.tokens.specs.declared.Token.{Token}
+use Rattle.checker.specs.Syntax.{Syntax, syntaxOf}
 use Rattle.checker.specs.Check.{passedTable, check}
 use Rattle.checker.specs.Passes.{grammarOf, Passes}
 use Rattle.checker.proofs.TableTheorems.{check-exactly}
@@ -97,7 +98,7 @@ module _ (table : List ℕ) (bytes : (place : ℕ) → getD table place 0 < 256)
   unfolding check expand
   not-passed n = go (passedTable table) refl
     where
-      go : (checked : Checked Table) → passedTable table ≡ checked
+      go : (checked : Checked Syntax) → passedTable table ≡ checked
           → (cause : Refusal) × (check table ≡ Refused cause) × (checkedFirst (passedTable table) formula cells text ≡ refused cause cells text)
       go (ok t) e = absurd (n (check-exactly table bytes .0 (ap verdict e)))
       go (bad r) e = (r, ap verdict e, rw e)
@@ -105,30 +106,33 @@ module _ (table : List ℕ) (bytes : (place : ℕ) → getD table place 0 < 256)
 -- ------------------------------------------------------------------ an expansion
 
 module _ (table : Table) (passing : Passing table) (formula cells text : List ℕ) where
+  abbrev syntax : Syntax
+  syntax = syntaxOf table
+
   abbrev X : Expanded
-  X = expandTable table formula cells text
+  X = expandTable syntax formula cells text
 
   -- ------------------------------------------------------------------ every cause, and acceptance
 
-  cause-last : {meant : Term Name} {cells′ : List ℕ} {expanded : Expanded} (means-within : MeansWithin table formula cells meant)
+  cause-last : {meant : Term Name} {cells′ : List ℕ} {expanded : Expanded} (means-within : MeansWithin syntax formula cells meant)
       → Finish (cellsOf means-within) meant cells′ text expanded → (cause : Refusal)
-      → expanded .answer ≡ Refusing cause → Cause table formula cells text cause
-  cause-last means-within (too-big b) cause e = subst (Cause table formula cells text) (same-refusal e) (Meaning.too-large means-within (omega arith))
+      → expanded .answer ≡ Refusing cause → Cause syntax formula cells text cause
+  cause-last means-within (too-big b) cause e = subst (Cause syntax formula cells text) (same-refusal e) (Meaning.too-large means-within (omega arith))
   cause-last {meant = meant} means-within (is-loose s l) cause e =
-      subst (Cause table formula cells text) (same-refusal e)
+      subst (Cause syntax formula cells text) (same-refusal e)
       (Meaning.is-loose means-within s (occurs [] 0 meant) (subst (Says (occurrences [] 0 meant)) l (loose-says (occurrences [] 0 meant))))
   cause-last {meant = meant} means-within (too-long s l b) cause e =
-      subst (Cause table formula cells text) (same-refusal e)
+      subst (Cause syntax formula cells text) (same-refusal e)
       (Meaning.text-too-long means-within s (occurs [] 0 meant) (subst (Says (occurrences [] 0 meant)) l (loose-says (occurrences [] 0 meant))) (omega arith))
   cause-last means-within (prints s l b) cause e = never e
 
   cause-of : {expanded : Expanded} → Stage table passing formula cells text expanded → (cause : Refusal) → expanded .answer ≡ Refusing cause
-      → Cause table formula cells text cause
-  cause-of (in-scan u) cause a = subst (Cause table formula cells text) (same-refusal a) (unscanned u)
-  cause-of (in-parse S e h) cause a = subst (Cause table formula cells text) (same-refusal a) (stopped S h)
+      → Cause syntax formula cells text cause
+  cause-of (in-scan u) cause a = subst (Cause syntax formula cells text) (same-refusal a) (unscanned u)
+  cause-of (in-parse S e h) cause a = subst (Cause syntax formula cells text) (same-refusal a) (stopped S h)
   cause-of (at-last E R f) cause a = cause-last E f cause a
 
-  answer-of : {cause : Refusal} → Cause table formula cells text cause → X .answer ≡ Refusing cause
+  answer-of : {cause : Refusal} → Cause syntax formula cells text cause → X .answer ≡ Refusing cause
   answer-of (unscanned u) = rw (unscanned-ends table passing formula cells text u)
   answer-of (stopped S h) = rw (stopped-ends table passing formula cells text S h .1)
   answer-of (Meaning.too-large E b) = large-answer (meant-ends table passing formula cells text E .1) b
@@ -136,12 +140,12 @@ module _ (table : Table) (passing : Passing table) (formula cells text : List �
   answer-of (Meaning.text-too-long E s o n b) = long-answer (meant-ends table passing formula cells text E .1) s (none-places o n) b
 
   -- A refusal is given exactly in its case.
-  pub refused-exactly : (cause : Refusal) → (X .answer ≡ Refusing cause) ↔ Cause table formula cells text cause
+  pub refused-exactly : (cause : Refusal) → (X .answer ≡ Refusing cause) ↔ Cause syntax formula cells text cause
   refused-exactly cause = (cause-of (stages table passing formula cells text) cause, answer-of)
 
   accepts-last : {meant : Term Name} {cells′ : List ℕ} {expanded : Expanded} {made constructors text-size : ℕ}
-      (means-within : MeansWithin table formula cells meant) → Finish (cellsOf means-within) meant cells′ text expanded
-      → expanded .answer ≡ Accepted made constructors text-size → Accepts table formula cells text meant made constructors text-size
+      (means-within : MeansWithin syntax formula cells meant) → Finish (cellsOf means-within) meant cells′ text expanded
+      → expanded .answer ≡ Accepted made constructors text-size → Accepts syntax formula cells text meant made constructors text-size
   accepts-last means-within (too-big b) e = never (sym e)
   accepts-last means-within (is-loose s l) e = never (sym e)
   accepts-last means-within (too-long s l b) e = never (sym e)
@@ -159,14 +163,14 @@ module _ (table : Table) (passing : Passing table) (formula cells text : List �
       }
 
   accepts-of : {expanded : Expanded} {made constructors text-size : ℕ} → Stage table passing formula cells text expanded
-      → expanded .answer ≡ Accepted made constructors text-size → (meant : Term Name) × Accepts table formula cells text meant made constructors text-size
+      → expanded .answer ≡ Accepted made constructors text-size → (meant : Term Name) × Accepts syntax formula cells text meant made constructors text-size
   accepts-of (in-scan u) e = never (sym e)
   accepts-of (in-parse S h k) e = never (sym e)
   accepts-of (at-last {core-term = u} E R f) e = (u, accepts-last E f e)
 
   -- A formula is accepted exactly if a term of it is, with these values.
   pub accepted-exactly : (made constructors text-size : ℕ) → (X .answer ≡ Accepted made constructors text-size)
-      ↔ ((meant : Term Name) × Accepts table formula cells text meant made constructors text-size)
+      ↔ ((meant : Term Name) × Accepts syntax formula cells text meant made constructors text-size)
   accepted-exactly made constructors text-size = (
     accepts-of (stages table passing formula cells text),
     λ d.
@@ -178,14 +182,14 @@ module _ (table : Table) (passing : Passing table) (formula cells text : List �
   -- ------------------------------------------------------------------ what is handed back
 
   text-of : {expanded : Expanded} {made constructors text-size : ℕ} → Stage table passing formula cells text expanded
-      → expanded .answer ≡ Accepted made constructors text-size → {meant : Term Name} → Means table formula meant
+      → expanded .answer ≡ Accepted made constructors text-size → {meant : Term Name} → Means syntax formula meant
       → expanded .text ≡ print (rename meant) ++ drop (length (print (rename meant))) text
   text-of (in-scan u) e M = never (sym e)
   text-of (in-parse S h k) e M = never (sym e)
   text-of (at-last E R f) e M = rw (means-one table passing formula M (E .means)) (prints-of f e .4)
 
   -- The text of an acceptance is the term, renamed and printed, and what was lent behind it.
-  pub accepted-text : (made constructors text-size : ℕ) → X .answer ≡ Accepted made constructors text-size → {meant : Term Name} → Means table formula meant
+  pub accepted-text : (made constructors text-size : ℕ) → X .answer ≡ Accepted made constructors text-size → {meant : Term Name} → Means syntax formula meant
       → X .text ≡ print (rename meant) ++ drop (length (print (rename meant))) text
   accepted-text made constructors text-size = text-of (stages table passing formula cells text)
 
@@ -204,8 +208,8 @@ module _ (table : Table) (passing : Passing table) (formula cells text : List �
 
   -- the cells of an acceptance show its term
   cells-of : {expanded : Expanded} → Stage table passing formula cells text expanded → (cells-made constructors text-size : ℕ)
-      → expanded .answer ≡ Accepted cells-made constructors text-size → {meant : Term Name} (means : Means table formula meant)
-      → ((row : ℕ) × (row < cells-made) × (termAt cells-made (spellOf table (means .words)) (take (cells-made * columns) (expanded .cells)) row ≡ meant))
+      → expanded .answer ≡ Accepted cells-made constructors text-size → {meant : Term Name} (means : Means syntax formula meant)
+      → ((row : ℕ) × (row < cells-made) × (termAt cells-made (spellOf syntax (means .words)) (take (cells-made * columns) (expanded .cells)) row ≡ meant))
       × ((other : ℕ) → other < cells-made → IsCode (column (expanded .cells) other 0))
   cells-of (in-scan u) cells-made constructors text-size q means = never (sym q)
   cells-of (in-parse S h k) cells-made constructors text-size q means = never (sym q)
@@ -216,8 +220,8 @@ module _ (table : Table) (passing : Passing table) (formula cells text : List �
 
   -- A row of the cells made by an acceptance shows the term, and each of them has the code of a constructor.
   pub accepted-cells : (made constructors text-size : ℕ) → X .answer ≡ Accepted made constructors text-size
-      → {meant : Term Name} (means : Means table formula meant)
-      → ((row : ℕ) × (row < made) × (termAt made (spellOf table (means .words)) (take (made * columns) (X .cells)) row ≡ meant))
+      → {meant : Term Name} (means : Means syntax formula meant)
+      → ((row : ℕ) × (row < made) × (termAt made (spellOf syntax (means .words)) (take (made * columns) (X .cells)) row ≡ meant))
       × ((other : ℕ) → other < made → IsCode (column (X .cells) other 0))
   accepted-cells = cells-of (stages table passing formula cells text)
 
@@ -237,20 +241,20 @@ module _ (table : Table) (passing : Passing table) (formula cells text : List �
   text-kept = text-left (stages table passing formula cells text)
 
   -- 14, 15 and 16 leave the cells as they were.
-  pub cells-kept : (cause : Refusal) → Unscans (lexiconOfTable table) formula cause → X .cells ≡ cells
+  pub cells-kept : (cause : Refusal) → Unscans (syntax .lexicon) formula cause → X .cells ≡ cells
   cells-kept cause u = rw (unscanned-ends table passing formula cells text u)
 
   ran : (ts : List Token) {result : Result ℕ} → RunsTo table passing formula cells text ts result → Leaves (rowsLent (length cells)) 0 cells result
-  ran ts e = subst (Leaves (rowsLent (length cells)) 0 cells) e (run-leaves (rowsLent (length cells)) (inputOf table ts cells) refl (table .root) cells)
+  ran ts e = subst (Leaves (rowsLent (length cells)) 0 cells) e (run-leaves (rowsLent (length cells)) (inputOf (grammarOf table) ts cells) refl (table .root) cells)
 
   -- Where a term is derived within the limits, the numbers behind the cells that it costs are as lent.
-  pub cells-behind : {meant : Term Name} (means-within : MeansWithin table formula cells meant) → Left (cellsOf means-within) cells (X .cells)
+  pub cells-behind : {meant : Term Name} (means-within : MeansWithin syntax formula cells meant) → Left (cellsOf means-within) cells (X .cells)
   cells-behind means-within =
       let q = meant-reached table passing formula cells text means-within in
       let behind = ran (means-within .means .tokens) (q .3 .runs) .2 in
       rw (finish-cells (q .4), ← q .3 .made-is) behind
 
   -- Where the rules stop with 17 to 21, the numbers behind the cells made by then are as lent.
-  pub cells-left : {cause : Refusal} {made : ℕ} {ts : List Token} {ws : List (List ℕ)} → Scans table formula ts ws
-      → Refuses (grammarOf table) (spellOf table ws) (rowsLent (length cells)) ts (table .root) cause made → Left made cells (X .cells)
+  pub cells-left : {cause : Refusal} {made : ℕ} {ts : List Token} {ws : List (List ℕ)} → Scans syntax formula ts ws
+      → Refuses (grammarOf table) (spellOf syntax ws) (rowsLent (length cells)) ts (table .root) cause made → Left made cells (X .cells)
   cells-left scans h = let q = stopped-ends table passing formula cells text scans h in rw (q .1) (q .2)

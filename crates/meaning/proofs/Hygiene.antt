@@ -6,6 +6,7 @@ use lib.ListN.{length, getD}
 use Rattle.answers.specs.declared.Answer.{Answer}
 use Rattle.grammar.specs.Table.{Item, Table, Lexicon}
 use Rattle.tokens.specs.declared.Token.{Token}
+use Rattle.checker.specs.Syntax.{Syntax, syntaxOf}
 use Rattle.checker.specs.Passes.{Passes}
 use Rattle.soundness.specs.Passing.{Passing, passingOf}
 use Rattle.soundness.proofs.Placing.{parses-placed}
@@ -27,7 +28,10 @@ use Rattle.meaning.proofs.Stages as Stages
 -- ------------------------------------------------------------------ demand 3
 
 module _ (table : Table) (passing : Passing table) (formula cells text : List ℕ) where
-  hygienic : {meant : Term Name} → Means table formula meant → loosePlaces (occurrences [] 0 meant) ≡ [] → Hygienic table formula meant (print (rename meant))
+  abbrev syntax : Syntax
+  syntax = syntaxOf table
+
+  hygienic : {meant : Term Name} → Means syntax formula meant → loosePlaces (occurrences [] 0 meant) ≡ [] → Hygienic syntax formula meant (print (rename meant))
   hygienic {meant} M none =
       let words = worded table passing formula (M .scans) (M .parsed) in
       record {
@@ -48,9 +52,9 @@ module _ (table : Table) (passing : Passing table) (formula cells text : List �
       }
 
   abbrev EndsAs : Expanded → Type 0
-  EndsAs x = Ends table formula cells text (x .answer) (x .text)
+  EndsAs x = Ends syntax formula cells text (x .answer) (x .text)
 
-  ends-last : {meant : Term Name} {cells′ : List ℕ} {given-expanded : Expanded} (means-within : MeansWithin table formula cells meant)
+  ends-last : {meant : Term Name} {cells′ : List ℕ} {given-expanded : Expanded} (means-within : MeansWithin syntax formula cells meant)
       → Finish (cellsOf means-within) meant cells′ text given-expanded → EndsAs given-expanded
   ends-last means-within (too-big b) = refuses (Meaning.too-large means-within b)
   ends-last {meant = meant} means-within (is-loose s l) =
@@ -77,7 +81,7 @@ module _ (table : Table) (passing : Passing table) (formula cells text : List �
   ends-stage (in-parse S e h) = refuses (Meaning.stopped S h)
   ends-stage (at-last E R f) = ends-last E f
 
-  table-ends : EndsAs (expandTable table formula cells text)
+  table-ends : EndsAs (expandTable syntax formula cells text)
   table-ends = ends-stage (stages table passing formula cells text)
 
 -- Whatever an expansion answers, it meets demand 3.

@@ -6,11 +6,11 @@ use Rattle.answers.specs.declared.Refusal.{Refusal}
 use Rattle.answers.specs.declared.Answer.{Answer}
 use Rattle.answers.specs.declared.Answer.the-variants.{Refusing}
 use Rattle.answers.specs.Checked.{Checked, ok, bad}
-use Rattle.grammar.specs.Table.{Table, lexiconOfTable}
 use Rattle.tokens.specs.declared.Scanned.{Scanned}
 use Rattle.tokens.specs.declared.Scanned.the-variants.{Tokens, Unscanned}
 use Rattle.tokens.specs.Scan.{Lexed, scan}
 use Rattle.tokens.specs.Tokens.{spelled}
+use Rattle.checker.specs.Syntax.{Syntax}
 use Rattle.checker.specs.Check.{passedTable}
 use Rattle.expansion.specs.Run.{Result, done, halt}
 use Rattle.expansion.specs.Expansion.{inputOf, run}
@@ -43,21 +43,21 @@ finished spelling text (halt r cells) = refused r cells text
 finished spelling text (done v s cells) =
     withCells cells (emitted textOf (s .made) (termAt (s .made) spelling cells v) text)
 
-abbrev pub scanned : Table → Lexed → Scanned → List ℕ → List ℕ → Expanded
-scanned t l (Unscanned r) cells text = refused r cells text
-scanned t l (Tokens n m) cells text =
-    finished (spelled (lexiconOfTable t) (l .words)) text (run (inputOf t (l .tokens) cells) (t .root) cells)
+abbrev pub scanned : Syntax → Lexed → Scanned → List ℕ → List ℕ → Expanded
+scanned syntax l (Unscanned r) cells text = refused r cells text
+scanned syntax l (Tokens n m) cells text =
+    finished (spelled (syntax .lexicon) (l .words)) text (run (inputOf (syntax .productions) (l .tokens) cells) (syntax .root) cells)
 
-unfoldable pub expandTable : Table → List ℕ → List ℕ → List ℕ → Expanded
-expandTable t formula cells text =
-    let l : Lexed = scan (lexiconOfTable t) formula in
-    scanned t l (l .answer) cells text
+unfoldable pub expandTable : Syntax → List ℕ → List ℕ → List ℕ → Expanded
+expandTable syntax formula cells text =
+    let l : Lexed = scan (syntax .lexicon) formula in
+    scanned syntax l (l .answer) cells text
 
 -- ------------------------------------------------------------------ from bytes to bytes
 
-abbrev pub checkedFirst : Checked Table → List ℕ → List ℕ → List ℕ → Expanded
+abbrev pub checkedFirst : Checked Syntax → List ℕ → List ℕ → List ℕ → Expanded
 checkedFirst (bad r) formula cells text = refused r cells text
-checkedFirst (ok t) formula cells text = expandTable t formula cells text
+checkedFirst (ok syntax) formula cells text = expandTable syntax formula cells text
 
 unfoldable pub expand : List ℕ → List ℕ → List ℕ → List ℕ → Expanded
 expand table formula cells text = checkedFirst (passedTable table) formula cells text

@@ -7,10 +7,10 @@ use Rattle.answers.specs.declared.Refusal.{Refusal}
 use Rattle.answers.specs.declared.Answer.{Answer}
 use Rattle.answers.specs.declared.Answer.the-variants.{Accepted, Refusing}
 use Rattle.kinds.specs.Kinds.{wordKind}
-use Rattle.grammar.specs.Table.{Table}
 use Rattle.decoding.specs.Within.{Each, Among}
 use Rattle.tokens.specs.declared.Token.{Token}
 use Rattle.tokens.specs.Tiling.{bytesOf}
+use Rattle.checker.specs.Syntax.{Syntax, syntaxOf}
 use Rattle.checker.specs.Passes.{Passes}
 use Rattle.soundness.specs.Places.{Supplied, givenIn, Placed}
 use Rattle.terms.specs.Term.{Name, Term}
@@ -25,13 +25,13 @@ use Rattle.meaning.specs.Origins.{Occurs, IsOwned}
 -- The text `out` is the one term u of demand 2, printed. Each part of u has the sort that its place demands; its words are tokens of the formula,
 -- each the bytes of its token, its outside names the table's spellings. The text has u's constructors and labels, and each of its variables
 -- belongs, by nesting and bytes, to exactly the binder that its origin calls for.
-pub record Hygienic (t : Table) (formula : List ℕ) (u : Term Name) (out : List ℕ) : Type 0 where
-  pub means : Means t formula u
-  pub only : (w : Term Name) → Means t formula w → w ≡ u
-  pub sorted : Placed (givenIn (means .parsed .derived)) (spellOf t (means .words)) u
-  pub supplied : Each (Supplied (means .tokens) (length (t .outsides))) (givenIn (means .parsed .derived))
-  pub words-as-written : (w : Token) → Among (means .tokens) w → w .kind ≡ wordKind → spellOf t (means .words) (w .value) ≡ bytesOf formula w
-  pub outsides-as-listed : (n : ℕ) → n < length (t .outsides) → spellOf t (means .words) n ≡ getD (t .outsides) n []
+pub record Hygienic (syntax : Syntax) (formula : List ℕ) (u : Term Name) (out : List ℕ) : Type 0 where
+  pub means : Means syntax formula u
+  pub only : (w : Term Name) → Means syntax formula w → w ≡ u
+  pub sorted : Placed (givenIn (means .parsed .derived)) (spellOf syntax (means .words)) u
+  pub supplied : Each (Supplied (means .tokens) (length (syntax .lexicon .outsides))) (givenIn (means .parsed .derived))
+  pub words-as-written : (w : Token) → Among (means .tokens) w → w .kind ≡ wordKind → spellOf syntax (means .words) (w .value) ≡ bytesOf formula w
+  pub outsides-as-listed : (n : ℕ) → n < length (syntax .lexicon .outsides) → spellOf syntax (means .words) n ≡ getD (syntax .lexicon .outsides) n []
   pub printed : out ≡ print (rename u)
   pub reads-back : readText out ≡ more (treeOf (rename u)) none
   pub same-constructors : constructorsInAll (readText out) ≡ constructors u
@@ -41,17 +41,17 @@ pub record Hygienic (t : Table) (formula : List ℕ) (u : Term Name) (out : List
   pub owned : Each IsOwned occurrences
   pub whose : nestingAll [] 0 (readText out) ≡ map useOf occurrences
 
--- Of a passed table t: an answer, with the text at exit, is a refusal 14 to 24 in its case and the text as lent, or an acceptance of the term
+-- Under the syntax of a passed table: an answer, with the text at exit, is a refusal 14 to 24 in its case and the text as lent, or an acceptance of the term
 -- and a hygienic text of it in front of what was lent.
-pub data Ends (t : Table) (formula cells text : List ℕ) : Answer → List ℕ → Type 0 where
+pub data Ends (syntax : Syntax) (formula cells text : List ℕ) : Answer → List ℕ → Type 0 where
   refuses : {r : Refusal}
-      → Cause t formula cells text r
-      → Ends t formula cells text (Refusing r) text
+      → Cause syntax formula cells text r
+      → Ends syntax formula cells text (Refusing r) text
   prints : {a b : ℕ} {u : Term Name} {out : List ℕ}
-      → Accepts t formula cells text u a b (length out)
-      → Hygienic t formula u out
-      → Ends t formula cells text (Accepted a b (length out)) (out ++ drop (length out) text)
+      → Accepts syntax formula cells text u a b (length out)
+      → Hygienic syntax formula u out
+      → Ends syntax formula cells text (Accepted a b (length out)) (out ++ drop (length out) text)
 
 -- demand 3, of the bytes of any table
 abbrev pub Demand3 : List ℕ → List ℕ → List ℕ → List ℕ → Answer → List ℕ → Type 0
-Demand3 table formula cells text answer text′ = (P : Passes table) → Ends (P .table) formula cells text answer text′
+Demand3 table formula cells text answer text′ = (P : Passes table) → Ends (syntaxOf (P .table)) formula cells text answer text′

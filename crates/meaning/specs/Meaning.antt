@@ -6,13 +6,12 @@ use mathlib.Core.List.{List, []}
 use lib.ListN.{length}
 use Rattle.answers.specs.declared.Refusal.{Refusal}
 use Rattle.answers.specs.Refusals.{refusal}
-use Rattle.grammar.specs.Table.{Table, lexiconOfTable}
 use Rattle.terms.specs.Cells.{rowsLent}
 use Rattle.tokens.specs.declared.Token.{Token}
 use Rattle.tokens.specs.Tokens.{mostTokens, longestFormula, spelled}
 use Rattle.tokens.specs.Tiling.{Tiled}
 use Rattle.tokens.specs.Unscanned.{Unscans}
-use Rattle.checker.specs.Passes.{grammarOf}
+use Rattle.checker.specs.Syntax.{Syntax}
 use Rattle.expansion.specs.Figure3.{Parses}
 use Rattle.expansion.specs.Costs.{rowsIn, Affords}
 use Rattle.soundness.specs.Stopping.{Refuses}
@@ -23,29 +22,29 @@ use Rattle.terms.specs.Binding.{Occurrence}
 use Rattle.meaning.specs.Origins.{Occurs, FirstLoose, NoneLoose}
 
 -- a formula's tokens and its words in the order of their numbers
-pub record Scans (t : Table) (formula : List ℕ) (tokens : List Token) (words : List (List ℕ)) : Type 0 where
+pub record Scans (syntax : Syntax) (formula : List ℕ) (tokens : List Token) (words : List (List ℕ)) : Type 0 where
   pub short : length formula ≤ longestFormula
-  pub tiled : Tiled (lexiconOfTable t) formula 0 [] tokens (length formula) words
+  pub tiled : Tiled (syntax .lexicon) formula 0 [] tokens (length formula) words
   pub few : length tokens ≤ mostTokens
 
 -- what a spelling number stands for
-abbrev pub spellOf : Table → List (List ℕ) → ℕ → List ℕ
-spellOf t words = spelled (lexiconOfTable t) words
+abbrev pub spellOf : Syntax → List (List ℕ) → ℕ → List ℕ
+spellOf syntax words = spelled (syntax .lexicon) words
 
 -- the formula is tokens, from all of which Figure 3 derives u
-pub record Means (t : Table) (formula : List ℕ) (u : Term Name) : Type 0 where
+pub record Means (syntax : Syntax) (formula : List ℕ) (u : Term Name) : Type 0 where
   pub tokens : List Token
   pub words : List (List ℕ)
-  pub scans : Scans t formula tokens words
-  pub parsed : Parses (grammarOf t) (spellOf t words) (t .root) tokens u
+  pub scans : Scans syntax formula tokens words
+  pub parsed : Parses (syntax .productions) (spellOf syntax words) (syntax .root) tokens u
 
 -- and at a cost within the limits and the rows
-pub record MeansWithin (t : Table) (formula cells : List ℕ) (u : Term Name) : Type 0 where
-  pub means : Means t formula u
+pub record MeansWithin (syntax : Syntax) (formula cells : List ℕ) (u : Term Name) : Type 0 where
+  pub means : Means syntax formula u
   pub affords : Affords (rowsLent (length cells)) 0 0 0 (means .parsed .derived)
 
 -- the cells that it costs
-abbrev pub cellsOf : {t : Table} {formula cells : List ℕ} {u : Term Name} → MeansWithin t formula cells u → ℕ
+abbrev pub cellsOf : {syntax : Syntax} {formula cells : List ℕ} {u : Term Name} → MeansWithin syntax formula cells u → ℕ
 cellsOf E = rowsIn (E .means .parsed .derived)
 
 -- the bytes of its text
@@ -55,40 +54,40 @@ textLength u = length (print (rename u))
 -- ------------------------------------------------------------------ refusals and acceptance
 
 -- document 01's causes from 14 on, under a passed table: when each is given, and with what values
-pub data Cause (t : Table) (formula cells text : List ℕ) : Refusal → Type 0 where
+pub data Cause (syntax : Syntax) (formula cells text : List ℕ) : Refusal → Type 0 where
   -- 14, 15 and 16
   unscanned : {r : Refusal}
-      → Unscans (lexiconOfTable t) formula r
-      → Cause t formula cells text r
+      → Unscans (syntax .lexicon) formula r
+      → Cause syntax formula cells text r
   -- 17 to 21
   stopped : {r : Refusal} {made : ℕ} {tokens : List Token} {words : List (List ℕ)}
-      → Scans t formula tokens words
-      → Refuses (grammarOf t) (spellOf t words) (rowsLent (length cells)) tokens (t .root) r made
-      → Cause t formula cells text r
+      → Scans syntax formula tokens words
+      → Refuses (syntax .productions) (spellOf syntax words) (rowsLent (length cells)) tokens (syntax .root) r made
+      → Cause syntax formula cells text r
   -- 22
   too-large : {u : Term Name}
-      → (E : MeansWithin t formula cells u)
+      → (E : MeansWithin syntax formula cells u)
       → largestTerm < size u
-      → Cause t formula cells text (refusal 22 (cellsOf E) 0 0)
+      → Cause syntax formula cells text (refusal 22 (cellsOf E) 0 0)
   -- 23
   is-loose : {u : Term Name} {os : List Occurrence} {p : ℕ}
-      → MeansWithin t formula cells u
+      → MeansWithin syntax formula cells u
       → size u ≤ largestTerm
       → Occurs [] 0 u os
       → FirstLoose os p
-      → Cause t formula cells text (refusal 23 p 0 0)
+      → Cause syntax formula cells text (refusal 23 p 0 0)
   -- 24
   text-too-long : {u : Term Name} {os : List Occurrence}
-      → MeansWithin t formula cells u
+      → MeansWithin syntax formula cells u
       → size u ≤ largestTerm
       → Occurs [] 0 u os
       → NoneLoose os
       → length text < textLength u
-      → Cause t formula cells text (refusal 24 (textLength u) 0 0)
+      → Cause syntax formula cells text (refusal 24 (textLength u) 0 0)
 
 -- an acceptance of the term u, and its values: cells, constructors and text length
-pub record Accepts (t : Table) (formula cells text : List ℕ) (u : Term Name) (a b c : ℕ) : Type 0 where
-  pub means : MeansWithin t formula cells u
+pub record Accepts (syntax : Syntax) (formula cells text : List ℕ) (u : Term Name) (a b c : ℕ) : Type 0 where
+  pub means : MeansWithin syntax formula cells u
   pub small : size u ≤ largestTerm
   pub occurrences : List Occurrence
   pub occur : Occurs [] 0 u occurrences

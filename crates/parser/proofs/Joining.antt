@@ -1,63 +1,52 @@
 -- What the promises of check, scan and run come to, joined.
-use Prim.Native.Nat.{ℕ, _*_, _-_, _≤_}
+use Prim.Native.Nat.{ℕ, _≤_}
 use mathlib.Core.Path.{_≡_, sym, _∙_}
 use mathlib.Core.List.{List}
-use native.Mathlib.Omega.{arith}
-use lib.Dec.{ltb}
-use lib.ListN.{length, getD}
-use borrow.Author.Tests.{ltb-true, ltb-false}
+use lib.ListN.{length}
 use Rattle.grammar.specs.Limits.{most}
 use Rattle.answers.specs.declared.Refusal.{Refusal}
 use Rattle.answers.specs.declared.Verdict.{Verdict}
 use Rattle.answers.specs.declared.Verdict.the-variants.{Passed}
-use Rattle.spellings.proofs.BytesLaws.{by-test}
-use Rattle.grammar.specs.Table.{Lexicon, lexiconOfTable}
+use Rattle.grammar.specs.Table.{Lexicon}
 use Rattle.grammar.specs.Lookup.{lexiconOf}
-use Rattle.terms.specs.Cells.{rowsLent}
 use Rattle.decoding.proofs.Split.{Bytes}
 use Rattle.decoding.proofs.LayoutTheorems.{decode-exactly}
 use Rattle.decoding.proofs.DecodedLexicon.{lexicon-decoded}
 use Rattle.tokens.specs.declared.Scanned.{Scanned}
 use Rattle.tokens.specs.declared.Scanned.the-variants.{Tokens, Unscanned}
-use Rattle.tokens.specs.Tokens.{mostTokens}
 use Rattle.scanner.specs.Rooms.{Filled, filled, scanInto, RoomFor}
 use Rattle.scanner.proofs.AfterScan.{Holds, scan-holds}
+use Rattle.checker.specs.Syntax.{Syntax, syntaxOf}
 use Rattle.checker.specs.CheckedInto.{CheckedInto}
 use Rattle.checker.specs.Passes.{Passes}
-use Rattle.checker.proofs.Passing.{passed-table}
 use Rattle.checker.proofs.TableTheorems.{check-exactly}
 use Rattle.checker.proofs.Joined.{passed-grammar, passed-holds, passed-places}
 use Rattle.expansion.specs.declared.Outcome.{Outcome}
 use Rattle.expansion.specs.Outcomes.{ran}
-use Rattle.expansion.specs.Expansion.{run}
-use Rattle.calls.specs.Lent.{lentInput}
 use Rattle.parser.specs.declared.Parsed.{Parsed}
-use Rattle.parser.specs.Parse.{shortFormula, middleFormula, WordRoom, HoldsPassed, haltedParse, parsedInto, parseInto}
+use Rattle.parser.specs.Parse.{HoldsPassed, CheckedRoom, haltedParse, parsedInto, parseInto, runIn}
 use Rattle.parser.proofs.Parsing as parsing
 use Rattle.parser.proofs.Root.{root-last}
-
--- ------------------------------------------------------------------ rooms by size
-
--- A room for the words of a formula of its size takes as many as the formula has bytes, up to 4,096.
-pub words-room : {formula words : List ℕ} → WordRoom formula words → (many : ℕ) → many ≤ length formula → many ≤ mostTokens → many * 2 ≤ length words
-words-room room many a b =
-    by-test (ltb middleFormula many) (λ e. omega (arith, room .all (omega (arith, ltb-true middleFormula many e))))
-    (λ e.
-    by-test (ltb shortFormula many) (λ h. omega (arith, ltb-false middleFormula many e, room .more (omega (arith, ltb-true shortFormula many h))))
-    (λ h. omega (arith, ltb-false shortFormula many h, room .few)))
 
 -- ------------------------------------------------------------------ the check
 
 module _ {bs : List ℕ} (bytes : Bytes bs) where
-  -- A table that the check passes, and its room.
-  pub checked-passes : {room₀ room : List ℕ} {verdict : Verdict} → CheckedInto bs room₀ room verdict → verdict ≡ Passed → HoldsPassed bs room
+  -- a table that the check passes, and its room
+  checked-passes : {room₀ room : List ℕ} {verdict : Verdict} → CheckedInto bs room₀ room verdict → verdict ≡ Passed → HoldsPassed bs room
   checked-passes c e =
       let P : Passes bs = check-exactly bs bytes .0 (sym (c .answer) ∙ e) in
       record { passes = P; held = record { grammar = passed-holds bytes P c; places = passed-places bytes P } }
 
+  -- What the check of a table gives an expansion.
+  pub checked-room : {room₀ room : List ℕ} {verdict : Verdict} → CheckedInto bs room₀ room verdict → CheckedRoom bs room verdict
+  checked-room c = record { answer = c .answer; holds = checked-passes c }
+
   module _ (passes : Passes bs) where
+    abbrev syntax : Syntax
+    syntax = syntaxOf (passes .table)
+
     abbrev lex : Lexicon
-    lex = lexiconOfTable (passes .table)
+    lex = syntax .lexicon
 
     abbrev few : length (lex .outsides) ≤ most .outsides
     few = passes .within .outsideCount
@@ -75,8 +64,8 @@ module _ {bs : List ℕ} (bytes : Bytes bs) where
       module _ {scanned : Scanned} {tokens′ words′ : List ℕ} (fills : filled scanned tokens′ words′ ≡ scanInto (lexiconOf bs) formula tokens words) where
         -- A scan that refuses is the end of the parse.
         pub stops-whole : (cells : List ℕ) {refusal : Refusal} {parsed : Parsed} → scanned ≡ Unscanned refusal → parsed ≡ haltedParse refusal
-            → parsedInto parsed tokens′ words′ cells ≡ parseInto bs formula tokens words cells
-        stops-whole cells h = parsing.into-unscanned bs formula tokens words cells (passed-table bs passes) (rw h at (in-lexicon fills))
+            → parsedInto parsed tokens′ words′ cells ≡ parseInto syntax formula tokens words cells
+        stops-whole cells h = parsing.into-unscanned syntax formula tokens words cells (rw h at (in-lexicon fills))
 
         module _ {many count : ℕ} (room : RoomFor formula tokens words) (accepts : scanned ≡ Tokens many count) where
           -- One that does not leaves its tokens and words in the rooms.
@@ -87,8 +76,8 @@ module _ {bs : List ℕ} (bytes : Bytes bs) where
 
           -- The run of the tokens in the room ends the parse.
           pub runs-whole : (cells : List ℕ) {outcome : Outcome} {cells′ : List ℕ}
-              → ran outcome cells′ ≡ run (lentInput bs tokens′ many (rowsLent (length cells))) (getD bs (length bs - 1) 0) cells
-              → parsedInto (record { outcome = outcome; words = count }) tokens′ words′ cells′ ≡ parseInto bs formula tokens words cells
+              → ran outcome cells′ ≡ runIn bs tokens′ many cells
+              → parsedInto (record { outcome = outcome; words = count }) tokens′ words′ cells′ ≡ parseInto syntax formula tokens words cells
           runs-whole cells {outcome} e =
-              parsing.into-run bs formula tokens words cells (passed-table bs passes) outcome (rw accepts at (in-lexicon fills))
+              parsing.into-run syntax formula tokens words cells outcome (rw accepts at (in-lexicon fills))
               (rw (passed-grammar bytes passes, scan-fills .tokens-are, root-last (passes .table) (passes .encoded)) at e)

@@ -96,6 +96,8 @@ module _ (lex : Lexicon) (few : length (lex .outsides) ≤ 64) (formula : List �
     pub tokens-are : tokensIn tokens many ≡ scan lex formula .tokens
     -- they can be read off the room
     pub tokens-fit : TokensFit tokens many
+    -- and are no more than the formula has bytes
+    pub few-tokens : many ≤ length formula
     -- the places stored name its words
     pub words-are : wordsIn formula words count ≡ scan lex formula .words
     -- there are no more words than tokens
@@ -123,6 +125,7 @@ module _ (lex : Lexicon) (few : length (lex .outsides) ≤ 64) (formula : List �
                     let small = every-at _ ts i endToken (scan-sized .values) (omega (arith, c .0)) in
                     omega (arith, ap (λ (u : Token). u .value) r, small, largest-fits);
               };
+          few-tokens = omega (arith, c .0, scan-sized .bytes);
           words-are = rw (c .1) (words-named lex few formula words (room .for-words));
           few-words = omega (arith, c .0, c .1, scan-sized .words);
         }

@@ -8,12 +8,13 @@ use mathlib.Core.List.{List, [], _∷_, _++_}
 use lib.ListN.{length, getD, take, drop}
 use Rattle.answers.specs.declared.Refusal.{Refusal}
 use Rattle.answers.specs.declared.Answer.the-variants.{Accepted, Refusing}
-use Rattle.grammar.specs.Table.{Template, Templates, none, Item, call, lexiconOfTable}
+use Rattle.grammar.specs.Table.{Template, Templates, none, Item, call}
 use Rattle.grammar.specs.Sorts.{Signature}
 use Rattle.judgements.specs.Judgements.{Newest, ItemSorted, Body, scopeOf}
 use Rattle.tokens.specs.declared.Token.{Token}
 use Rattle.tokens.specs.Unscanned.{Unscans}
-use Rattle.checker.specs.Passes.{grammarOf, Passes}
+use Rattle.checker.specs.Syntax.{Syntax, syntaxOf}
+use Rattle.checker.specs.Passes.{Passes}
 use Rattle.causes.specs.Unlaid.{NotPassed}
 use Rattle.productions.specs.Normal.{Production}
 use Rattle.firsts.specs.Rules.{Of}
@@ -51,41 +52,45 @@ module _ (table formula cells text : List ℕ) where
   not-passed bytes = call-refuses table bytes formula refl
 
   module _ (passes : Passes table) where
+    -- What an expansion needs of the table: its lexicon, its productions and its root.
+    abbrev pub syntax : Syntax
+    syntax = syntaxOf (passes .table)
+
     -- A refusal is given exactly in its case of document 01's table of causes, with the values listed there.
-    pub refused-exactly : (refusal : Refusal) → (X .answer ≡ Refusing refusal) ↔ Cause (passes .table) formula cells text refusal
+    pub refused-exactly : (refusal : Refusal) → (X .answer ≡ Refusing refusal) ↔ Cause syntax formula cells text refusal
     refused-exactly = rw (expand-passed table passes formula cells text) (exactly.refused-exactly (passes .table) (passingOf passes) formula cells text)
 
     -- A formula is accepted exactly if Figure 3 derives a term that `Accepts` asks for; `made`, `size`, `bytes`: its cells, constructors, bytes.
     pub accepted-exactly : (made size bytes : ℕ)
-        → (X .answer ≡ Accepted made size bytes) ↔ ((meant : Term Name) × Accepts (passes .table) formula cells text meant made size bytes)
+        → (X .answer ≡ Accepted made size bytes) ↔ ((meant : Term Name) × Accepts syntax formula cells text meant made size bytes)
     accepted-exactly = rw (expand-passed table passes formula cells text) (exactly.accepted-exactly (passes .table) (passingOf passes) formula cells text)
 
     -- Figure 3 derives one term at most.
-    pub one-term : {meant other : Term Name} → Means (passes .table) formula meant → Means (passes .table) formula other → meant ≡ other
+    pub one-term : {meant other : Term Name} → Means syntax formula meant → Means syntax formula other → meant ≡ other
     one-term = means-one (passes .table) (passingOf passes) formula
 
     -- The text of an acceptance is that term renamed and printed, with what was lent behind it.
     pub accepted-text : (made size bytes : ℕ) → X .answer ≡ Accepted made size bytes → {meant : Term Name}
-        → Means (passes .table) formula meant → X .text ≡ print (rename meant) ++ drop (textLength meant) text
+        → Means syntax formula meant → X .text ≡ print (rename meant) ++ drop (textLength meant) text
     accepted-text = rw (expand-passed table passes formula cells text) (exactly.accepted-text (passes .table) (passingOf passes) formula cells text)
 
     -- A row of those made shows that term, whatever the other rows held, and each row made has the code of a constructor.
-    pub accepted-cells : (made size bytes : ℕ) → X .answer ≡ Accepted made size bytes → {meant : Term Name} (means : Means (passes .table) formula meant)
-        → ((row : ℕ) × (row < made) × (termAt made (spellOf (passes .table) (means .words)) (take (made * columns) (X .cells)) row ≡ meant))
+    pub accepted-cells : (made size bytes : ℕ) → X .answer ≡ Accepted made size bytes → {meant : Term Name} (means : Means syntax formula meant)
+        → ((row : ℕ) × (row < made) × (termAt made (spellOf syntax (means .words)) (take (made * columns) (X .cells)) row ≡ meant))
         × ((row : ℕ) → row < made → (0x20 ≤ column (X .cells) row 0) × (column (X .cells) row 0 ≤ 0x27))
     accepted-cells = rw (expand-passed table passes formula cells text) (exactly.accepted-cells (passes .table) (passingOf passes) formula cells text)
 
     -- 14, 15 and 16 leave the cells as they were, too.
-    pub cells-kept : (refusal : Refusal) → Unscans (lexiconOfTable (passes .table)) formula refusal → X .cells ≡ cells
+    pub cells-kept : (refusal : Refusal) → Unscans (syntax .lexicon) formula refusal → X .cells ≡ cells
     cells-kept = rw (expand-passed table passes formula cells text) (exactly.cells-kept (passes .table) (passingOf passes) formula cells text)
 
     -- Acceptance, 22, 23 and 24 leave the cells behind those that the term costs.
-    pub cells-behind : {meant : Term Name} (means-within : MeansWithin (passes .table) formula cells meant) → Left (cellsOf means-within) cells (X .cells)
+    pub cells-behind : {meant : Term Name} (means-within : MeansWithin syntax formula cells meant) → Left (cellsOf means-within) cells (X .cells)
     cells-behind within = rw (expand-passed table passes formula cells text) (exactly.cells-behind (passes .table) (passingOf passes) formula cells text within)
 
     -- 17 to 21 leave the cells behind those that are made where the rules stop.
-    pub cells-left : {refusal : Refusal} {made : ℕ} {tokens : List Token} {words : List (List ℕ)} → Scans (passes .table) formula tokens words
-        → Refuses (grammarOf (passes .table)) (spellOf (passes .table) words) (rowsLent (length cells)) tokens (passes .table .root) refusal made
+    pub cells-left : {refusal : Refusal} {made : ℕ} {tokens : List Token} {words : List (List ℕ)} → Scans syntax formula tokens words
+        → Refuses (syntax .productions) (spellOf syntax words) (rowsLent (length cells)) tokens (syntax .root) refusal made
         → Left made cells (X .cells)
     cells-left scans h = rw (expand-passed table passes formula cells text) (exactly.cells-left (passes .table) (passingOf passes) formula cells text scans h)
 
@@ -94,7 +99,7 @@ module _ (table formula cells text : List ℕ) where
     -- behind items of an alternative of sort B, derived under variables of their sorts
     module _ {spell : ℕ → List ℕ} {M M′ : List Value} {s s′ : List Token} {i i′ B : ℕ} {items : List Item} {result : Template} {L : List ℕ}
         (body : Body (scopeOf (passes .table) (passes .meets .sorted)) L items result B) (matches : Matches M L)
-        (derives : Derives (grammarOf (passes .table)) spell M s i items s′ i′ M′) where
+        (derives : Derives (syntax .productions) spell M s i items s′ i′ M′) where
       -- Parsing respects typing: what its template gives is of sort B.
       pub parsing-respects-typing : {value : Value} → Gives spell M′ result value → Typed value B
       parsing-respects-typing = expansion.parsing-respects-typing (passes .table) (passingOf passes) body matches derives
@@ -104,17 +109,17 @@ module _ (table formula cells text : List ℕ) where
       never-wrong = expansion.never-wrong (passes .table) (passingOf passes) body matches derives
 
     -- Normalizing preserves typing (001, section 4.2): each production of the normalized grammar has the signature of its nonterminal.
-    pub productions-sorted : {n : ℕ} {p : Production} → Of (grammarOf (passes .table)) n p → (S : Signature) × Newest (passes .meets .sorted .env) n S
+    pub productions-sorted : {n : ℕ} {p : Production} → Of (syntax .productions) n p → (S : Signature) × Newest (passes .meets .sorted .env) n S
         × Body (scopeOf (passes .table) (passes .meets .sorted)) (S .params) (p .items) (p .result) (S .result)
     productions-sorted = expansion.productions-sorted (passes .table) (passingOf passes)
 
     -- Whatever a call of the root derives is a term: Corollary 1.
     pub root-derives-term : {spell : ℕ → List ℕ} {M : List Value} {s s′ : List Token} {i i′ : ℕ}
-        → Derives (grammarOf (passes .table)) spell [] s i (call (passes .table .root) none ∷ []) s′ i′ M → (meant : Term Name) × (M ≡ term meant ∷ [])
+        → Derives (syntax .productions) spell [] s i (call (syntax .root) none ∷ []) s′ i′ M → (meant : Term Name) × (M ≡ term meant ∷ [])
     root-derives-term = expansion.root-derives-term (passes .table) (passingOf passes)
 
     -- A well sorted call, under variables of their sorts, has values for its arguments and a production of its nonterminal: it is never `wrong`.
     pub call-never-wrong : (spell : ℕ → List ℕ) {M : List Value} {L : List ℕ} {nonterminal A : ℕ} (ts : Templates) → Matches M L
         → ItemSorted (scopeOf (passes .table) (passes .meets .sorted)) L (call nonterminal ts) A
-        → ((vs : List Value) × GiveAll spell M ts vs) × ((p : Production) × Of (grammarOf (passes .table)) nonterminal p)
+        → ((vs : List Value) × GiveAll spell M ts vs) × ((p : Production) × Of (syntax .productions) nonterminal p)
     call-never-wrong = expansion.call-never-wrong (passes .table) (passingOf passes)

@@ -1,4 +1,5 @@
--- `run_tokens`: the run with the root that the table's last byte names.
+-- `run_tokens`: the run with the root that the table's last byte names, by the size of the table.
+use native.Mathlib.Omega.{arith}
 use borrow.Author.Needs.{needs}
 use Rattle.parser.proofs.run_tokens.Statement.{statement}
 use Rattle.parser.proofs.run_tokens.Tie as tie
@@ -7,22 +8,14 @@ returns : tie.Need-returns
 returns c =
     let p = c .before .before .before in
     let ran = p .run .ensures in
-    let last = p .before .before .before .before .last-byte .ensures in
+    let last = p .before .before .before .last-byte .ensures in
     cc
 
-returns-2 : tie.Need-returns-2
-returns-2 c =
-    let p = c .before .before .before in
-    let ran = p .run2 .ensures in
-    let last = p .before .before .before .before .before .last-byte .ensures in
-    cc
+run-middle-requires : tie.Need-run-middle-requires
+run-middle-requires c κs = record { runnable = search needs; some = omega arith; within = omega arith }
 
-returns-3 : tie.Need-returns-3
-returns-3 c =
-    let p = c .before .before .before in
-    let ran = p .run3 .ensures in
-    let last = p .before .before .before .before .before .last-byte .ensures in
-    cc
+run-long-requires : tie.Need-run-long-requires
+run-long-requires c κs = record { runnable = search needs; some = omega arith; within = omega arith }
 
 -- `run_tokens` meets its contract.
 pub run-tokens-spec : {M : Type 1} → statement M
@@ -34,11 +27,9 @@ run-tokens-spec =
     (λ c κs. search needs)
     (λ c. search needs)
     returns
+    run-middle-requires
     (λ c. search needs)
-    (λ c κs. search needs)
     (λ c. search needs)
-    returns-2
+    run-long-requires
     (λ c. search needs)
-    (λ c κs. search needs)
-    (λ c. search needs)
-    returns-3)
+    (λ c. search needs))

@@ -1,12 +1,12 @@
--- `parse_checked`: the scan refuses, or the tokens are run.
+-- `parse_passed`: the scan refuses, or the tokens are run.
 use native.Mathlib.Omega.{arith}
 use Rattle.decoding.proofs.Split.{Bytes}
 use Rattle.parser.proofs.Joining as joining
 use borrow.Author.Needs.{needs}
-use Rattle.parser.proofs.parse_checked.Statement.{statement}
-use Rattle.parser.proofs.parse_checked.Tie as tie
-use Rattle.parser.proofs.parse_checked.Reads as reads
-use Rattle.parser.proofs.parse_checked.Lts as lts
+use Rattle.parser.proofs.parse_passed.Statement.{statement}
+use Rattle.parser.proofs.parse_passed.Tie as tie
+use Rattle.parser.proofs.parse_passed.Reads as reads
+use Rattle.parser.proofs.parse_passed.Lts as lts
 use Rattle.scanner.proofs.scan.Reads as scan-reads
 use Rattle.parser.proofs.halted.Reads as halted-reads
 use Rattle.parser.proofs.run_tokens.Reads as run-tokens-reads
@@ -52,22 +52,22 @@ run-tokens-requires c κs =
     }
 
 returns : tie.Need-returns
-returns c =
+returns c P =
     let told = c .before .before in
     let p = told .before .before .before .before .before .before in
-    joining.stops-whole (bytes p) (entry p .pre .checked .passes) _ _ _ (p .scan .ensures) _ (told .scanned .given .1) (c .halted .ensures)
+    joining.stops-whole (bytes p) P _ _ _ (p .scan .ensures) _ (told .scanned .given .1) (c .halted .ensures)
 
 returns-2 : tie.Need-returns-2
-returns-2 c =
+returns-2 c P =
     let ran = c .before .before in
     let told = ran .before .before .before .before in
     let p = told .before .before .before .before .before .before in
     let pre = entry p .pre in
-    joining.runs-whole (bytes p) (pre .checked .passes) _ _ _ (p .scan .ensures) (pre .rooms) (told .scanned2 .given .1) _ (ran .run-tokens .ensures)
+    joining.runs-whole (bytes p) P _ _ _ (p .scan .ensures) (pre .rooms) (told .scanned2 .given .1) _ (ran .run-tokens .ensures)
 
--- `parse_checked` meets its contract.
-pub parse-checked-spec : {M : Type 1} → statement M
-parse-checked-spec =
+-- `parse_passed` meets its contract.
+pub parse-passed-spec : {M : Type 1} → statement M
+parse-passed-spec =
     tie.close
     (tie.spec
     scan-requires

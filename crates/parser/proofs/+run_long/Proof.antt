@@ -1,0 +1,47 @@
+-- `run_long`: it is passed no empty table, so that it never calls itself.
+use Prim.Native.Nat.{ℕ, _<_}
+use native.Mathlib.Omega.{arith}
+use borrow.Author.Needs.{needs}
+use borrow.Fn.Kinds.{In}
+use borrow.Fn.PlainCycle.{Measures, is, falls, and}
+use Rattle.parser.proofs.run_long.Reads as reads
+use Rattle.parser.proofs.run_long.Kinds as kinds
+use Rattle.parser.proofs.+run_long.Lts-run_long as lts
+use Rattle.expander.proofs.run.Reads as run-reads
+use Rattle.parser.proofs.last_byte.Reads as last-byte-reads
+use Rattle.parser.proofs.+run_long.{statement}
+use Rattle.parser.proofs.+run_long.Tie.{close}
+
+abbrev μ-run-long : Measures 4 kinds.ps ℕ
+μ-run-long κs a = 0
+
+abbrev entered : ℕ → In 4 kinds.ps
+entered t = and 4 kinds.ps (is 4 kinds.ps μ-run-long t) reads.Pre
+
+abbrev below : ℕ → In 4 kinds.ps
+below t = and 4 kinds.ps (falls 4 kinds.ps _<_ μ-run-long t) reads.Pre
+
+abbrev claims : ℕ → lts.Claims
+claims t = (below t, reads.Post, last-byte-reads.Asked, last-byte-reads.Learnt, run-reads.Asked, run-reads.Learnt)
+
+returns : (t : ℕ) → lts.Need-returns-2 (claims t) (entered t) reads.Post
+returns t c =
+    let p = c .before .before .before in
+    let ran = p .run .ensures in
+    let last = p .before .before .before .last-byte .ensures in
+    cc
+
+-- `run_long` meets its contract.
+pub +run-long-spec : {M : Type 1} → statement M
++run-long-spec =
+    close μ-run-long λ t.
+    lts.spec (claims t) (entered t) reads.Post
+    (λ c. search needs)
+    (λ c κs. absurd (omega arith))
+    (λ c. absurd (omega arith))
+    (λ c. absurd (omega arith))
+    (λ c κs. search needs)
+    (λ c. search needs)
+    (λ c κs. search needs)
+    (λ c. search needs)
+    (returns t)
