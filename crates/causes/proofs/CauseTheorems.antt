@@ -1,6 +1,6 @@
 -- A table is refused exactly as the rules say: what is proved of refusals 1 to 13, for every list of bytes. Each statement has one sentence above it.
 use Prim.Native.Nat.{ℕ, _<_, _≤_}
-use mathlib.Core.Path.{_≡_, refl, sym, ap, _∙_, subst}
+use mathlib.Core.Path.{_≡_, refl, sym, ap, _∙_, subst⁻¹}
 use mathlib.Core.Bool.{Bool, true, false, true≢false, _&&_, _||_}
 use mathlib.Core.Logic.{_↔_, _⊎_, inl, inr}
 use mathlib.Core.List.{List, [], _∷_, List·Memᴰ, List·Memᴰ·head, List·Memᴰ·tail}
@@ -35,7 +35,7 @@ use Rattle.checker.proofs.Passing.{never, check-exactly, refused-by-layout, ref
 use Rattle.causes.specs.Misplaced.{Misplaced}
 use Rattle.causes.specs.Missorted.{Missorted}
 use Rattle.causes.specs.Normalizing.{inOrder, Normal, Remains, RemainsInBlocks}
-use Rattle.causes.specs.Unlaid.{Unlaid, by-layout, by-sorts, RefusesTable, unlaid, by-firsts}
+use Rattle.causes.specs.Unlaid.{Unlaid, by-layout, by-sorts, RefusesTable, unlaid, left-recursive, clashing}
 use Rattle.causes.proofs.LayoutWalk as layout
 use Rattle.causes.proofs.SortStops as sorting
 use Rattle.causes.proofs.NormalLaws as normalizing
@@ -78,10 +78,14 @@ module _ (bs : List ℕ) (bytes : (place : ℕ) → getD bs place 0 < 256) where
   from-firsts : (table : Table) {cause : Refusal} → decode bs ≡ ok table → checkSorts table ≡ ok tt → (checked : Checked (Unit {0}))
       → checkFirsts (grammarOf table) ≡ checked → verdict (checked >> ok (syntaxOf table)) ≡ Refused cause → RefusesTable bs cause
   from-firsts table {cause} d s (ok u) e h = never cause (sym h)
-  from-firsts table d s (bad q) e h =
+  from-firsts table {cause} d s (bad q) e h =
       let (encoded, within) = decode-exactly bs bytes table .0 d in
-      by-firsts (record { table = table; encoded = encoded; within = within; sorted = sorts-exactly table within .0 s })
-      (result-exactly (grammarOf table) (bad _) .0 (e ∙ ap bad (same h)))
+      by encoded within (sorts-exactly table within .0 s) (result-exactly (grammarOf table) (bad _) .0 (e ∙ ap bad (same h)))
+    where
+      by : bs ≡ encode table → Within table → WellSorted table → Says (grammarOf table) (bad cause) → RefusesTable bs cause
+      by encoded within sorted (inl says) = subst⁻¹ (RefusesTable bs) (says .answer) (left-recursive encoded within sorted (says .lowest))
+      by encoded within sorted (inr says) =
+          subst⁻¹ (RefusesTable bs) (says .answer) (clashing encoded within sorted (says .earlier) (says .lowest) (says .shared))
 
   from-sorts : (table : Table) {cause : Refusal} → decode bs ≡ ok table → (checked : Checked (Unit {0})) → checkSorts table ≡ checked
       → verdict (checked >> checkFirsts (grammarOf table) >> ok (syntaxOf table)) ≡ Refused cause → RefusesTable bs cause
@@ -104,11 +108,19 @@ module _ (bs : List ℕ) (bytes : (place : ℕ) → getD bs place 0 < 256) where
   refused-unlaid {cause} (by-sorts {t} e w m) =
       refused-by-sorts bs t cause (decode-exactly bs bytes t .1 (e, w)) (missorted-exactly t w cause .1 m)
 
+  of-firsts : (table : Table) (cause : Refusal) → bs ≡ encode table → Within table → WellSorted table → Says (grammarOf table) (bad cause)
+      → check bs ≡ Refused cause
+  of-firsts table cause encoded within sorted says =
+      refused-by-firsts bs table cause (decode-exactly bs bytes table .1 (encoded, within)) (sorts-exactly table within .1 sorted)
+      (result-exactly (grammarOf table) (bad cause) .1 says)
+
   refused : {cause : Refusal} → RefusesTable bs cause → check bs ≡ Refused cause
   refused (unlaid u) = refused-unlaid u
-  refused {cause} (by-firsts laid s) =
-      refused-by-firsts bs (laid .table) cause (decode-exactly bs bytes (laid .table) .1 (laid .encoded, laid .within))
-      (sorts-exactly (laid .table) (laid .within) .1 (laid .sorted)) (result-exactly (grammarOf (laid .table)) (bad cause) .1 s)
+  refused (left-recursive {t} {n} encoded within sorted lowest) =
+      of-firsts t _ encoded within sorted (inl (record { nonterminal = n; answer = refl; lowest = lowest }))
+  refused (clashing {t} {n} {bit} encoded within sorted earlier lowest shared) =
+      of-firsts t _ encoded within sorted
+      (inr (record { nonterminal = n; kind = bit; answer = refl; earlier = earlier; lowest = lowest; shared = shared }))
 
   -- The check gives a refusal exactly if the rules of 1 to 13 do.
   pub refused-exactly : (cause : Refusal) → (check bs ≡ Refused cause) ↔ RefusesTable bs cause
@@ -154,18 +166,14 @@ module _ (bs : List ℕ) (bytes : (place : ℕ) → getD bs place 0 < 256) where
       by (inr a) = let z : a .0 ≡ cause = cc (e, a .1) in laid-number (rw z at (a .2))
   unlaid-number {cause} (by-sorts {t} e w m) = sort-number (sort-refusals t cause (missorted-exactly t w cause .1 m) .0)
 
-  -- 12 and 13 are over 11
-  firsts-number : (g : List Production) {cause : Refusal} → Says g (bad cause) → 11 < cause .number
-  firsts-number g (inl s) = omega (arith, ap (λ (r : Refusal). r .number) (s .answer))
-  firsts-number g (inr s) = omega (arith, ap (λ (r : Refusal). r .number) (s .answer))
-
   -- The check gives a refusal of 1 to 11 exactly if the rules of 1 to 11 do.
   pub unlaid-exactly : (cause : Refusal) → ((check bs ≡ Refused cause) × (cause .number ≤ 11)) ↔ Unlaid bs cause
   unlaid-exactly cause = (λ h. by (refuses (h .0)) (h .1), λ u. (refused-unlaid u, unlaid-number u))
     where
-      by : RefusesTable bs cause → cause .number ≤ 11 → Unlaid bs cause
+      by : {other : Refusal} → RefusesTable bs other → other .number ≤ 11 → Unlaid bs other
       by (unlaid u) small = u
-      by (by-firsts laid s) small = absurd (omega (arith, firsts-number (grammarOf (laid .table)) s))
+      by (left-recursive encoded within sorted lowest) small = absurd (omega arith)
+      by (clashing encoded within sorted earlier lowest shared) small = absurd (omega arith)
 
   -- Bytes that are laid out and sorted are not refused by 1 to 11.
   pub laid-not-unlaid : Laid bs → (cause : Refusal) → ¬ Unlaid bs cause

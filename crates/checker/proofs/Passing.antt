@@ -11,8 +11,7 @@ use borrow.Author.Tests.{eqb-true, leb-true}
 use Rattle.spellings.proofs.BytesLaws.{by-test}
 use Rattle.answers.specs.Refusals.{refusal}
 use Rattle.decoding.proofs.RefusalNumbers.{isLayoutNumber, decode-answers}
-use Rattle.clashes.specs.FirstRefusals.{Lowest, LowestOr64}
-use Rattle.clashes.specs.Clashes.{Never, LeftRecursive, Shares, Clashes}
+use Rattle.clashes.specs.Clashes.{Never, Lowest, LowestOr64, LeftRecursive, Shares, Clashes}
 use Rattle.answers.specs.declared.Refusal.{Refusal}
 use Rattle.answers.specs.declared.Verdict.{Verdict}
 use Rattle.answers.specs.declared.Verdict.the-variants.{Passed, Refused}

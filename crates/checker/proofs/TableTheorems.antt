@@ -23,8 +23,7 @@ use Rattle.productions.specs.Normal.{Production}
 use Rattle.clashes.specs.CheckFirsts.{checkFirsts}
 use Rattle.firsts.specs.FirstSets.{nullables, firstSets, leftCalls}
 use Rattle.firsts.specs.Rules.{Nullable, Opens, LeftReaches}
-use Rattle.clashes.specs.FirstRefusals.{Lowest, LowestOr64}
-use Rattle.clashes.specs.Clashes.{Never, LeftRecursive, Shares, Clashes}
+use Rattle.clashes.specs.Clashes.{Never, Lowest, LowestOr64, LeftRecursive, Shares, Clashes}
 use Rattle.firsts.proofs.FirstsTheorems as firsts
 use Rattle.clashes.proofs.ClashTheorems as clashes
 use Rattle.checker.specs.Check.{check}

@@ -9,8 +9,8 @@ use Rattle.answers.specs.Checked.{Checked, ok, bad}
 use Rattle.productions.specs.Normal.{Production}
 use Rattle.firsts.specs.Rules.{Of, NullItems, First, Reads}
 use Rattle.clashes.specs.CheckFirsts.{checkFirsts}
-use Rattle.clashes.specs.FirstRefusals.{Lowest, LowestOr64, Says}
-use Rattle.clashes.specs.Clashes.{Shares, Clashes, Never, LeftRecursive}
+use Rattle.clashes.specs.FirstRefusals.{Says}
+use Rattle.clashes.specs.Clashes.{Shares, Clashes, Never, Lowest, LowestOr64, LeftRecursive}
 use Rattle.clashes.proofs.Refusals.{check-exactly, given-12, given-13, some-12, some-13}
 use Rattle.clashes.proofs.OneChoice.{one-opened, one-nullable}
 

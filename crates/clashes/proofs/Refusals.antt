@@ -20,8 +20,8 @@ use Rattle.clashes.specs.CheckFirsts.{sharedBy, clash, anyPair, joinPair
 use Rattle.firsts.specs.FirstSets.{own, nullables, firstSets, leftCalls}
 use Rattle.clashes.specs.CheckFirsts.{lowestShared, noLeftRecursion, noClash, checkFirsts}
 use Rattle.firsts.specs.Rules.{Calls}
-use Rattle.clashes.specs.FirstRefusals.{Lowest, LowestOr64, Says12, Says13, Says}
-use Rattle.clashes.specs.Clashes.{Shares, Clashes, Never, LeftRecursive}
+use Rattle.clashes.specs.FirstRefusals.{Says12, Says13, Says}
+use Rattle.clashes.specs.Clashes.{Shares, Clashes, Never, Lowest, LowestOr64, LeftRecursive}
 use Rattle.firsts.proofs.FirstSetsExactly.{sets-exactly, calls-exactly}
 use Rattle.clashes.proofs.Searches.{lowest-passes, lowest-skips}
 use Rattle.clashes.proofs.Clashing.{kind-small, shared-exactly, clash-exactly, clash-small}

@@ -1,5 +1,5 @@
 -- Left recursion, and two productions of one nonterminal that clash. Document 01, "Left recursion" and "Openings".
-use Prim.Native.Nat.{ℕ}
+use Prim.Native.Nat.{ℕ, _<_}
 use mathlib.Core.Path.{_≡_}
 use mathlib.Core.Logic.{_⊎_}
 use mathlib.Core.List.{List, _∷_}
@@ -40,6 +40,15 @@ Clashes g n = ((b : ℕ) × Shares g n b) ⊎ BothNullable g n
 
 abbrev pub Never : (ℕ → Type 0) → Type 0
 Never P = (n : ℕ) → ¬ P n
+
+-- n is the lowest number that P holds of
+pub record Lowest (P : ℕ → Type 0) (n : ℕ) : Type 0 where
+  pub holds : P n
+  pub none-below : (m : ℕ) → m < n → ¬ P m
+
+-- the lowest number that P holds of, 64 if it holds of none
+abbrev pub LowestOr64 : (ℕ → Type 0) → ℕ → Type 0
+LowestOr64 P n = Lowest P n ⊎ ((n ≡ 64) × ((m : ℕ) → ¬ P m))
 
 abbrev pub LeftRecursive : List Production → ℕ → Type 0
 LeftRecursive g n = LeftReaches g n n

@@ -1,5 +1,5 @@
 -- What refusals 12 and 13 say of a normalized grammar, by the rules. Document 01, "Causes, by number" and the order of the checks under it.
-use Prim.Native.Nat.{ℕ, _<_}
+use Prim.Native.Nat.{ℕ}
 use mathlib.Core.Path.{_≡_}
 use mathlib.Core.Logic.{_⊎_}
 use mathlib.Core.List.{List}
@@ -7,16 +7,7 @@ use Rattle.answers.specs.declared.Refusal.{Refusal}
 use Rattle.answers.specs.Refusals.{refusal}
 use Rattle.answers.specs.Checked.{Checked, ok, bad}
 use Rattle.productions.specs.Normal.{Production}
-use Rattle.clashes.specs.Clashes.{Shares, Clashes, Never, LeftRecursive}
-
--- n is the lowest number that P holds of
-pub record Lowest (P : ℕ → Type 0) (n : ℕ) : Type 0 where
-  pub holds : P n
-  pub none-below : (m : ℕ) → m < n → ¬ P m
-
--- the lowest number that P holds of, 64 if it holds of none
-abbrev pub LowestOr64 : (ℕ → Type 0) → ℕ → Type 0
-LowestOr64 P n = Lowest P n ⊎ ((n ≡ 64) × ((m : ℕ) → ¬ P m))
+use Rattle.clashes.specs.Clashes.{Shares, Clashes, Never, Lowest, LowestOr64, LeftRecursive}
 
 -- 12: the lowest nonterminal that reaches itself
 pub record Says12 (g : List Production) (r : Refusal) : Type 0 where
