@@ -21,7 +21,7 @@ use Rattle.productions.specs.Index.{Place, placesOf, productionAt, wholeBody, W
 use Rattle.productions.specs.Room.{Entry, noEntry, noPlace, HoldsEntries, placeFrom, isOf, isNullableOf, firstIn, startIn, firstSetIn}
 use Rattle.productions.specs.Room.{firstPlaceIn, nextPlaceIn, nullablePlaceIn}
 use Rattle.productions.proofs.RoomLaws.{first-set-in, first-place-in, nullable-place-in, first-in, start-in, next-place-in}
-use Rattle.firsts.specs.FirstSets.{nullables}
+use Rattle.firsts.specs.FirstSets.{openingOf, nullables}
 use Rattle.firsts.specs.Room.{entryAt, productionsIn, tableRoom}
 use Rattle.firsts.proofs.StepLaws.{length-sets}
 use Rattle.expansion.specs.Expansion.{Rule, ruleOf, Choice, unfit, chosen, firstRule, choice, ready}
@@ -385,7 +385,7 @@ module _ {bs room : List ℕ} (held : Held bs room) where
 
   set-outside : (nonterminal : ℕ) → 64 ≤ nonterminal → 0 ≡ getD (firstSetsOf bs) nonterminal 0
   unfolding firstSetsOf
-  set-outside nonterminal l = sym (getD-past (firstSetsOf bs) nonterminal 0 (omega (arith, length-sets false nulls (productionsIn bs))))
+  set-outside nonterminal l = sym (getD-past (firstSetsOf bs) nonterminal 0 (omega (arith, length-sets openingOf nulls (productionsIn bs))))
 
   -- The first set that the room has is that of the table.
   pub kinds-are : (nonterminal : ℕ) → kindsIn room nonterminal ≡ getD (firstSetsOf bs) nonterminal 0

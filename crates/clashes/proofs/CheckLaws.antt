@@ -17,7 +17,7 @@ use Rattle.productions.specs.Normal.{Production}
 use Rattle.productions.specs.Index.{Place, placesIn, productionsAt, Whole}
 use Rattle.productions.specs.Room.{Entry, noEntry, overwritten, HoldsEntries}
 use Rattle.clashes.specs.CheckFirsts.{leftRecursive, noLeftRecursion, noClash, checkFirsts}
-use Rattle.firsts.specs.FirstSets.{nullables, firstSets, leftCalls}
+use Rattle.firsts.specs.FirstSets.{openingOf, callOf, nullables, firstSets, leftCalls}
 use Rattle.clashes.specs.Pairs.{clashingIn, allSharedIn, noClashIn}
 use Rattle.firsts.specs.SetCalls.{BothSets}
 use Rattle.firsts.specs.Room.{entryAt, roomBy, WholeIndex}
@@ -33,7 +33,7 @@ use Rattle.grammar.specs.Limits.{most}
 module _ {nulls : ℕ} {g : List Production} {kinds calls : List ℕ} (both-sets : BothSets nulls g kinds calls) where
   -- as many first sets as nonterminals
   pub kinds-many : length kinds ≡ 64
-  kinds-many = ap length (both-sets .kinds-are) ∙ length-sets false nulls g
+  kinds-many = ap length (both-sets .kinds-are) ∙ length-sets openingOf nulls g
 
   -- the same, as a slice asks for it
   pub kinds-size : 64 ≡ length kinds
@@ -41,7 +41,7 @@ module _ {nulls : ℕ} {g : List Production} {kinds calls : List ℕ} (both-sets
 
   -- and as many sets of left calls
   pub calls-size : 64 ≡ length calls
-  calls-size = sym (ap length (both-sets .calls-are) ∙ length-sets true nulls g)
+  calls-size = sym (ap length (both-sets .calls-are) ∙ length-sets callOf nulls g)
 
 -- left recursion and the room, from what was computed
 pub prepared : (bs : List ℕ) (places : List Place) {room₀ room : List ℕ} {nulls : ℕ} {sets calls : List ℕ}

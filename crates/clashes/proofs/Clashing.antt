@@ -13,7 +13,7 @@ use Rattle.kinds.proofs.KindsLaws.{has-none, has-meet}
 use Rattle.grammar.specs.Table.{Item}
 use Rattle.productions.specs.Normal.{Production}
 use Rattle.clashes.specs.CheckFirsts.{sharedBy, clash, anyPair, joinPairs}
-use Rattle.firsts.specs.FirstSets.{own, nullables, firstSets, firstOf, allPassed}
+use Rattle.firsts.specs.FirstSets.{openingOf, nullables, firstSets, firstOf, allNullable}
 use Rattle.firsts.specs.Rules.{First, first-own, first-call, first-past, Reads, reads}
 use Rattle.clashes.specs.Clashes.{Before, Two, Shares, Clashes}
 use Rattle.firsts.proofs.EqualSets.{some-kind, kind-positive}
@@ -67,7 +67,7 @@ module _ (g : List Production) where
   -- ---------------------------------------------------------------- a shared kind
 
   opens-exactly : (p : Production) (kind : ℕ) → (hasKind (firstOf (nullables g) firsts p) kind ≡ true) ↔ First g Reads (p .items) kind
-  opens-exactly p = items-exactly (own false) Reads reads-exactly g (p .items)
+  opens-exactly p = items-exactly openingOf Reads reads-exactly g (p .items)
 
   share-sound : {nonterminal kind : ℕ} {p other : Production} → nonterminal < 64 → Before g p other
       → hasKind (sharedBy (nullables g) firsts nonterminal p other) kind ≡ true → Shares g nonterminal kind
@@ -114,7 +114,7 @@ module _ (g : List Production) where
       ⊎-elim
       (λ h. let k = some-kind (sharedBy (nullables g) firsts nonterminal p other) (ltb-true 0 _ h) in inl (k .0, share-sound l apart (k .1)))
       (λ h.
-      let m = and-eq-true-iff (allPassed (nullables g) (p .items)) (allPassed (nullables g) (other .items)) .0 h in
+      let m = and-eq-true-iff (allNullable (nullables g) (p .items)) (allNullable (nullables g) (other .items)) .0 h in
       inr
       (record {
         one = p;

@@ -10,7 +10,7 @@ use Rattle.kinds.specs.Kinds.{hasKind, only}
 use Rattle.grammar.specs.Table.{variable, none, keyword, ide, number, Item, terminal, local, call}
 use Rattle.productions.specs.Normal.{Production}
 use Rattle.clashes.specs.CheckFirsts.{lowest, anyWith, anyPair, joinWith, joinPairs, noLeftRecursion, noClash, checkFirsts}
-use Rattle.firsts.specs.FirstSets.{rounds, overAll, allPassed, nullStep, nullables, gather, firstStep, setsOf, firstSets, gatherBy, firstStepBy, setsBy}
+use Rattle.firsts.specs.FirstSets.{rounds, overAll, allNullable, nullStep, nullables, gather, firstStep, setsOf, firstSets}
 
 infix 80 _⟶_
 abbrev _⟶_ : ℕ → List Item → Production
@@ -49,11 +49,11 @@ results =
     ok tt ∷ bad (refusal 12 0 0 0) ∷ bad (refusal 12 3 0 0) ∷ bad (refusal 13 5 3 0) ∷ bad (refusal 13 7 64 0) ∷ ok tt ∷ []
 
 checked : map checkFirsts grammars ≡ results
-unfolding rounds overAll allPassed nullStep nullables gatherBy firstStepBy setsBy lowest anyWith anyPair joinWith joinPairs
+unfolding rounds overAll allNullable nullStep nullables gather firstStep setsOf lowest anyWith anyPair joinWith joinPairs
     noLeftRecursion noClash checkFirsts hasKind only trailingZeros
 checked = refl
 
 -- a word and keyword 3 open 0, a word opens 1
 opened : take 3 (firstSets (nullables passing) passing) ≡ 33 ∷ 1 ∷ 0 ∷ []
-unfolding rounds overAll allPassed nullStep nullables gatherBy firstStepBy setsBy hasKind only
+unfolding rounds overAll allNullable nullStep nullables gather firstStep setsOf hasKind only
 opened = refl

@@ -17,7 +17,7 @@ use Rattle.kinds.specs.Kinds.{hasKind}
 use Rattle.kinds.proofs.KindsLaws.{lowest-has, lowest-first}
 use Rattle.productions.specs.Normal.{Production}
 use Rattle.clashes.specs.CheckFirsts.{sharedBy, clash, anyPair, joinPairs, lowest, leftRecursive, clashing}
-use Rattle.firsts.specs.FirstSets.{own, nullables, firstSets, leftCalls}
+use Rattle.firsts.specs.FirstSets.{callOf, nullables, firstSets, leftCalls}
 use Rattle.clashes.specs.CheckFirsts.{lowestShared, noLeftRecursion, noClash, checkFirsts}
 use Rattle.firsts.specs.Rules.{Calls}
 use Rattle.clashes.specs.FirstRefusals.{Says12, Says13, Says}
@@ -83,7 +83,7 @@ module _ (g : List Production) where
 
   reaches-itself : (nonterminal : ℕ) → nonterminal < 64 → (hasKind (getD (leftCalls (nullables g) g) nonterminal 0) nonterminal ≡ true)
       ↔ LeftRecursive g nonterminal
-  reaches-itself nonterminal l = sets-exactly (own true) Calls calls-exactly g nonterminal nonterminal
+  reaches-itself nonterminal l = sets-exactly callOf Calls calls-exactly g nonterminal nonterminal
 
   lowest-recursive : recursive < 64 → Lowest (LeftRecursive g) recursive
   lowest-recursive = found-lowest (λ n. hasKind (getD (leftCalls (nullables g) g) n 0) n) (LeftRecursive g) reaches-itself (λ n h. h .of .small)

@@ -11,7 +11,7 @@ use Rattle.answers.specs.Checked.{Checked, ok, bad, _>>_}
 use Rattle.kinds.specs.Kinds.{hasKind}
 use Rattle.grammar.specs.Limits.{most}
 use Rattle.productions.specs.Normal.{Production}
-use Rattle.firsts.specs.FirstSets.{allPassed, nullables, firstSets, leftCalls, firstOf}
+use Rattle.firsts.specs.FirstSets.{allNullable, nullables, firstSets, leftCalls, firstOf}
 
 -- the lowest of the k numbers from n on that passes the test, n + k if none does
 unfoldable pub lowest : ℕ → (ℕ → Bool) → ℕ → ℕ
@@ -32,7 +32,7 @@ sharedBy nulls firsts n p q =
 abbrev pub clash : ℕ → List ℕ → ℕ → Production → Production → Bool
 clash nulls firsts n p q =
     (eqb (p .nonterminal) n && eqb (q .nonterminal) n)
-    && (ltb 0 (sharedBy nulls firsts n p q) || (allPassed nulls (p .items) && allPassed nulls (q .items)))
+    && (ltb 0 (sharedBy nulls firsts n p q) || (allNullable nulls (p .items) && allNullable nulls (q .items)))
 
 -- a test of one with each of others, and of each pair
 unfoldable pub anyWith : {A : Type 0} → (A → Bool) → List A → Bool

@@ -16,7 +16,7 @@ use Rattle.terms.specs.Cells.{columns, rowNumbers, rowsLent, wordName, freshNam
 use Rattle.tokens.specs.declared.Token.{Token}
 use Rattle.tokens.specs.Tokens.{endToken}
 use Rattle.productions.specs.Normal.{Production}
-use Rattle.firsts.specs.FirstSets.{nullables, firstSets, firstOf, allPassed}
+use Rattle.firsts.specs.FirstSets.{nullables, firstSets, firstOf, allNullable}
 use Rattle.expansion.specs.declared.State.{State}
 use Rattle.expansion.specs.Run.{Result, done, halt, Run, return, after, _>>=_}
 use Rattle.expansion.specs.Limits.{mostCalls, mostOpen}
@@ -43,7 +43,7 @@ ruleOf nulls firsts p =
       items = p .items;
       result = p .result;
       first = firstOf nulls firsts p;
-      nullable = allPassed nulls (p .items);
+      nullable = allNullable nulls (p .items);
     }
 
 abbrev pub readyBy : List Production → ℕ → List ℕ → Grammar

@@ -1,5 +1,5 @@
 -- A bit of the computed first sets, and of the computed left calls, is set exactly if the rules give it.
--- Both are one computation and one relation, told apart by what an item gives by itself (c: false for first sets, true for left calls).
+-- Both are one computation and one relation, told apart by what an item gives by itself (`own`).
 -- Bit b of all sets together is a set of nonterminals, and each such set settles by itself.
 use Prim.Native.Nat.{ℕ, _<_}
 use mathlib.Core.Path.{_≡_, refl, sym, ap, ap₂, _∙_, fun-ext}
@@ -17,7 +17,7 @@ use Rattle.kinds.specs.Kinds.{hasKind, only}
 use Rattle.kinds.proofs.KindsLaws.{has-none, has-join, has-only, has-own}
 use Rattle.grammar.specs.Table.{keyword, ide, number, kindOf, Item, terminal, local, call}
 use Rattle.productions.specs.Normal.{Production}
-use Rattle.firsts.specs.FirstSets.{patternOf, overAll, isPassed, nullables, own, through, joinedBy, gatherBy, firstStepBy, setsBy}
+use Rattle.firsts.specs.FirstSets.{patternOf, overAll, isNullable, nullables, openingOf, callOf, through, joined, gather, firstStep, setsOf}
 use Rattle.firsts.specs.Rules.{ReadsAt, reads-at, Of, First, first-own, first-call, first-past, FirstOf, Reads, reads, Calls, calls}
 use Rattle.firsts.proofs.Rounds.{Numbers, same-at, nothing, Within, Each, admit, least, least-within, least-closed, least-seen, over-seen}
 use Rattle.firsts.proofs.Rounds.{or-left, or-right, or-split}
@@ -37,12 +37,12 @@ called s (call n ts) = s n
 
 -- an item gives b, by itself or by its nonterminal
 abbrev pub given : (Item → ℕ) → ℕ → Numbers → Item → Bool
-given mine b s i = hasKind (mine i) b || called s i
+given own b s i = hasKind (own i) b || called s i
 
 -- an item gives b, and those before it are passed
 unfoldable pub firstIn : (Item → ℕ) → ℕ → ℕ → Numbers → List Item → Bool
-firstIn mine nulls b s [] = false
-firstIn mine nulls b s (i ∷ is) = given mine b s i || (isPassed nulls i && firstIn mine nulls b s is)
+firstIn own nulls b s [] = false
+firstIn own nulls b s (i ∷ is) = given own b s i || (isNullable nulls i && firstIn own nulls b s is)
 
 called-seen : (kind : ℕ) (sets : List ℕ) (item : Item) → hasKind (through sets item) kind ≡ called (bitOfAll kind sets) item
 called-seen kind sets (terminal t) = has-none kind
@@ -65,66 +65,66 @@ and-more false h e = e
 
 -- ------------------------------------------------------------------ the computed sets are the least, bit by bit
 
-module _ (mine : Item → ℕ) (nulls kind : ℕ) where
+module _ (own : Item → ℕ) (nulls kind : ℕ) where
   -- and gives no less
-  pub first-more : (numbers others : Numbers) → Within numbers others → (is : List Item) → firstIn mine nulls kind numbers is ≡ true
-      → firstIn mine nulls kind others is ≡ true
+  pub first-more : (numbers others : Numbers) → Within numbers others → (is : List Item) → firstIn own nulls kind numbers is ≡ true
+      → firstIn own nulls kind others is ≡ true
   unfolding firstIn
   first-more numbers others h [] e = e
   first-more numbers others h (i ∷ is) e =
-      ⊎-elim (λ a. or-left _ (or-more (hasKind (mine i) kind) (called-more numbers others h i) a))
-      (λ a. or-right (given mine kind others i) (and-more (isPassed nulls i) (first-more numbers others h is) a)) (or-split (given mine kind numbers i) e)
+      ⊎-elim (λ a. or-left _ (or-more (hasKind (own i) kind) (called-more numbers others h i) a))
+      (λ a. or-right (given own kind others i) (and-more (isNullable nulls i) (first-more numbers others h is) a)) (or-split (given own kind numbers i) e)
 
   joined-seen : (sets : List ℕ) (item : Item) (found : ℕ)
-      → hasKind (joinedBy mine sets item found) kind ≡ (hasKind found kind || given mine kind (bitOfAll kind sets) item)
+      → hasKind (joined own sets item found) kind ≡ (hasKind found kind || given own kind (bitOfAll kind sets) item)
   joined-seen sets item found =
-      has-join (bitOr found (mine item)) (through sets item) kind ∙ ap₂ _||_ (has-join found (mine item) kind) (called-seen kind sets item)
-      ∙ or-assoc (hasKind found kind) (hasKind (mine item) kind) (called (bitOfAll kind sets) item)
+      has-join (bitOr found (own item)) (through sets item) kind ∙ ap₂ _||_ (has-join found (own item) kind) (called-seen kind sets item)
+      ∙ or-assoc (hasKind found kind) (hasKind (own item) kind) (called (bitOfAll kind sets) item)
 
   gather-seen : (sets : List ℕ) (is : List Item) (found : ℕ)
-      → hasKind (gatherBy mine nulls sets is found) kind ≡ (hasKind found kind || firstIn mine nulls kind (bitOfAll kind sets) is)
-  unfolding gatherBy firstIn
+      → hasKind (gather own nulls sets is found) kind ≡ (hasKind found kind || firstIn own nulls kind (bitOfAll kind sets) is)
+  unfolding gather firstIn
   gather-seen sets [] found = sym (or-false (hasKind found kind))
-  gather-seen sets (i ∷ is) found = by (isPassed nulls i) refl (gather-seen sets is (joinedBy mine sets i found))
+  gather-seen sets (i ∷ is) found = by (isNullable nulls i) refl (gather-seen sets is (joined own sets i found))
     where
-      by : (test : Bool) → isPassed nulls i ≡ test
-          → hasKind (gatherBy mine nulls sets is (joinedBy mine sets i found)) kind
-          ≡ (hasKind (joinedBy mine sets i found) kind || firstIn mine nulls kind (bitOfAll kind sets) is)
-          → hasKind (gatherBy mine nulls sets (i ∷ is) found) kind ≡ (hasKind found kind || firstIn mine nulls kind (bitOfAll kind sets) (i ∷ is))
+      by : (test : Bool) → isNullable nulls i ≡ test
+          → hasKind (gather own nulls sets is (joined own sets i found)) kind
+          ≡ (hasKind (joined own sets i found) kind || firstIn own nulls kind (bitOfAll kind sets) is)
+          → hasKind (gather own nulls sets (i ∷ is) found) kind ≡ (hasKind found kind || firstIn own nulls kind (bitOfAll kind sets) (i ∷ is))
       by true e rest =
-          rw (e, gatherBy)
+          rw (e, gather)
           (rest ∙ rw (joined-seen sets i found)
-          (or-assoc (hasKind found kind) (given mine kind (bitOfAll kind sets) i) (firstIn mine nulls kind (bitOfAll kind sets) is)))
-      by false e rest = rw (e, gatherBy) (joined-seen sets i found ∙ rw (or-false (given mine kind (bitOfAll kind sets) i)) refl)
+          (or-assoc (hasKind found kind) (given own kind (bitOfAll kind sets) i) (firstIn own nulls kind (bitOfAll kind sets) is)))
+      by false e rest = rw (e, gather) (joined-seen sets i found ∙ rw (or-false (given own kind (bitOfAll kind sets) i)) refl)
 
   -- what the code gathers, bit by bit
-  pub items-seen : (sets : List ℕ) (is : List Item) → hasKind (gatherBy mine nulls sets is 0) kind ≡ firstIn mine nulls kind (bitOfAll kind sets) is
+  pub items-seen : (sets : List ℕ) (is : List Item) → hasKind (gather own nulls sets is 0) kind ≡ firstIn own nulls kind (bitOfAll kind sets) is
   items-seen sets is = rw (has-none kind) at (gather-seen sets is 0)
 
-  step-length : (p : Production) (sets : List ℕ) → length sets ≡ 64 → length (firstStepBy mine nulls p sets) ≡ 64
-  unfolding firstStepBy
+  step-length : (p : Production) (sets : List ℕ) → length sets ≡ 64 → length (firstStep own nulls p sets) ≡ 64
+  unfolding firstStep
   step-length p sets h = length-set sets (p .nonterminal) _ ∙ h
 
   step-seen : (p : Production) (sets : List ℕ) → length sets ≡ 64
-      → bitOfAll kind (firstStepBy mine nulls p sets) ≡ admit (firstIn mine nulls kind) p (bitOfAll kind sets)
-  unfolding firstStepBy
+      → bitOfAll kind (firstStep own nulls p sets) ≡ admit (firstIn own nulls kind) p (bitOfAll kind sets)
+  unfolding firstStep
   step-seen p sets h = fun-ext (λ n. by n (ℕ-discrete n (p .nonterminal)) (decLt n 64))
     where
       grown : ℕ
-      grown = bitOr (getD sets (p .nonterminal) 0) (gatherBy mine nulls sets (p .items) 0)
+      grown = bitOr (getD sets (p .nonterminal) 0) (gather own nulls sets (p .items) 0)
 
       given-it : Bool
-      given-it = firstIn mine nulls kind (bitOfAll kind sets) (p .items)
+      given-it = firstIn own nulls kind (bitOfAll kind sets) (p .items)
 
-      by : (nonterminal : ℕ) → Dec (nonterminal ≡ p .nonterminal) → Dec (nonterminal < 64) → bitOfAll kind (firstStepBy mine nulls p sets) nonterminal
-          ≡ admit (firstIn mine nulls kind) p (bitOfAll kind sets) nonterminal
+      by : (nonterminal : ℕ) → Dec (nonterminal ≡ p .nonterminal) → Dec (nonterminal < 64) → bitOfAll kind (firstStep own nulls p sets) nonterminal
+          ≡ admit (firstIn own nulls kind) p (bitOfAll kind sets) nonterminal
       by nonterminal (no e) l =
           rw (getD-set-other sets (p .nonterminal) nonterminal grown 0 e, ne-eqb nonterminal (p .nonterminal) e, and-false (ltb nonterminal 64), and-false _)
           (sym (or-false _))
       by nonterminal (yes e) (yes l) =
-          let own = p .nonterminal in
-          rw (e, getD-set-same sets own grown 0 (omega arith), lt-ltb own 64 (omega arith), eq-eqb own own refl, and-true given-it)
-          (has-join (getD sets (p .nonterminal) 0) (gatherBy mine nulls sets (p .items) 0) kind ∙ rw (items-seen sets (p .items)) refl)
+          let owner = p .nonterminal in
+          rw (e, getD-set-same sets owner grown 0 (omega arith), lt-ltb owner 64 (omega arith), eq-eqb owner owner refl, and-true given-it)
+          (has-join (getD sets (p .nonterminal) 0) (gather own nulls sets (p .items) 0) kind ∙ rw (items-seen sets (p .items)) refl)
       by nonterminal (yes e) (no l) =
           rw (set-out sets (p .nonterminal) grown (omega arith), le-ltb nonterminal 64 (omega arith), and-false given-it) (sym (or-false _))
 
@@ -137,23 +137,23 @@ module _ (mine : Item → ℕ) (nulls kind : ℕ) where
           rw (List·getD-eq-default {A = ℕ} (replicate 64 0) 0 {n = nonterminal} (omega (arith, length-replicate {A = ℕ} 64 0))) (has-none kind)
 
   -- bit `kind` of all sets is the least set that the productions keep
-  pub sets-seen : (g : List Production) → bitOfAll kind (setsBy mine nulls g) ≡ least (firstIn mine nulls kind) g
-  unfolding setsBy
+  pub sets-seen : (g : List Production) → bitOfAll kind (setsOf own nulls g) ≡ least (firstIn own nulls kind) g
+  unfolding setsOf
   sets-seen g =
-      least-seen (λ sets. length sets ≡ 64) (bitOfAll kind) (firstIn mine nulls kind) (firstStepBy mine nulls) step-length step-seen
+      least-seen (λ sets. length sets ≡ 64) (bitOfAll kind) (firstIn own nulls kind) (firstStep own nulls) step-length step-seen
       g (replicate 64 0) (length-replicate {A = ℕ} 64 0) none-seen
 
   -- and after one round it is that of one round
   pub round-seen : (g : List Production)
-      → bitOfAll kind (overAll (firstStepBy mine nulls) g (replicate 64 0)) ≡ overAll (admit (firstIn mine nulls kind)) g nothing
+      → bitOfAll kind (overAll (firstStep own nulls) g (replicate 64 0)) ≡ overAll (admit (firstIn own nulls kind)) g nothing
   round-seen g =
-      over-seen (λ sets. length sets ≡ 64) (bitOfAll kind) (firstIn mine nulls kind) (firstStepBy mine nulls) step-length step-seen
+      over-seen (λ sets. length sets ≡ 64) (bitOfAll kind) (firstIn own nulls kind) (firstStep own nulls) step-length step-seen
       g (replicate 64 0) (length-replicate {A = ℕ} 64 0)
-      ∙ ap (overAll (admit (firstIn mine nulls kind)) g) none-seen
+      ∙ ap (overAll (admit (firstIn own nulls kind)) g) none-seen
 
 -- ------------------------------------------------------------------ the rules
 
-module _ (mine : Item → ℕ) (Own : Item → ℕ → Type 0) (own-exactly : (item : Item) (kind : ℕ) → (hasKind (mine item) kind ≡ true) ↔ Own item kind)
+module _ (own : Item → ℕ) (Own : Item → ℕ → Type 0) (own-exactly : (item : Item) (kind : ℕ) → (hasKind (own item) kind ≡ true) ↔ Own item kind)
     (g : List Production) where
   called-sound : (kind : ℕ) (numbers : Numbers) → Each (λ n. FirstOf g Own n kind) numbers → (item : Item) (is : List Item)
       → called numbers item ≡ true → First g Own (item ∷ is) kind
@@ -162,46 +162,46 @@ module _ (mine : Item → ℕ) (Own : Item → ℕ → Type 0) (own-exactly : (i
   called-sound kind numbers hs (call n ts) is e = let f = hs n e in first-call (f .of) (f .first)
 
   first-sound : (kind : ℕ) (numbers : Numbers) → Each (λ n. FirstOf g Own n kind) numbers → (is : List Item)
-      → firstIn mine (nullables g) kind numbers is ≡ true → First g Own is kind
+      → firstIn own (nullables g) kind numbers is ≡ true → First g Own is kind
   unfolding firstIn
   first-sound kind numbers hs [] e = absurd (false≢true e)
   first-sound kind numbers hs (i ∷ is) e =
-      ⊎-elim (λ a. ⊎-elim (λ o. first-own (own-exactly i kind .0 o)) (called-sound kind numbers hs i is) (or-split (hasKind (mine i) kind) a))
+      ⊎-elim (λ a. ⊎-elim (λ o. first-own (own-exactly i kind .0 o)) (called-sound kind numbers hs i is) (or-split (hasKind (own i) kind) a))
       (λ a.
-      let t = and-eq-true-iff (isPassed (nullables g) i) (firstIn mine (nullables g) kind numbers is) .0 a in
-      first-past (null-item-exactly g i .0 (t .0)) (first-sound kind numbers hs is (t .1))) (or-split (given mine kind numbers i) e)
+      let t = and-eq-true-iff (isNullable (nullables g) i) (firstIn own (nullables g) kind numbers is) .0 a in
+      first-past (null-item-exactly g i .0 (t .0)) (first-sound kind numbers hs is (t .1))) (or-split (given own kind numbers i) e)
 
-  first-complete : {is : List Item} {kind : ℕ} → First g Own is kind → firstIn mine (nullables g) kind (least (firstIn mine (nullables g) kind) g) is
+  first-complete : {is : List Item} {kind : ℕ} → First g Own is kind → firstIn own (nullables g) kind (least (firstIn own (nullables g) kind) g) is
       ≡ true
   unfolding firstIn
   first-complete (first-own {i = i} {b = b} o) = or-left _ (or-left _ (own-exactly i b .1 o))
   first-complete (first-call {n = n} {b = b} {ts = ts} o h) =
       or-left _
-      (or-right (hasKind (mine (call n ts)) b)
-      (least-closed (firstIn mine (nullables g) b) (first-more mine (nullables g) b) g o (first-complete h)))
+      (or-right (hasKind (own (call n ts)) b)
+      (least-closed (firstIn own (nullables g) b) (first-more own (nullables g) b) g o (first-complete h)))
   first-complete (first-past {i = i} {is = is} {b = b} n h) =
-      or-right (given mine b (least (firstIn mine (nullables g) b) g) i) (and-eq-true-iff _ _ .1 (null-item-exactly g i .1 n, first-complete h))
+      or-right (given own b (least (firstIn own (nullables g) b) g) i) (and-eq-true-iff _ _ .1 (null-item-exactly g i .1 n, first-complete h))
 
   -- bit `kind` of the set of `nonterminal` is there exactly if `nonterminal` gives `kind` by the rules
-  pub sets-exactly : (nonterminal kind : ℕ) → (hasKind (getD (setsBy mine (nullables g) g) nonterminal 0) kind ≡ true) ↔ FirstOf g Own nonterminal kind
+  pub sets-exactly : (nonterminal kind : ℕ) → (hasKind (getD (setsOf own (nullables g) g) nonterminal 0) kind ≡ true) ↔ FirstOf g Own nonterminal kind
   sets-exactly nonterminal kind = (
-    λ e. least-within (firstIn mine (nullables g) kind) g (λ m. FirstOf g Own m kind) keeps nonterminal
-        (sym (same-at (sets-seen mine (nullables g) kind g) nonterminal) ∙ e),
-    λ f. same-at (sets-seen mine (nullables g) kind g) nonterminal
-        ∙ least-closed (firstIn mine (nullables g) kind) (first-more mine (nullables g) kind) g (f .of) (first-complete (f .first)),
+    λ e. least-within (firstIn own (nullables g) kind) g (λ m. FirstOf g Own m kind) keeps nonterminal
+        (sym (same-at (sets-seen own (nullables g) kind g) nonterminal) ∙ e),
+    λ f. same-at (sets-seen own (nullables g) kind g) nonterminal
+        ∙ least-closed (firstIn own (nullables g) kind) (first-more own (nullables g) kind) g (f .of) (first-complete (f .first)),
   )
     where
       keeps : (numbers : Numbers) → Each (λ nonterminal. FirstOf g Own nonterminal kind) numbers → (nonterminal : ℕ) (p : Production) → Of g nonterminal p
-          → firstIn mine (nullables g) kind numbers (p .items) ≡ true → FirstOf g Own nonterminal kind
+          → firstIn own (nullables g) kind numbers (p .items) ≡ true → FirstOf g Own nonterminal kind
       keeps numbers hs nonterminal p o e = record { production = p; of = o; first = first-sound kind numbers hs (p .items) e }
 
   -- and so it is with the items of one production
-  pub items-exactly : (is : List Item) (kind : ℕ) → (hasKind (gatherBy mine (nullables g) (setsBy mine (nullables g) g) is 0) kind ≡ true)
+  pub items-exactly : (is : List Item) (kind : ℕ) → (hasKind (gather own (nullables g) (setsOf own (nullables g) g) is 0) kind ≡ true)
       ↔ First g Own is kind
   items-exactly is kind = (
-    λ e. first-sound kind (bitOfAll kind (setsBy mine (nullables g) g)) (λ n. sets-exactly n kind .0) is
-        (sym (items-seen mine (nullables g) kind _ is) ∙ e),
-    λ f. items-seen mine (nullables g) kind _ is ∙ rw (sets-seen mine (nullables g) kind g) (first-complete f),
+    λ e. first-sound kind (bitOfAll kind (setsOf own (nullables g) g)) (λ n. sets-exactly n kind .0) is
+        (sym (items-seen own (nullables g) kind _ is) ∙ e),
+    λ f. items-seen own (nullables g) kind _ is ∙ rw (sets-seen own (nullables g) kind g) (first-complete f),
   )
 
 -- ------------------------------------------------------------------ what an item gives by itself
@@ -215,27 +215,27 @@ only-has own-kind kind e =
     let t = and-eq-true-iff (ltb kind 64) (eqb kind own-kind) .0 (sym (has-only own-kind kind) ∙ e) in (eqb-true kind own-kind (t .1), ltb-true kind 64 (t .0))
 
 -- an item gives its kind to a first set
-pub reads-exactly : (item : Item) (kind : ℕ) → (hasKind (own false item) kind ≡ true) ↔ Reads item kind
+pub reads-exactly : (item : Item) (kind : ℕ) → (hasKind (openingOf item) kind ≡ true) ↔ Reads item kind
 reads-exactly item kind = (sound item, complete item kind)
   where
-    sound : (item : Item) → hasKind (own false item) kind ≡ true → Reads item kind
+    sound : (item : Item) → hasKind (openingOf item) kind ≡ true → Reads item kind
     sound (terminal t) e = let o = only-has (kindOf t) kind e in rw (o .0) (reads {t = t} (omega (arith, o)))
     sound local e = absurd (none-has kind e)
     sound (call n ts) e = absurd (none-has kind e)
 
-    complete : (item : Item) (kind : ℕ) → Reads item kind → hasKind (own false item) kind ≡ true
+    complete : (item : Item) (kind : ℕ) → Reads item kind → hasKind (openingOf item) kind ≡ true
     complete _ _ (reads {t = t} l) = has-own (kindOf t) l
 
 -- an item gives its nonterminal to the left calls
-pub calls-exactly : (item : Item) (kind : ℕ) → (hasKind (own true item) kind ≡ true) ↔ Calls item kind
+pub calls-exactly : (item : Item) (kind : ℕ) → (hasKind (callOf item) kind ≡ true) ↔ Calls item kind
 calls-exactly item kind = (sound item, complete item kind)
   where
-    sound : (item : Item) → hasKind (own true item) kind ≡ true → Calls item kind
+    sound : (item : Item) → hasKind (callOf item) kind ≡ true → Calls item kind
     sound (terminal t) e = absurd (none-has kind e)
     sound local e = absurd (none-has kind e)
     sound (call n ts) e = let t = only-has n kind e in rw (t .0) (calls {n = n} (omega arith))
 
-    complete : (item : Item) (kind : ℕ) → Calls item kind → hasKind (own true item) kind ≡ true
+    complete : (item : Item) (kind : ℕ) → Calls item kind → hasKind (callOf item) kind ≡ true
     complete _ _ (calls {n = n} l) = has-own n l
 
 -- an ide gives its sort to what reads a variable

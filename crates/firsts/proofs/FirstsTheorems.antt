@@ -8,7 +8,7 @@ use mathlib.Core.List.{List}
 use lib.ListN.{getD}
 use Rattle.kinds.specs.Kinds.{hasKind}
 use Rattle.productions.specs.Normal.{Production}
-use Rattle.firsts.specs.FirstSets.{allPassed, own, patternOf, patternSets, patternsOf, nullables, firstSets, leftCalls, firstOf}
+use Rattle.firsts.specs.FirstSets.{allNullable, openingOf, callOf, patternOf, patternSets, patternsOf, nullables, firstSets, leftCalls, firstOf}
 use Rattle.firsts.specs.Rules.{ReadsAt, NullItems, Nullable, First, Reads, Calls, Opens, LeftReaches}
 use Rattle.firsts.proofs.NullablesExactly as nulls
 use Rattle.firsts.proofs.FirstSetsExactly.{sets-exactly, items-exactly, reads-exactly, calls-exactly, reads-at-exactly}
@@ -20,19 +20,19 @@ module _ (g : List Production) where
 
   -- 2. Bit `kind` of the first set of `nonterminal` is set exactly if `kind` opens `nonterminal`.
   pub opens-exactly : (nonterminal kind : ℕ) → (hasKind (getD (firstSets (nullables g) g) nonterminal 0) kind ≡ true) ↔ Opens g nonterminal kind
-  opens-exactly = sets-exactly (own false) Reads reads-exactly g
+  opens-exactly = sets-exactly openingOf Reads reads-exactly g
 
   -- 3. Bit `callee` of the left calls of `nonterminal` is set exactly if `nonterminal` reaches `callee` by calls preceded only by nullable items.
   pub reaches-exactly : (nonterminal callee : ℕ) → (hasKind (getD (leftCalls (nullables g) g) nonterminal 0) callee ≡ true) ↔ LeftReaches g nonterminal callee
-  reaches-exactly = sets-exactly (own true) Calls calls-exactly g
+  reaches-exactly = sets-exactly callOf Calls calls-exactly g
 
   -- 4. Bit `kind` of the first set of one production is set exactly if its items give `kind` first.
   pub production-opens-exactly : (p : Production) (kind : ℕ)
       → (hasKind (firstOf (nullables g) (firstSets (nullables g) g) p) kind ≡ true) ↔ First g Reads (p .items) kind
-  production-opens-exactly p = items-exactly (own false) Reads reads-exactly g (p .items)
+  production-opens-exactly p = items-exactly openingOf Reads reads-exactly g (p .items)
 
   -- 5. A production is found nullable exactly if its items may all read nothing.
-  pub production-nullable-exactly : (p : Production) → (allPassed (nullables g) (p .items) ≡ true) ↔ NullItems g (p .items)
+  pub production-nullable-exactly : (p : Production) → (allNullable (nullables g) (p .items) ≡ true) ↔ NullItems g (p .items)
   production-nullable-exactly p = nulls.null-items-exactly g (p .items)
 
   -- 6. Bit `sort` of what reads a variable first in a production is set exactly if an ide of that sort stands first in it.

@@ -18,7 +18,7 @@ use Rattle.grammar.specs.Lookup.{fieldsAt}
 use Rattle.productions.specs.Normal.{Production}
 use Rattle.productions.specs.Index.{itemsOf, productionAt, productionsBy}
 use Rattle.firsts.specs.declared.Gathered.{Gathered}
-use Rattle.firsts.specs.FirstSets.{own, rounds, overAll, isPassed, allPassed, nullStep, nullables, gather}
+use Rattle.firsts.specs.FirstSets.{callOf, rounds, overAll, isNullable, allNullable, nullStep, nullables, gather}
 use Rattle.firsts.specs.SetCalls.{joinedIf, gathered}
 use Rattle.firsts.specs.Needs.{everyOne, Nonterminals, needStep, needPass, needRound, stepPlace, NeedsLent, NeedsHeld}
 use Rattle.firsts.proofs.Rounds.{nothing, count, count-le, grows, or-left, or-right, or-split}
@@ -94,65 +94,65 @@ joined-in reached-set other e nonterminal f =
 -- ------------------------------------------------------------------ the items of a production
 
 -- an item that is passed is passed with all nonterminals nullable
-passed-every : {nulls : ℕ} → Nonterminals nulls → (item : Item) → isPassed nulls item ≡ true → isPassed everyOne item ≡ true
+passed-every : {nulls : ℕ} → Nonterminals nulls → (item : Item) → isNullable nulls item ≡ true → isNullable everyOne item ≡ true
 passed-every h (terminal t) e = e
 passed-every h local e = e
 passed-every h (call n ts) e = every-has n (small-in h n e)
 
 -- what an item calls, where it is passed
-passed-needs : (nulls kind : ℕ) (item : Item) → isPassed nulls item ≡ true → given (own true) kind nothing item ≡ true → hasKind nulls kind ≡ true
+passed-needs : (nulls kind : ℕ) (item : Item) → isNullable nulls item ≡ true → given callOf kind nothing item ≡ true → hasKind nulls kind ≡ true
 passed-needs nulls kind (terminal t) e f = absurd (false≢true e)
 passed-needs nulls kind local e f = absurd (⊎-elim (λ p. false≢true (sym (has-none kind) ∙ p)) (λ p. false≢true p) (or-split (hasKind 0 kind) f))
 passed-needs nulls kind (call n ts) e f = rw (only-has n kind (⊎-elim (λ p. p) (λ p. absurd (false≢true p)) (or-split (hasKind (only n) kind) f)) .0) e
 
-needs-passed : (nulls : ℕ) (item : Item) → isPassed everyOne item ≡ true → ((kind : ℕ) → given (own true) kind nothing item ≡ true → hasKind nulls kind ≡ true)
-    → isPassed nulls item ≡ true
+needs-passed : (nulls : ℕ) (item : Item) → isNullable everyOne item ≡ true → ((kind : ℕ) → given callOf kind nothing item ≡ true → hasKind nulls kind ≡ true)
+    → isNullable nulls item ≡ true
 needs-passed nulls (terminal t) e h = e
 needs-passed nulls local e h = e
 needs-passed nulls (call n ts) e h = h n (or-left _ (has-own n (every-small n e)))
 
 abbrev Needed : ℕ → List Item → Type 0
-Needed nulls is = (b : ℕ) → firstIn (own true) everyOne b nothing is ≡ true → hasKind nulls b ≡ true
+Needed nulls is = (b : ℕ) → firstIn callOf everyOne b nothing is ≡ true → hasKind nulls b ≡ true
 
-all-every : {nulls : ℕ} → Nonterminals nulls → (is : List Item) → allPassed nulls is ≡ true → allPassed everyOne is ≡ true
-unfolding allPassed
+all-every : {nulls : ℕ} → Nonterminals nulls → (is : List Item) → allNullable nulls is ≡ true → allNullable everyOne is ≡ true
+unfolding allNullable
 all-every h [] e = e
 all-every h (i ∷ is) e =
     let p = and-eq-true-iff _ _ .0 e in
     and-eq-true-iff _ _ .1 (passed-every h i (p .0), all-every h is (p .1))
 
-all-needed : (nulls : ℕ) (is : List Item) → allPassed nulls is ≡ true → Needed nulls is
-unfolding allPassed firstIn
+all-needed : (nulls : ℕ) (is : List Item) → allNullable nulls is ≡ true → Needed nulls is
+unfolding allNullable firstIn
 all-needed nulls [] e b f = absurd (false≢true f)
 all-needed nulls (i ∷ is) e b f =
-    let p = and-eq-true-iff (isPassed nulls i) (allPassed nulls is) .0 e in
-    ⊎-elim (passed-needs nulls b i (p .0)) (λ q. all-needed nulls is (p .1) b (and-eq-true-iff (isPassed everyOne i) _ .0 q .1))
-    (or-split (given (own true) b nothing i) f)
+    let p = and-eq-true-iff (isNullable nulls i) (allNullable nulls is) .0 e in
+    ⊎-elim (passed-needs nulls b i (p .0)) (λ q. all-needed nulls is (p .1) b (and-eq-true-iff (isNullable everyOne i) _ .0 q .1))
+    (or-split (given callOf b nothing i) f)
 
-needed-all : (nulls : ℕ) (is : List Item) → allPassed everyOne is ≡ true → Needed nulls is → allPassed nulls is ≡ true
-unfolding allPassed firstIn
+needed-all : (nulls : ℕ) (is : List Item) → allNullable everyOne is ≡ true → Needed nulls is → allNullable nulls is ≡ true
+unfolding allNullable firstIn
 needed-all nulls [] e h = e
 needed-all nulls (i ∷ is) e h =
-    let p = and-eq-true-iff (isPassed everyOne i) (allPassed everyOne is) .0 e in
+    let p = and-eq-true-iff (isNullable everyOne i) (allNullable everyOne is) .0 e in
     and-eq-true-iff _ _ .1 (
       needs-passed nulls i (p .0) (λ b q. h b (or-left _ q)),
-      needed-all nulls is (p .1) (λ b q. h b (or-right (given (own true) b nothing i) (and-eq-true-iff _ _ .1 (p .0, q)))),
+      needed-all nulls is (p .1) (λ b q. h b (or-right (given callOf b nothing i) (and-eq-true-iff _ _ .1 (p .0, q)))),
     )
 
 -- ------------------------------------------------------------------ a step
 
 module _ (is : List Item) where
   abbrev needsOf : ℕ
-  needsOf = gather true everyOne [] is 0
+  needsOf = gather callOf everyOne [] is 0
 
-  needs-seen : (kind : ℕ) → hasKind needsOf kind ≡ firstIn (own true) everyOne kind nothing is
-  needs-seen kind = items-seen (own true) everyOne kind [] is ∙ ap (λ s. firstIn (own true) everyOne kind s is) (fun-ext (λ n. has-none kind))
+  needs-seen : (kind : ℕ) → hasKind needsOf kind ≡ firstIn callOf everyOne kind nothing is
+  needs-seen kind = items-seen callOf everyOne kind [] is ∙ ap (λ s. firstIn callOf everyOne kind s is) (fun-ext (λ n. has-none kind))
 
   -- with only locals and calls, the needs decide
-  test-is : allPassed everyOne is ≡ true → (nulls : ℕ) → eqb (bitOr nulls needsOf) nulls ≡ allPassed nulls is
+  test-is : allNullable everyOne is ≡ true → (nulls : ℕ) → eqb (bitOr nulls needsOf) nulls ≡ allNullable nulls is
   test-is e nulls = by _ _ refl refl
     where
-      by : (first second : Bool) → eqb (bitOr nulls needsOf) nulls ≡ first → allPassed nulls is ≡ second → eqb (bitOr nulls needsOf) nulls ≡ allPassed nulls is
+      by : (first second : Bool) → eqb (bitOr nulls needsOf) nulls ≡ first → allNullable nulls is ≡ second → eqb (bitOr nulls needsOf) nulls ≡ allNullable nulls is
       by true second ea eb = ea ∙ sym (needed-all nulls is e (λ n f. joined-in nulls needsOf ea n (needs-seen n ∙ f)))
       by false true ea eb = joins-none nulls needsOf (λ n f. all-needed nulls is eb n (sym (needs-seen n) ∙ f)) ∙ sym eb
       by false false ea eb = ea ∙ sym eb
@@ -170,16 +170,16 @@ module _ (bs : List ℕ) (owner start : ℕ) {found : Gathered} (ef : found ≡ 
   pub held-step : found .nullable ≡ true → (nulls : ℕ) → needStep owner (found .calls) nulls ≡ nullStep (productionAt bs owner start) nulls
   unfolding nullStep productionAt
   held-step e nulls =
-      rw (ef, test-is items (rw ef at e) nulls) (by-cases owner nulls (allPassed nulls items))
+      rw (ef, test-is items (rw ef at e) nulls) (by-cases owner nulls (allNullable nulls items))
 
   -- one that is not held never is
   pub other-step : found .nullable ≡ false → {nulls : ℕ} → Nonterminals nulls → nulls ≡ nullStep (productionAt bs owner start) nulls
   unfolding nullStep productionAt
   other-step e {nulls} h =
-      let none : allPassed nulls items ≡ false = by (allPassed nulls items) refl in
+      let none : allNullable nulls items ≡ false = by (allNullable nulls items) refl in
       rw (none, nullStep) refl
     where
-      by : (test : Bool) → allPassed nulls items ≡ test → allPassed nulls items ≡ false
+      by : (test : Bool) → allNullable nulls items ≡ test → allNullable nulls items ≡ false
       by true f =
           absurd (false≢true (sym (rw ef at e) ∙ all-every h items f))
       by false f = f

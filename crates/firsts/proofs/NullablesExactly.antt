@@ -8,7 +8,7 @@ use Rattle.kinds.specs.Kinds.{hasKind, only}
 use Rattle.kinds.proofs.KindsLaws.{has-none, has-join, has-only}
 use Rattle.grammar.specs.Table.{Item, terminal, local, call}
 use Rattle.productions.specs.Normal.{Production}
-use Rattle.firsts.specs.FirstSets.{overAll, isPassed, allPassed, nullStep, nullables}
+use Rattle.firsts.specs.FirstSets.{overAll, isNullable, allNullable, nullStep, nullables}
 use Rattle.firsts.specs.Rules.{Of, NullItems, null-none, null-local, null-call, Nullable}
 use Rattle.firsts.proofs.Rounds.{Numbers, same-at, Within, Each, admit, least, least-within, least-closed, least-settled, least-seen, over-seen}
 use Rattle.firsts.proofs.EqualSets.{same-set}
@@ -24,13 +24,13 @@ allIn : Numbers → List Item → Bool
 allIn s [] = true
 allIn s (i ∷ is) = passed s i && allIn s is
 
-passed-seen : (nulls : ℕ) (item : Item) → isPassed nulls item ≡ passed (hasKind nulls) item
+passed-seen : (nulls : ℕ) (item : Item) → isNullable nulls item ≡ passed (hasKind nulls) item
 passed-seen nulls (terminal t) = refl
 passed-seen nulls local = refl
 passed-seen nulls (call n ts) = refl
 
-all-seen : (nulls : ℕ) (is : List Item) → allPassed nulls is ≡ allIn (hasKind nulls) is
-unfolding allPassed allIn
+all-seen : (nulls : ℕ) (is : List Item) → allNullable nulls is ≡ allIn (hasKind nulls) is
+unfolding allNullable allIn
 all-seen nulls [] = refl
 all-seen nulls (i ∷ is) = ap₂ _&&_ (passed-seen nulls i) (all-seen nulls is)
 
@@ -50,9 +50,9 @@ all-more numbers others h (i ∷ is) e =
 
 step-seen : (p : Production) (nulls : ℕ) → Unit {0} → hasKind (nullStep p nulls) ≡ admit allIn p (hasKind nulls)
 unfolding nullStep
-step-seen p nulls u = fun-ext (λ n. by n (allPassed nulls (p .items)) refl)
+step-seen p nulls u = fun-ext (λ n. by n (allNullable nulls (p .items)) refl)
   where
-    by : (nonterminal : ℕ) (test : Bool) → allPassed nulls (p .items) ≡ test
+    by : (nonterminal : ℕ) (test : Bool) → allNullable nulls (p .items) ≡ test
         → hasKind (nullStep p nulls) nonterminal ≡ admit allIn p (hasKind nulls) nonterminal
     by nonterminal true e =
         rw (← all-seen nulls (p .items), e, nullStep) (rw (has-only (p .nonterminal) nonterminal) at (has-join nulls (only (p .nonterminal)) nonterminal))
@@ -101,14 +101,14 @@ module _ (g : List Production) where
       keeps numbers hs nonterminal p o e = record { production = p; of = o; items = null-sound numbers hs (p .items) e }
 
   -- items are found nullable exactly if they are
-  pub null-items-exactly : (is : List Item) → (allPassed (nullables g) is ≡ true) ↔ NullItems g is
+  pub null-items-exactly : (is : List Item) → (allNullable (nullables g) is ≡ true) ↔ NullItems g is
   null-items-exactly is = (
     λ e. null-sound (hasKind (nullables g)) (λ n. nullable-exactly n .0) is (sym (all-seen (nullables g) is) ∙ e),
     λ h. all-seen (nullables g) is ∙ rw (nullables-seen g) (null-complete h),
   )
 
   -- and so it is with one item
-  pub null-item-exactly : (item : Item) → (isPassed (nullables g) item ≡ true) ↔ NullItems g (item ∷ [])
-  unfolding allPassed
+  pub null-item-exactly : (item : Item) → (isNullable (nullables g) item ≡ true) ↔ NullItems g (item ∷ [])
+  unfolding allNullable
   null-item-exactly item =
       (λ e. null-items-exactly (item ∷ []) .0 (and-true _ ∙ e), λ h. sym (and-true _) ∙ null-items-exactly (item ∷ []) .1 h)

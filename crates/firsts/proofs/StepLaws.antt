@@ -1,15 +1,15 @@
 -- Laws of the steps over the productions of an index.
 use Prim.Native.Nat.{ℕ, zero, suc, _+_, _-_, _<_, _≤_}
 use mathlib.Core.Path.{_≡_, refl, sym, ap, _∙_}
-use mathlib.Core.Bool.{Bool, true, false}
 use mathlib.Core.List.{List, [], _∷_}
 use native.Mathlib.Nat.{sub-zero}
 use lib.Bits.{bitOr}
 use lib.ListN.{length, getD, set, replicate, length-set, length-replicate}
 use lib.Seq.{set-out}
+use Rattle.grammar.specs.Table.{Item}
 use Rattle.grammar.specs.Lookup.{fieldsAt}
 use Rattle.productions.specs.Normal.{Production}
-use Rattle.firsts.specs.FirstSets.{rounds, overAll, firstStep, setsOf, firstStepBy, setsBy}
+use Rattle.firsts.specs.FirstSets.{rounds, overAll, openingOf, callOf, firstStep, setsOf}
 use Rattle.firsts.specs.declared.Gathered.{Gathered}
 use Rattle.firsts.specs.SetCalls.{gathered, StepTaken, RoundTaken, SetsLent}
 use Rattle.productions.specs.Index.{itemsOf, Place, productionAt, productionsAt, placesFrom, productionsBy}
@@ -59,19 +59,19 @@ pub step-is : (nulls : ℕ) (bs : List ℕ) (owner start : ℕ) (kinds calls : L
     → found ≡ gathered nulls kinds calls (itemsOf (fieldsAt bs start)) → {kinds′ calls′ : List ℕ}
     → kinds′ ≡ set kinds owner (bitOr (getD kinds owner 0) (found .kinds)) → calls′ ≡ set calls owner (bitOr (getD calls owner 0) (found .calls))
     → StepTaken nulls (productionAt bs owner start) kinds calls kinds′ calls′
-unfolding firstStepBy productionAt
+unfolding firstStep productionAt
 step-is nulls bs owner start kinds calls e ek el = record { kinds-are = ek ∙ rw e refl; calls-are = el ∙ rw e refl }
 
 -- there are always as many sets
-length-step : (calls : Bool) (nulls : ℕ) (p : Production) (sets : List ℕ) → length (firstStep calls nulls p sets) ≡ length sets
-unfolding firstStepBy
-length-step calls nulls p sets = length-set sets (p .nonterminal) _
+length-step : (own : Item → ℕ) (nulls : ℕ) (p : Production) (sets : List ℕ) → length (firstStep own nulls p sets) ≡ length sets
+unfolding firstStep
+length-step own nulls p sets = length-set sets (p .nonterminal) _
 
 -- a round keeps their number
-pub length-over : (calls : Bool) (nulls : ℕ) (g : List Production) (sets : List ℕ) → length (overAll (firstStep calls nulls) g sets) ≡ length sets
+pub length-over : (own : Item → ℕ) (nulls : ℕ) (g : List Production) (sets : List ℕ) → length (overAll (firstStep own nulls) g sets) ≡ length sets
 unfolding overAll
-length-over calls nulls [] sets = refl
-length-over calls nulls (p ∷ g) sets = length-over calls nulls g _ ∙ length-step calls nulls p sets
+length-over own nulls [] sets = refl
+length-over own nulls (p ∷ g) sets = length-over own nulls g _ ∙ length-step own nulls p sets
 
 length-rounds : (times : ℕ) (step : List ℕ → List ℕ) → ((sets : List ℕ) → length (step sets) ≡ length sets) → (sets : List ℕ)
     → length (rounds times step sets) ≡ length sets
@@ -80,17 +80,17 @@ length-rounds zero step e sets = refl
 length-rounds (suc times) step e sets = length-rounds times step e (step sets) ∙ e sets
 
 -- 64 sets, whatever the grammar
-pub length-sets : (calls : Bool) (nulls : ℕ) (g : List Production) → length (setsOf calls nulls g) ≡ 64
-unfolding setsBy
-length-sets calls nulls g =
-    length-rounds 64 (overAll (firstStep calls nulls) g) (length-over calls nulls g) (replicate 64 0) ∙ length-replicate {A = ℕ} 64 0
+pub length-sets : (own : Item → ℕ) (nulls : ℕ) (g : List Production) → length (setsOf own nulls g) ≡ 64
+unfolding setsOf
+length-sets own nulls g =
+    length-rounds 64 (overAll (firstStep own nulls) g) (length-over own nulls g) (replicate 64 0) ∙ length-replicate {A = ℕ} 64 0
 
 -- the sets after the productions before number `turn`
 pub record Joining (nulls : ℕ) (bs owners starts : List ℕ) (many : ℕ) (kinds₀ calls₀ : List ℕ) (turn : ℕ) (kinds calls : List ℕ) : Type 0 where
   -- the first sets so far, and the productions left, give those after a whole round
-  pub kinds-over : Over (firstStep false nulls) bs owners starts many kinds₀ turn kinds
+  pub kinds-over : Over (firstStep openingOf nulls) bs owners starts many kinds₀ turn kinds
   -- so do the sets of left calls
-  pub calls-over : Over (firstStep true nulls) bs owners starts many calls₀ turn calls
+  pub calls-over : Over (firstStep callOf nulls) bs owners starts many calls₀ turn calls
   -- the first sets are as many as before
   pub kinds-many : length kinds ≡ length kinds₀
   -- so are the sets of left calls
@@ -100,8 +100,8 @@ pub record Joining (nulls : ℕ) (bs owners starts : List ℕ) (many : ℕ) (kin
 pub joining-start : (nulls : ℕ) (bs owners starts : List ℕ) (many : ℕ) (kinds calls : List ℕ) → Joining nulls bs owners starts many kinds calls 0 kinds calls
 joining-start nulls bs owners starts many kinds calls =
     record {
-      kinds-over = over-start (firstStep false nulls) bs owners starts many kinds;
-      calls-over = over-start (firstStep true nulls) bs owners starts many calls;
+      kinds-over = over-start (firstStep openingOf nulls) bs owners starts many kinds;
+      calls-over = over-start (firstStep callOf nulls) bs owners starts many calls;
       kinds-many = refl;
       calls-many = refl;
     }
@@ -115,8 +115,8 @@ module _ {nulls : ℕ} {bs owners starts : List ℕ} {many : ℕ} {kinds₀ call
       record {
         kinds-over = over-next (joining .kinds-over) h eo es (e .kinds-are);
         calls-over = over-next (joining .calls-over) h eo es (e .calls-are);
-        kinds-many = ap length (e .kinds-are) ∙ length-step false nulls _ kinds ∙ joining .kinds-many;
-        calls-many = ap length (e .calls-are) ∙ length-step true nulls _ calls ∙ joining .calls-many;
+        kinds-many = ap length (e .kinds-are) ∙ length-step openingOf nulls _ kinds ∙ joining .kinds-many;
+        calls-many = ap length (e .calls-are) ∙ length-step callOf nulls _ calls ∙ joining .calls-many;
       }
 
   -- no production is left
@@ -127,6 +127,6 @@ module _ {nulls : ℕ} {bs owners starts : List ℕ} {many : ℕ} {kinds₀ call
 pub round-lent : {nulls : ℕ} {g : List Production} {kinds calls : List ℕ} → RoundTaken nulls g (replicate 64 0) (replicate 64 0) kinds calls
     → SetsLent calls kinds
 round-lent {nulls} {g} r =
-    let many : (c : Bool) → length (overAll (firstStep c nulls) g (replicate 64 0)) ≡ 64 =
-    λ c. length-over c nulls g (replicate 64 0) ∙ length-replicate {A = ℕ} 64 0 in
-    record { calls-many = ap length (r .calls-are) ∙ many true; kinds-many = ap length (r .kinds-are) ∙ many false }
+    let many : (own : Item → ℕ) → length (overAll (firstStep own nulls) g (replicate 64 0)) ≡ 64 =
+    λ own. length-over own nulls g (replicate 64 0) ∙ length-replicate {A = ℕ} 64 0 in
+    record { calls-many = ap length (r .calls-are) ∙ many callOf; kinds-many = ap length (r .kinds-are) ∙ many openingOf }

@@ -11,7 +11,7 @@ use Rattle.decoding.specs.Within.{Each}
 use Rattle.productions.specs.Normal.{Production}
 use Rattle.productions.specs.Index.{itemsOf, Place, placesOf, productionsAt, wholeBody, placesIn, Whole}
 use Rattle.productions.specs.Room.{Entry, roomOf}
-use Rattle.firsts.specs.FirstSets.{nullables, firstSets, allPassed, gather}
+use Rattle.firsts.specs.FirstSets.{nullables, firstSets, allNullable, openingOf, gather}
 
 -- a production at a place, with the sets of its grammar
 abbrev pub entryAt : List ℕ → ℕ → List ℕ → Place → Entry
@@ -19,8 +19,8 @@ entryAt bs nulls sets p =
     record {
       nonterminal = p .nonterminal;
       start = p .start;
-      first = gather false nulls sets (itemsOf (fieldsAt bs (p .start))) 0;
-      nullable = allPassed nulls (itemsOf (fieldsAt bs (p .start)));
+      first = gather openingOf nulls sets (itemsOf (fieldsAt bs (p .start))) 0;
+      nullable = allNullable nulls (itemsOf (fieldsAt bs (p .start)));
     }
 
 abbrev pub roomBy : List ℕ → List Place → ℕ → List ℕ → List ℕ

@@ -12,27 +12,34 @@ use Rattle.grammar.specs.Limits.{most}
 use Rattle.kinds.specs.Kinds.{hasKind}
 use Rattle.grammar.specs.Table.{Item}
 use Rattle.productions.specs.Normal.{Production}
+use Rattle.firsts.specs.declared.Family.{Family}
+use Rattle.firsts.specs.declared.Family.the-variants.{Openings, Calls}
 use Rattle.firsts.specs.declared.Gathered.{Gathered}
-use Rattle.firsts.specs.FirstSets.{overAll, allPassed, gather, firstStep, setsOf}
+use Rattle.firsts.specs.FirstSets.{overAll, allNullable, openingOf, callOf, gather, firstStep, setsOf}
+
+-- what an item gives by itself to the sets of a family
+abbrev pub ownOf : Family → Item → ℕ
+ownOf Openings = openingOf
+ownOf Calls = callOf
 
 -- what the items of a production give, where the sets of the nonterminals are `kinds` and `calls`, and whether all may read nothing
 abbrev pub gathered : ℕ → List ℕ → List ℕ → List Item → Gathered
-gathered nulls kinds calls is = record { kinds = gather false nulls kinds is 0; calls = gather true nulls calls is 0; nullable = allPassed nulls is }
+gathered nulls kinds calls is = record { kinds = gather openingOf nulls kinds is 0; calls = gather callOf nulls calls is 0; nullable = allNullable nulls is }
 
 -- one production joined to the sets of its nonterminal
 pub record StepTaken (nulls : ℕ) (p : Production) (kinds₀ calls₀ kinds calls : List ℕ) : Type 0 where
-  pub kinds-are : kinds ≡ firstStep false nulls p kinds₀
-  pub calls-are : calls ≡ firstStep true nulls p calls₀
+  pub kinds-are : kinds ≡ firstStep openingOf nulls p kinds₀
+  pub calls-are : calls ≡ firstStep callOf nulls p calls₀
 
 -- one round over all productions
 pub record RoundTaken (nulls : ℕ) (g : List Production) (kinds₀ calls₀ kinds calls : List ℕ) : Type 0 where
-  pub kinds-are : kinds ≡ overAll (firstStep false nulls) g kinds₀
-  pub calls-are : calls ≡ overAll (firstStep true nulls) g calls₀
+  pub kinds-are : kinds ≡ overAll (firstStep openingOf nulls) g kinds₀
+  pub calls-are : calls ≡ overAll (firstStep callOf nulls) g calls₀
 
 -- the first sets and the left calls
 pub record BothSets (nulls : ℕ) (g : List Production) (kinds calls : List ℕ) : Type 0 where
-  pub kinds-are : kinds ≡ setsOf false nulls g
-  pub calls-are : calls ≡ setsOf true nulls g
+  pub kinds-are : kinds ≡ setsOf openingOf nulls g
+  pub calls-are : calls ≡ setsOf callOf nulls g
 
 -- ------------------------------------------------------------------ the closure
 

@@ -4,3 +4,4 @@ pub mod NormalizedByFields
 pub mod Places
 pub mod RoomLaws
 pub mod RoomWriting
+pub mod SymbolLaws

@@ -4,8 +4,8 @@ use mathlib.Core.Path.{_≡_, _∙_, sym}
 use mathlib.Core.List.{List}
 use lib.ListN.{length, drop}
 use Rattle.grammar.specs.Lookup.{frontOf}
-use Rattle.firsts.specs.declared.SymbolStep.the-variants.{Past}
-use Rattle.firsts.specs.Symbols.{symbolStep}
+use Rattle.productions.specs.declared.SymbolStep.the-variants.{Past}
+use Rattle.productions.specs.Symbols.{symbolStep}
 use Rattle.firsts.proofs.ItemsLaws as laws
 use borrow.Author.Needs.{needs}
 use Rattle.firsts.proofs.items.gather.Statement.{statement}
@@ -47,14 +47,14 @@ loop-again : tie.Need-loop-again Inv-loop μ-loop
 loop-again c =
     let p = c .before .before .before .before in
     laws.walk-next (looped p .loop .inv) (item p) (c .before .before .before .joined .ensures) (c .before .before .joined2 .ensures)
-    (c .before .passed .ensures) (c .if1 .taken)
+    (c .before .nullable .ensures) (c .if1 .taken)
 
 returns-2 : tie.Need-returns-2 Inv-loop μ-loop
 returns-2 c =
     let tested = c .before in
     let p = tested .before .before .before .before in
     laws.walk-stop (looped p .loop .inv) (item p) (tested .before .before .before .joined .ensures) (tested .before .before .joined2 .ensures)
-    (tested .before .passed .ensures) (tested .if1 .left) (c .found2 .ensures)
+    (tested .before .nullable .ensures) (tested .if1 .left) (c .found2 .ensures)
 
 returns-3 : tie.Need-returns-3 Inv-loop μ-loop
 returns-3 c = search laws.walk-end

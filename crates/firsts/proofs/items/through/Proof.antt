@@ -5,8 +5,8 @@ use Rattle.firsts.proofs.ItemsLaws as laws
 use Rattle.firsts.proofs.items.through.Statement.{statement}
 use Rattle.firsts.proofs.items.through.Tie as tie
 
-returns-5 : tie.Need-returns-5
-returns-5 c = c .set-at .ensures ∙ laws.through-is _ (c .before .before .s .given .1)
+returns-3 : tie.Need-returns-3
+returns-3 c = c .set-at .ensures ∙ laws.through-is _ (c .before .before .s .given .1)
 
 -- the function meets its contract
 pub through-spec : {M : Type 1} → statement M
@@ -17,10 +17,7 @@ through-spec =
     (λ c. search needs)
     (λ c. search needs)
     (λ c. search needs)
-    (λ c. search needs)
-    (λ c. search needs) (λ c κs. search needs)
-    (λ c. search needs)
+    (λ c κs. search needs)
     (λ c. search needs)
     (λ c. search needs)
-    (λ c. search needs)
-    returns-5)
+    returns-3)

@@ -7,11 +7,11 @@ use lib.ListN.{length, drop}
 use Rattle.grammar.specs.declared.Front.the-variants.{Field}
 use Rattle.grammar.specs.Lookup.{frontOf}
 use borrow.Author.Needs.{needs}
-use Rattle.firsts.specs.Symbols.{symbolStep}
+use Rattle.productions.specs.Symbols.{symbolStep}
 use Rattle.grammar.proofs.LookupLaws.{front-inside}
-use Rattle.firsts.proofs.ItemsLaws as laws
-use Rattle.firsts.proofs.items.item_at.Statement.{statement}
-use Rattle.firsts.proofs.items.item_at.Tie as tie
+use Rattle.productions.proofs.SymbolLaws as laws
+use Rattle.productions.proofs.items.item_at.Statement.{statement}
+use Rattle.productions.proofs.items.item_at.Tie as tie
 
 -- where a field stands at the offset
 module _ (point : tie.After-known-told) where

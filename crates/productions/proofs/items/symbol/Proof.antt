@@ -1,8 +1,8 @@
 -- `symbol`: the item's kind decides.
 use borrow.Author.Needs.{needs}
-use Rattle.firsts.proofs.ItemsLaws as laws
-use Rattle.firsts.proofs.items.symbol.Statement.{statement}
-use Rattle.firsts.proofs.items.symbol.Tie as tie
+use Rattle.productions.proofs.SymbolLaws as laws
+use Rattle.productions.proofs.items.symbol.Statement.{statement}
+use Rattle.productions.proofs.items.symbol.Tie as tie
 
 returns : tie.Need-returns
 returns c = laws.symbol-is _ _ _ 0 (c .before .before .byte .ensures) (c .before .byte2 .ensures) (c .match .keys1)
