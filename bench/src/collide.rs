@@ -7,16 +7,19 @@ pub enum Hash {
     /// Each byte b takes h to h * multiplier + b, modulo 2^32.
     Polynomial { multiplier: u32 },
     /// The scanner's (crates/lexicon/src/trees.rt): eight bytes at a time, two products and a fold of a state of 64 bits. The low bits of the hash
-    /// choose a tree, further bits a branch at each node.
+    /// choose a tree, further bits a branch at each node. These words share the tree alone.
     Folded,
+    /// The same hash, for words that share all of its 64 bits.
+    FoldedWhole,
 }
 
-/// So many words of at most 14 bytes that collide; 4,096 at most.
+/// So many words of at most 16 bytes that collide; 4,096 at most.
 pub fn words(hash: Hash, count: usize) -> Vec<String> {
     assert!(count <= 4_096);
     match hash {
         Hash::Polynomial { multiplier } => of_one_polynomial(multiplier, count),
         Hash::Folded => of_one_tree(count),
+        Hash::FoldedWhole => of_one_fold(count),
     }
 }
 
@@ -90,6 +93,30 @@ fn of_one_tree(count: usize) -> Vec<String> {
     words.take(count).map(|word| text(&word)).collect()
 }
 
+/// The two highest bits of each byte. In all letters and in the underscore they are 01, and five numbers of six with these bits are one.
+fn high_bits(bytes: u64) -> u64 {
+    bytes & 0xc0c0_c0c0_c0c0_c0c0
+}
+
+/// Words of 16 bytes that are equal in the whole hash: the second eight bytes undo what the first made of the state. The state after the first eight
+/// is a product of four of them, xor one of the other four, so that the fours that fit each other are looked up by the highest bits that the second
+/// eight bytes must have.
+fn of_one_fold(count: usize) -> Vec<String> {
+    let start = 11_400_714_819_323_198_485 ^ 16;
+    let target = fold(start ^ number(b"aaaaaaaa")) ^ number(b"collides");
+    let mut ends: HashMap<u64, Vec<(u64, [u8; 4])>> = HashMap::new();
+    for end in (0..200_000).map(spelled::<4>) {
+        let made = fold((start ^ number(&end) << 32) & 0xffff_ffff_0000_0000);
+        ends.entry(high_bits(made)).or_default().push((made, end));
+    }
+    let words = (0..).map(spelled::<4>).flat_map(|begin| {
+        let made = target ^ fold((start ^ number(&begin)) & 0xffff_ffff);
+        let fitting = ends.get(&high_bits(made ^ 0x4040_4040_4040_4040)).into_iter().flatten();
+        fitting.map(|(other, end)| [&begin[..], end, &(made ^ other).to_le_bytes()].concat()).collect::<Vec<_>>()
+    });
+    words.filter(|word| word.iter().all(|&byte| byte.is_ascii_alphanumeric() || byte == b'_')).take(count).map(|word| text(&word)).collect()
+}
+
 #[cfg(test)]
 mod tests {
     use super::*;
@@ -103,6 +130,9 @@ mod tests {
             let different: std::collections::HashSet<_> = words.iter().collect();
             assert_eq!(different.len(), 4_096);
         }
+        let whole = words(Hash::FoldedWhole, 3_850);
+        assert!(whole.iter().all(|word| folded(word.as_bytes()) == folded(whole[0].as_bytes())));
+        assert_eq!(whole.iter().collect::<std::collections::HashSet<_>>().len(), 3_850);
         assert!(words(Hash::Folded, 100).iter().all(|word| folded(word.as_bytes()) % 2_048 == 5));
     }
 }

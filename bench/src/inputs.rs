@@ -112,6 +112,7 @@ impl Series {
 pub fn growth(multiplier: u32) -> Vec<Series> {
     let of_one_hash = collide::words(Hash::Polynomial { multiplier }, WORDS);
     let of_one_tree = collide::words(Hash::Folded, WORDS);
+    let of_one_fold = collide::words(Hash::FoldedWhole, 3_850);
     let halves = |size: usize| (tables::long_spellings("k", size / 2), tables::long_spellings("n", size - size / 2));
     vec![
         series("table bytes", [2_040, 4_080, 8_160, 16_320], |size| {
@@ -134,6 +135,9 @@ pub fn growth(multiplier: u32) -> Vec<Series> {
         }),
         series("words of one tree of the scanner", [506, 1_023, 2_046, 4_092], |size| {
             (tables::words(&[], &[]), of_one_tree[..size].join(" "))
+        }),
+        series("words of one 64-bit hash of the scanner", [473, 957, 1_925, 3_850], |size| {
+            (tables::words(&[], &[]), of_one_fold[..size].join(" "))
         }),
         series("calls", [13, 14, 15, 16], |size| (tables::levels(size, 240, 0), String::new())),
         series("productions", [32, 64, 128, 256], |size| (tables::levels(2, size - 2, 0), String::new())),
