@@ -1,4 +1,5 @@
 """The causes that lie in a formula or its term, 14 to 24, in words."""
+import unicodedata
 from typing import Any, List, Optional, Union
 
 from . import reading
@@ -23,7 +24,23 @@ def bad_token(case: Case) -> List[str]:
         return ["at byte %d of the formula, counted from 0" % case.a]
     text = reading.token_at(case.formula, case.a)
     why = reading.fault_of(text) if text else None
-    return case.place(case.a, len(text), why) if why else []
+    return case.place(case.a, len(text), foreign_sign(case.formula[case.a:]) or why) if why else []
+
+
+def foreign_sign(rest: bytes) -> str:
+    """What is said of a character outside ASCII, which has several bytes."""
+    sign = next((rest[:n].decode("utf-8") for n in range(2, 5) if is_text(rest[:n])), "") if rest[0] > 126 else ""
+    if not sign:
+        return ""
+    return "`%s` (%s) may not stand in a formula: words have the letters A to Z and a to z, digits and underscores" % (
+        sign, unicodedata.name(sign, "a character without a name").lower())
+
+
+def is_text(data: bytes) -> bool:
+    try:
+        return len(data.decode("utf-8")) == 1
+    except UnicodeDecodeError:
+        return False
 
 
 def read_again(case: Case, rows: int) -> Union[Stop, Any]:
@@ -63,8 +80,28 @@ def tokens_of(case: Case, bits: int) -> str:
 
 
 def misfit(case: Case) -> List[str]:
+    stop = stopped(case)
     said = ["expected: %s" % tokens_of(case, case.b)]
-    return case.word(case.a) + said + keyword_hint(case) + reading_what(case, stopped(case))
+    if stop and stop.others & ~case.b:
+        said.append("what stands before it could also go on with: %s" % tokens_of(case, stop.others & ~case.b))
+    return case.word(case.a) + said + keyword_hint(case) + habits(case) + reading_what(case, stop)
+
+
+def habits(case: Case) -> List[str]:
+    """Hints at what is often meant otherwise: a number written into a word, a keyword in other letters, a symbol that no phrase has."""
+    out = []
+    shown = [t.text.decode("ascii") for t in case.tokens[:case.a + 1]]
+    for before, token in zip(case.tokens[:case.a], case.tokens[1:case.a + 1]):
+        if before.text.isdigit() and token.text[:1].isalpha() and before.start + len(before.text) == token.start:
+            pair = (before.text.decode("ascii"), token.text.decode("ascii"))
+            out.append("`%s%s` is the number %s and the word `%s`" % (pair + pair))
+    keywords = {k.lower(): k for k in case.keywords}
+    for token, text in zip(case.tokens, shown):
+        if token.bit == reading.WORD_BIT and text.lower() in keywords:
+            out.append("`%s` is a word; the keyword is `%s`" % (text, keywords[text.lower()]))
+    if case.a < len(case.tokens) and case.tokens[case.a].bit == reading.NO_BIT:
+        out.append("`%s` is no keyword of this grammar: no phrase reads it" % shown[case.a])
+    return list(dict.fromkeys(out))
 
 
 def keyword_hint(case: Case) -> List[str]:
@@ -78,7 +115,7 @@ def keyword_hint(case: Case) -> List[str]:
 def left_over(case: Case) -> List[str]:
     stop = stopped(case)
     said = ["what stands before it is a whole formula, and it cannot go on with this token"]
-    return case.word(case.a) + said + (["it could go on with: %s" % tokens_of(case, stop.others)] if stop else [])
+    return case.word(case.a) + said + (["it could go on with: %s" % tokens_of(case, stop.others)] if stop else []) + habits(case)
 
 
 def calls_open(case: Case) -> List[str]:

@@ -8,7 +8,7 @@ The notation is that of Figure 2 of 001, with lines for what the figure leaves t
                 | "names" WORD ...                             to the end of the line
                 | "grammar" { definition } "end"
                 | "root" NONTERMINAL
-    definition  = NONTERMINAL [ "(" { NAME ":" SORT } ")" ] ":" SORT ("==" | "|==" | ":=") alternative { "|" alternative }
+    definition  = NONTERMINAL [ "(" { NAME ":" SORT } ")" ] ":" SORT ("==" | "|==" | ":=") [ "|" ] alternative { "|" alternative }
     alternative = { item } "=>" result
     item        = [ NAME "=" ] ( KEYWORD in quotes | "ide" [ ":" SORT ] | "number" | "local" | NONTERMINAL [ arguments ] )
     result      = template | NONTERMINAL [ arguments ]         a nonterminal here is a last item, and its value the result
@@ -28,6 +28,8 @@ RAW_WORD = re.compile(r'"""|"[^"\s]+"|\S+')
 NAME_FORM = re.compile(r"[A-Za-z][A-Za-z0-9_]*")
 SECTIONS = ("use", "keywords", "names", "grammar", "root")
 WORD_LINES = ("use", "keywords", "names")
+BYTE_ORDER_MARK = b"\xef\xbb\xbf"
+OTHER_QUOTES = "'`\u2018\u2019\u201a\u201c\u201d\u201e\u00ab\u00bb"
 RESERVED = set(BY_NAME) | {"ide", "number", "local", "global", "label", "end", "pIde"} | set(SECTIONS)
 
 
@@ -95,6 +97,7 @@ def decoded(path: str, data: bytes) -> List[str]:
     if is_table(path, data):
         raise Trouble("%s: this is a table, not a notation: `phrases show` shows it" % path)
     lines = []
+    data = data[len(BYTE_ORDER_MARK):] if data.startswith(BYTE_ORDER_MARK) else data
     for at, line in enumerate(data.split(b"\n"), 1):
         control = [i for i, b in enumerate(line.rstrip(b"\r")) if b < 32 and b != 9]
         if control:
@@ -126,6 +129,8 @@ def lexemes(path: str, number: int, line: str) -> List[Token]:
             raise Trouble("a keyword opens here with a quote, and no quote closes it in this line", spot)
         if text == '""':
             raise Trouble("a keyword has at least one character between its quotes", spot)
+        if text in OTHER_QUOTES:
+            raise Trouble('a keyword stands between straight double quotes, as "half"; this is another sign', spot)
         out.append(Token(text, spot))
     return out
 
@@ -183,8 +188,22 @@ class Parser:
             return Trouble("patterns in << >> are left out of this notation: write the result with constructors", found.spot)
         if found.text == "pIde":
             return Trouble("pIde is left out of this notation, as patterns are", found.spot)
+        hint = hint or self.habit()
         shown = "`%s`" % found.text if found.text else "the end of the file"
         return Trouble("found %s, expected %s%s" % (shown, expected, hint), found.spot)
+
+    def habit(self) -> str:
+        """A hint where the next tokens are what another notation has."""
+        pair = self.peek().text + self.peek(1).text
+        if pair in ("->", "=>", "=-"):
+            return "; an arrow is `=>`"
+        if pair in ("//", "/*", "--"):
+            return "; a remark begins with `#`"
+        if self.peek().text == ":":
+            return "; `a=term` gives an item a name"
+        if self.peek().text in ("[", "?", "*", "+"):
+            return "; an optional or repeated part is a nonterminal of its own, with an alternative that is empty"
+        return ""
 
     def own_name(self, what: str) -> Token:
         """A name that the author chooses."""
@@ -257,6 +276,8 @@ class Parser:
         if self.peek().text not in MODES:
             raise self.surprise("`==` (adds), `|==` (extends) or `:=` (updates)")
         mode = MODES.index(self.take().text)
+        if self.peek().text == "|":
+            self.take()
         alternatives = [self.alternative()]
         while self.peek().text == "|":
             self.take()
@@ -308,6 +329,12 @@ class Parser:
             item.arguments = self.arguments()
 
     def template(self) -> Template:
+        if self.peek().text.isdigit():
+            raise Trouble("a result holds no number: one comes from the formula, by an item as `n=number`; for a fixed one take an outside name, as "
+                          "mkTermVar(global(two)) with a line `names two`", self.peek().spot)
+        if self.peek().is_keyword():
+            raise Trouble("a result holds no text: an outside name is global(T), or label(T) where a label is meant, with a line `names T`",
+                          self.peek().spot)
         if not self.peek().is_name():
             raise self.surprise("a variable, a constructor, global(..), label(..) or a nonterminal")
         head = self.take()

@@ -3,12 +3,13 @@
 What has no bytes is refused here, with its spot: an unknown name, a wrong count of a constructor's arguments. All else is packed as it is
 written and judged by the proved check.
 """
+import os
 import re
-from typing import Dict, List, NamedTuple, Optional, Set
+from typing import Dict, List, NamedTuple, Optional, Sequence, Set
 
 from . import notation
 from .notation import Alternative, Definition, Item, Notation, Token
-from .source import Spot, Trouble, counted, listed, near, stand
+from .source import Spot, Trouble, counted, listed, near, read_file, stand
 from .table import (ALTERNATIVE, BINDER, BLOCK, BY_NAME, DEFINITION, GLOBAL, IS_CALL, IS_IDE, IS_KEYWORD, IS_LOCAL, IS_NUMBER, ITEM, KEYWORD,
                     LABEL, NAME, OUTSIDE_LABEL, RESULT, ROOT, SORTS, VAR, VARIABLES, encode)
 
@@ -22,6 +23,7 @@ class Packed(NamedTuple):
     spots: Dict[int, Spot]
     nonterminals: Dict[int, str]
     variables: Dict[int, Dict[int, str]]
+    warnings: Sequence[Trouble] = ()
 
 
 def spelled(keyword: Token) -> str:
@@ -68,6 +70,20 @@ def check_names(parameters: List[str], a: Alternative) -> None:
         known.add(name.text)
 
 
+def defined_beside(path: str, name: str) -> str:
+    """A hint at a grammar in the same folder that adds this nonterminal."""
+    folder = os.path.dirname(path) or "."
+    adds = re.compile(r"^\s*%s\s*(\([^)]*\))?\s*:\s*\w+\s*==" % re.escape(name), re.MULTILINE)
+    for other in sorted(f for f in os.listdir(folder) if f.endswith(".grammar") and f != os.path.basename(path)):
+        try:
+            text = read_file(os.path.join(folder, other)).decode("utf-8", "replace")
+        except Trouble:
+            continue
+        if adds.search(text):
+            return "; %s has it: a line `use %s` takes it over" % (other, other)
+    return ""
+
+
 def place_sort(sorts: List[int], at: int) -> Optional[int]:
     return sorts[at] if at < len(sorts) else None
 
@@ -83,6 +99,7 @@ class Packer:
         for d in all_definitions(n):
             self.parameters.setdefault(d.name.text, [s for _, s in d.parameters])
         self.data, self.spots, self.variables = bytearray(), {}, {}
+        self.warnings: List[Trouble] = []
 
     def pack(self) -> Packed:
         for k in self.keywords:
@@ -95,7 +112,7 @@ class Packer:
                 self.definition(d)
         if self.notation.root is not None:
             self.put(ROOT, bytes([self.nonterminal(self.notation.root)]), self.notation.root.spot)
-        return Packed(bytes(self.data), self.spots, {v: k for k, v in self.numbers.items()}, self.variables)
+        return Packed(bytes(self.data), self.spots, {v: k for k, v in self.numbers.items()}, self.variables, self.warnings)
 
     def put(self, tag: int, value: bytes, spot: Spot) -> None:
         if len(value) > 0xFFFF:
@@ -111,7 +128,8 @@ class Packer:
     def nonterminal(self, token: Token) -> int:
         if token.text in self.numbers:
             return self.numbers[token.text]
-        raise Trouble("`%s` is no nonterminal of this grammar%s" % (token.text, near(token.text, self.numbers)), token.spot)
+        hint = near(token.text, self.numbers) or defined_beside(self.notation.path, token.text)
+        raise Trouble("`%s` is no nonterminal of this grammar%s" % (token.text, hint), token.spot)
 
     def definition(self, d: Definition) -> None:
         self.put(DEFINITION, bytes([self.nonterminal(d.name), d.mode, d.result] + [s for _, s in d.parameters]), d.name.spot)
@@ -143,6 +161,10 @@ class Packer:
         """A nonterminal as the result is one more item."""
         if not self.is_last_call(a, variables):
             return []
+        name = a.result.head.text
+        if not a.result.arguments and any(i.what.text == name and i.name is None and not i.arguments for i in a.items):
+            self.warnings.append(Trouble("this result reads one more `%s` behind the items; to give the one that stands among them, name it: `a=%s => a`"
+                                         % (name, name), a.result.spot))
         return [Item(a.result.spot, None, a.result.head, None, a.result.arguments or [])]
 
     def item(self, d: Definition, a: Alternative, item: Item, variables: Dict[str, int]) -> bytes:
@@ -154,7 +176,8 @@ class Packer:
         if what.text in OTHER_ITEMS:
             return bytes([OTHER_ITEMS[what.text], 0])
         if what.text not in self.numbers:
-            hint = near(what.text, list(self.numbers) + ["ide", "number", "local"]) or '; a keyword stands in quotes, as "%s"' % what.text
+            hint = (near(what.text, list(self.numbers) + ["ide", "number", "local"]) or defined_beside(self.notation.path, what.text)
+                    or '; a keyword stands in quotes, as "%s"' % what.text)
             raise Trouble("`%s` is no nonterminal of this grammar%s" % (what.text, hint), what.spot)
         arguments = b"".join(self.template(t, variables) for t in item.arguments)
         return bytes([IS_CALL, self.nonterminal(what)]) + arguments

@@ -3,6 +3,7 @@ from typing import Callable, List, Optional
 
 from .case import Case
 from .grammar import Definition
+from .pack import defined_beside
 from .sorting import complaint, undefined
 from .source import counted
 from .table import (ALTERNATIVE, BLOCK, DEFINITION, EXTEND, IS_CALL, IS_IDE, IS_LOCAL, IS_NUMBER, ITEM, KEYWORD, LONGEST_WORD, MODES, MOST,
@@ -118,6 +119,11 @@ def why_misspelled(case: Case, f: Field) -> str:
         return "the spelling is empty"
     if len(f.value) > LONGEST_WORD:
         return "`%s` has %d bytes, and %d are allowed" % (text, len(f.value), LONGEST_WORD)
+    foreign = [c for c in text if ord(c) > 126]
+    if foreign:
+        return "`%s` has the sign `%s`: a word has the letters A to Z and a to z, digits and underscores, and no others" % (text, foreign[0])
+    if len(text.split()) > 1:
+        return "`%s` are several words: each is a keyword of its own, as %s" % (text, " ".join('"%s"' % w for w in text.split()))
     symbol = "" if f.tag == NAME else ", nor one symbol (a single ASCII character that prints, no letter and no digit)"
     return "`%s` is not a word (a letter, then letters, digits or underscores)%s" % (text, symbol)
 
@@ -168,7 +174,9 @@ def nothing_to_extend(case: Case) -> List[str]:
         first = case.where(own[0].field.place)
         return case.at(d.field.place, "this block defines %s already, at %s; a block defines a nonterminal once" % (name, first))
     if not earlier:
-        return case.at(d.field.place, "there is no %s in an earlier block to %s; `==` adds a new nonterminal" % (name, verb))
+        spot = case.packed.spots.get(d.field.place)
+        hint = defined_beside(spot.path, name.strip("`")) if spot else ""
+        return case.at(d.field.place, "there is no %s in an earlier block to %s%s" % (name, verb, hint or "; `==` adds a new nonterminal"))
     old = earlier[-1]
     return case.at(d.field.place, "the signature is %s here, and %s at %s" % (signature(case, d), signature(case, old), case.where(old.field.place)))
 
@@ -217,7 +225,8 @@ def left_recursion(case: Case) -> List[str]:
     for f in case.grammar.left_cycle(case.a):
         a = case.grammar.alternative_of(f.place)
         out += case.at(f.place, "%s can begin with %s" % (case.nonterminal(a.definition.nonterminal), case.nonterminal(f.value[1])))
-    return ["%s is the nonterminal; this is its way to itself:" % case.nonterminal(case.a)] + out if out else []
+    cure = ["what goes on behind a term is a nonterminal of its own that takes the term as a parameter, as `termIter` of house.grammar"]
+    return ["%s is the nonterminal; this is its way to itself:" % case.nonterminal(case.a)] + out + cure if out else []
 
 
 def clash(case: Case) -> List[str]:
@@ -230,4 +239,7 @@ def clash(case: Case) -> List[str]:
     for a in two:
         first = (a.items or [a.result or a.field])[0]
         out += case.at(first.place, "an alternative")
-    return out
+    if case.b == 64:
+        return out + ["one alternative at most is empty: give one of these a keyword of its own"]
+    return out + ["let one alternative read what they share, and call a nonterminal for the rest; a phrase that stands behind a term, as `a*b`, is an",
+                  "alternative of the nonterminal that goes on behind a term, as `termIter` of house.grammar"]
