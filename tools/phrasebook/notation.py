@@ -90,6 +90,7 @@ class Notation:
     names: List[Token] = field(default_factory=list)
     blocks: List[Block] = field(default_factory=list)
     root: Optional[Token] = None
+    troubles: List[Trouble] = field(default_factory=list)
 
 
 def decoded(path: str, data: bytes) -> List[str]:
@@ -135,11 +136,15 @@ def lexemes(path: str, number: int, line: str) -> List[Token]:
     return out
 
 
-def tokens(path: str, lines: List[str]) -> List[Token]:
+def tokens(path: str, lines: List[str], troubles: List[Trouble]) -> List[Token]:
+    """The tokens of all lines; a line that has none gives its trouble."""
     out = []
     for number, line in enumerate(lines, 1):
         first = (line.split(None, 1) or [""])[0]
-        out += raw_words(path, number, line) if first in WORD_LINES else lexemes(path, number, line)
+        try:
+            out += raw_words(path, number, line) if first in WORD_LINES else lexemes(path, number, line)
+        except Trouble as e:
+            troubles.append(e)
     return out
 
 
@@ -156,7 +161,7 @@ class Parser:
         self.path, self.into, self.using, self.used = path, into, using, used
         self.rooted = False
         lines = decoded(path, read_file(path))
-        self.tokens, self.at = tokens(path, lines), 0
+        self.tokens, self.at = tokens(path, lines, into.troubles), 0
         last = self.tokens[-1].spot if self.tokens else Spot(path, 1, 1, 0, "")
         self.end = Token("", last._replace(column=last.column + last.width, width=1))
 
@@ -264,9 +269,24 @@ class Parser:
             if not self.peek().text or self.peek().text in SECTIONS:
                 raise self.surprise("`end`: the grammar of line %d is still open" % first.spot.line)
             if self.peek().text == "|" or self.peek(1).text not in (":", "("):
-                raise self.surprise("a definition as `term:Term ==`, a further alternative of one behind `|`, or `end`")
-            block.definitions.append(self.definition())
+                self.into.troubles.append(self.surprise("a definition as `term:Term ==`, a further alternative of one behind `|`, or `end`"))
+                self.skip()
+                continue
+            try:
+                block.definitions.append(self.definition())
+            except Trouble as e:
+                self.into.troubles.append(e)
+                self.skip()
         self.take()
+
+    def skip(self) -> None:
+        """To the next line that begins a definition, or to the end of the block."""
+        self.take()
+        while self.peek().text and self.peek().text not in SECTIONS and self.peek().text != "end":
+            first = self.at == 0 or self.tokens[self.at - 1].spot.line != self.peek().spot.line
+            if first and self.peek().is_name() and self.peek(1).text in (":", "("):
+                return
+            self.take()
 
     def definition(self) -> Definition:
         name = self.own_name("a nonterminal")
@@ -359,8 +379,20 @@ def read_into(path: str, into: Notation, using: Tuple[str, ...], used: set) -> N
     Parser(path, into, using + (here,), used).file()
 
 
-def read(path: str) -> Notation:
-    """The notation of a file and of the files that it uses."""
+def read_all(path: str) -> Notation:
+    """The notation of a file and of the files that it uses, with all that is wrong in it, in the order of the lines."""
     out = Notation(path)
-    read_into(path, out, (), set())
+    try:
+        read_into(path, out, (), set())
+    except Trouble as e:
+        out.troubles.append(e)
+    out.troubles.sort(key=lambda e: e.spot.line if e.spot else 0)
+    return out
+
+
+def read(path: str) -> Notation:
+    """The same, or the first thing that is wrong."""
+    out = read_all(path)
+    if out.troubles:
+        raise out.troubles[0]
     return out

@@ -100,6 +100,7 @@ class Packer:
             self.parameters.setdefault(d.name.text, [s for _, s in d.parameters])
         self.data, self.spots, self.variables = bytearray(), {}, {}
         self.warnings: List[Trouble] = []
+        self.troubles: List[Trouble] = []
 
     def pack(self) -> Packed:
         for k in self.keywords:
@@ -134,7 +135,10 @@ class Packer:
     def definition(self, d: Definition) -> None:
         self.put(DEFINITION, bytes([self.nonterminal(d.name), d.mode, d.result] + [s for _, s in d.parameters]), d.name.spot)
         for a in d.alternatives:
-            self.alternative(d, a)
+            try:
+                self.alternative(d, a)
+            except Trouble as e:
+                self.troubles.append(e)
 
     def alternative(self, d: Definition, a: Alternative) -> None:
         variables = {name.text: i for i, (name, _) in enumerate(d.parameters)}
@@ -262,5 +266,20 @@ class Packer:
         return found
 
 
+def troubles(n: Notation) -> List[Trouble]:
+    """All that is wrong in a notation that can be read."""
+    packer = Packer(n)
+    try:
+        packer.pack()
+    except Trouble as e:
+        packer.troubles.append(e)
+    return packer.troubles
+
+
 def pack(n: Notation) -> Packed:
-    return Packer(n).pack()
+    """The table, or the first thing that is wrong."""
+    packer = Packer(n)
+    packed = packer.pack()
+    if packer.troubles:
+        raise packer.troubles[0]
+    return packed

@@ -1,0 +1,109 @@
+"""What an author asks of a grammar without writing a program: does it pass, which phrases does it have, do its formulas give what is expected.
+
+Every verdict is the proved program's; here it is only asked and shown.
+"""
+import os
+import subprocess
+import tempfile
+from typing import List, NamedTuple, Optional
+
+from . import notation, pack
+from .explain import Refusal, explain
+from .source import Trouble, counted, read_file
+
+ROOT = os.path.dirname(os.path.dirname(os.path.dirname(os.path.abspath(__file__))))
+LAST_OF_TABLE = 13
+
+
+class NoProgram(Exception):
+    """The proved program is not built."""
+
+
+def program() -> str:
+    path = os.path.abspath(os.environ.get("PHRASE") or os.path.join(ROOT, "target", "bin", "phrase"))
+    if not os.access(path, os.X_OK):
+        raise NoProgram("there is no program %s; ./build makes it" % path)
+    return path
+
+
+def answer(table: bytes, formula: bytes) -> str:
+    """What the program writes."""
+    with tempfile.TemporaryDirectory() as room:
+        with open(os.path.join(room, "phrases.tab"), "wb") as f:
+            f.write(table)
+        out = subprocess.run([program()], cwd=room, input=formula, stdout=subprocess.PIPE, check=False).stdout
+    return out.decode("latin-1").rstrip("\n")
+
+
+def refusal_in(said: str) -> Optional[Refusal]:
+    words = said.split()
+    return Refusal(*map(int, words[1:5])) if words[:1] == ["refused"] else None
+
+
+def packed_or_troubles(path: str) -> pack.Packed:
+    """The table of a notation, or everything that is wrong in it, in one trouble."""
+    read = notation.read_all(path)
+    wrong = read.troubles or pack.troubles(read)
+    if wrong:
+        raise Trouble("\n".join(map(str, wrong)) + ("\n%s: %s" % (path, counted(len(wrong), "mistake")) if len(wrong) > 1 else ""))
+    return pack.pack(read)
+
+
+def check(path: str) -> str:
+    """One line if a grammar passes; else what is wrong, all that can be told at once."""
+    packed = packed_or_troubles(path)
+    refusal = refusal_in(answer(packed.data, b""))
+    if refusal is not None and refusal.number <= LAST_OF_TABLE:
+        raise Trouble(explain(packed, None, refusal))
+    kinds = [(len(packed.nonterminals), "nonterminal"), (sum(1 for _ in phrases(notation.read(path))), "alternative")]
+    warned = "".join("%s\n" % w for w in packed.warnings)
+    return "%s%s: passes, with %s; %d bytes" % (warned, path, " and ".join(counted(n, what) for n, what in kinds), len(packed.data))
+
+
+class Phrase(NamedTuple):
+    nonterminal: str
+    form: str
+    where: str
+
+
+def form_of(item: notation.Item) -> str:
+    name = "%s=" % item.name.text if item.name else ""
+    sort = ":" + notation.SORTS[item.sort] if item.sort is not None else ""
+    return name + item.what.text + sort + ("(..)" if item.arguments else "")
+
+
+def phrases(read: notation.Notation):
+    """Every alternative: its nonterminal, its form, and where it is written."""
+    for d in pack.all_definitions(read):
+        for a in d.alternatives:
+            yield Phrase(d.name.text, " ".join(map(form_of, a.items)) or "(nothing)", str(a.spot))
+
+
+def listing(path: str) -> str:
+    rows = list(phrases(notation.read(path)))
+    wide, long = max(len(r.nonterminal) for r in rows), min(60, max(len(r.form) for r in rows))
+    return "\n".join("%-*s  %-*s  %s" % (wide, r.nonterminal, long, r.form, r.where) for r in rows)
+
+
+class Tested(NamedTuple):
+    """How many formulas were tried, and what is said of those that gave something else."""
+    count: int
+    failed: List[str]
+
+
+def tested(path: str, tests: str) -> Tested:
+    """Runs a file of lines `FORMULA => TERM` or `FORMULA => refused NUMBER [A B C]`; blank lines and lines that begin with # are remarks."""
+    table = packed_or_troubles(path).data
+    count, failed = 0, []
+    for number, line in enumerate(read_file(tests).decode("utf-8", "replace").splitlines(), 1):
+        if not line.strip() or line.startswith("#"):
+            continue
+        formula, arrow, expected = line.rpartition(" => ")
+        if not arrow:
+            raise Trouble("%s:%d: a line is `FORMULA => TERM`, or `FORMULA => refused NUMBER`" % (tests, number))
+        said = answer(table, formula.encode("utf-8"))
+        found = said if said.startswith("refused") else said.partition("\n")[2]
+        count += 1
+        if found != expected.strip() and not (expected.startswith("refused") and found.split()[:len(expected.split())] == expected.split()):
+            failed.append("%s:%d: `%s` gives\n    %s\nand expected is\n    %s" % (tests, number, formula, found, expected.strip()))
+    return Tested(count, failed)
