@@ -232,21 +232,45 @@ extern "Rust" fn measured(side: Side, table: &[u8], formula: &[u8], room: &mut R
     side.expand(table, formula, &mut room.cells, &mut room.text)
 }
 
+/// The instructions of one call, without those of `memset`: it zeroes rooms by one instruction that is counted once for each byte.
 fn collected(side: &str, input: &Input) -> Option<u64> {
     let folder = std::env::temp_dir();
-    let files = ["table", "formula"].map(|part| folder.join(format!("vegzump-bench-{}-{part}", std::process::id())));
+    let files = ["table", "formula", "counts"].map(|part| folder.join(format!("vegzump-bench-{}-{part}", std::process::id())));
     std::fs::write(&files[0], &input.table).ok()?;
     std::fs::write(&files[1], &input.formula).ok()?;
-    let said = Command::new("valgrind")
-        .args(["--tool=callgrind", "--toggle-collect=measured", "--callgrind-out-file=/dev/null"])
+    let ran = Command::new("valgrind")
+        .args(["--tool=callgrind", "--toggle-collect=measured"])
+        .arg(format!("--callgrind-out-file={}", files[2].display()))
         .arg(std::env::current_exe().ok()?)
         .args(["--once", side])
-        .args(&files)
+        .args(&files[..2])
         .output();
+    let counts = std::fs::read_to_string(&files[2]);
     files.iter().for_each(|file| drop(std::fs::remove_file(file)));
-    let said = String::from_utf8_lossy(&said.ok()?.stderr).into_owned();
-    let line = said.lines().find(|line| line.contains("Collected :"))?;
-    line.split_whitespace().last()?.parse().ok()
+    ran.ok()?;
+    Some(own_counts(&counts.ok()?))
+}
+
+/// The sum of what callgrind counted in each function by itself, without `memset`. A line that begins with `fn=(N)` begins function N, `cfn=(N)` has it as a
+/// callee, and the name stands where the number comes first; a line of numbers is a place and its count; the one behind `calls=` is what the callee took.
+fn own_counts(out: &str) -> u64 {
+    let (mut zeroing, mut total, mut skip, mut zeroes) = (std::collections::HashSet::new(), 0, false, false);
+    for line in out.lines() {
+        if let Some(function) = line.strip_prefix("fn=").or(line.strip_prefix("cfn=")) {
+            let number = function.split(' ').next().unwrap_or("");
+            if function.contains("memset") {
+                zeroing.insert(number.to_string());
+            }
+            zeroes = if line.starts_with("fn=") { zeroing.contains(number) } else { zeroes };
+        } else if line.starts_with("calls=") {
+            skip = true;
+        } else if line.starts_with(|c: char| c.is_ascii_digit() || c == '+' || c == '-' || c == '*') {
+            let count: u64 = line.split(' ').nth(1).and_then(|n| n.parse().ok()).unwrap_or(0);
+            total += if skip || zeroes { 0 } else { count };
+            skip = false;
+        }
+    }
+    total
 }
 
 fn counts(list: &[Input]) -> bool {
