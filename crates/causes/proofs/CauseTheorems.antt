@@ -15,6 +15,7 @@ use Rattle.answers.specs.declared.Verdict.the-variants.{Passed, Refused}
 use Rattle.answers.specs.Refusals.{refusal}
 use Rattle.answers.specs.Checked.{Checked, ok, bad, _>>=_, _>>_, verdict}
 use Rattle.grammar.specs.Table.{Table, Definition}
+use Rattle.grammar.specs.Values.{Field}
 use Rattle.grammar.specs.Encode.{encode}
 use Rattle.decoding.specs.Decode.{decode}
 use Rattle.decoding.specs.Within.{Among, Within}
@@ -32,11 +33,13 @@ use Rattle.checker.specs.Check.{passedTable, check}
 use Rattle.checker.specs.Passes.{grammarOf, Passes}
 use Rattle.checker.specs.Laid.{Laid}
 use Rattle.checker.proofs.Passing.{never, check-exactly, refused-by-layout, refused-by-sorts, refused-by-firsts}
-use Rattle.causes.specs.Misplaced.{Misplaced}
+use Rattle.causes.specs.Misplaced.{Reaches, Misplaced}
+use Rattle.causes.specs.Beginnings.{Begins}
 use Rattle.causes.specs.Missorted.{Missorted}
 use Rattle.causes.specs.Normalizing.{inOrder, Normal, Remains, RemainsInBlocks}
 use Rattle.causes.specs.Unlaid.{Unlaid, by-layout, by-sorts, RefusesTable, unlaid, left-recursive, clashing}
 use Rattle.causes.proofs.LayoutWalk as layout
+use Rattle.causes.proofs.Beginnings as beginnings
 use Rattle.causes.proofs.SortStops as sorting
 use Rattle.causes.proofs.NormalLaws as normalizing
 use Rattle.causes.proofs.BlockLaws as blocks
@@ -46,6 +49,10 @@ use Rattle.causes.proofs.BlockLaws as blocks
 -- The decoder refuses exactly as the rules of the layout do: 1 to 6 and 10.
 pub misplaced-exactly : (bs : List ℕ) → ((place : ℕ) → getD bs place 0 < 256) → (cause : Refusal) → (decode bs ≡ bad cause) ↔ Misplaced bs cause
 misplaced-exactly = layout.misplaced-exactly
+
+-- A 4 never comes too late: fields that are reached are the first fields of some table.
+pub reached-begins : {bs : List ℕ} {at : ℕ} {before : List Field} {rest : List ℕ} → Reaches bs at before rest → Begins before
+reached-begins = beginnings.reached-begins
 
 -- The check of sorts refuses exactly as the rules of the sorts do: 7, 8, 9 and 11.
 pub missorted-exactly : (table : Table) → Within table → (cause : Refusal) → (checkSorts table ≡ bad cause) ↔ Missorted table cause

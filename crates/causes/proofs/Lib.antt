@@ -1,5 +1,6 @@
 pub mod FieldTests
 pub mod LayoutWalk
+pub mod Beginnings
 pub mod NormalLaws
 pub mod BlockLaws
 pub mod PartTests
