@@ -1,6 +1,6 @@
 -- The beginnings of tables, of which `reached-begins` (proofs/CauseTheorems) says that the rules of 4 let nothing else pass. Nobody needs this file to
 -- believe a refusal. Document 01, "Order: all 01, all 02, blocks, root. A block may have no definition; a definition has one alternative or more."
-use Prim.Native.Nat.{ℕ, _≤_}
+use Prim.Native.Nat.{_≤_}
 use mathlib.Core.Path.{_≡_}
 use mathlib.Core.List.{List, _++_, reverse}
 use lib.ListN.{length}

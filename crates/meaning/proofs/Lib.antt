@@ -1,4 +1,5 @@
 pub mod Owners
+pub mod Naming
 pub mod Stages
 pub mod Exactly
 pub mod Hygiene

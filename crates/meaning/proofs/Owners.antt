@@ -172,7 +172,8 @@ each-append : {A : Type 0} {P : A → Type 0} {xs ys : List A} → Each P xs →
 each-append each-none k = k
 each-append (each-more h hs) k = each-more h (each-append hs k)
 
-each-split : {A : Type 0} {P : A → Type 0} (xs : List A) {ys : List A} → Each P (xs ++ ys) → Each P xs × Each P ys
+-- what holds of each member of two lists together holds of each member of both
+pub each-split : {A : Type 0} {P : A → Type 0} (xs : List A) {ys : List A} → Each P (xs ++ ys) → Each P xs × Each P ys
 each-split [] h = (each-none, h)
 each-split (x ∷ xs) (each-more h hs) = let q = each-split xs hs in (each-more h (q .0), q .1)
 

@@ -14,17 +14,18 @@ use Rattle.checker.specs.Syntax.{Syntax, syntaxOf}
 use Rattle.checker.specs.Passes.{Passes}
 use Rattle.soundness.specs.Places.{Supplied, givenIn, Placed}
 use Rattle.terms.specs.Term.{Name, Term}
-use Rattle.terms.specs.Rename.{rename}
 use Rattle.terms.specs.Print.{none, more, treeOf, print}
 use Rattle.terms.specs.Parts.{constructors, shape}
 use Rattle.terms.specs.Binding.{Occurrence, useOf, constructorsInAll, nestingAll}
 use Rattle.terms.specs.Reading.{readText}
 use Rattle.meaning.specs.Meaning.{spellOf, Means, Cause, Accepts}
 use Rattle.meaning.specs.Origins.{Occurs, IsOwned}
+use Rattle.meaning.specs.Naming.{Named}
 
 -- The text `out` is the one term u of demand 2, printed. Each part of u has the sort that its place demands; its words are tokens of the formula,
--- each the bytes of its token, its outside names the table's spellings. The text has u's constructors and labels, and each of its variables
--- belongs, by nesting and bytes, to exactly the binder that its origin calls for.
+-- each the bytes of its token, its outside names the table's spellings. The text has u's constructors and labels; its names are u's, but for new names,
+-- `_1`, `_2` and on from the left, for exactly the binders that document 01 renames and for their variables; and each of its variables belongs, by
+-- nesting and bytes, to exactly the binder that its origin calls for.
 pub record Hygienic (syntax : Syntax) (formula : List ℕ) (u : Term Name) (out : List ℕ) : Type 0 where
   pub means : Means syntax formula u
   pub only : (w : Term Name) → Means syntax formula w → w ≡ u
@@ -32,10 +33,13 @@ pub record Hygienic (syntax : Syntax) (formula : List ℕ) (u : Term Name) (out 
   pub supplied : Each (Supplied (means .tokens) (length (syntax .lexicon .outsides))) (givenIn (means .parsed .derived))
   pub words-as-written : (w : Token) → Among (means .tokens) w → w .kind ≡ wordKind → spellOf syntax (means .words) (w .value) ≡ bytesOf formula w
   pub outsides-as-listed : (n : ℕ) → n < length (syntax .lexicon .outsides) → spellOf syntax (means .words) n ≡ getD (syntax .lexicon .outsides) n []
-  pub printed : out ≡ print (rename u)
-  pub reads-back : readText out ≡ more (treeOf (rename u)) none
+  pub shown : Term (List ℕ)
+  pub nextNumber : ℕ
+  pub named : Named [] 1 u shown nextNumber
+  pub printed : out ≡ print shown
+  pub reads-back : readText out ≡ more (treeOf shown) none
   pub same-constructors : constructorsInAll (readText out) ≡ constructors u
-  pub labels-stay : shape (rename u) ≡ shape u
+  pub labels-stay : shape shown ≡ shape u
   pub occurrences : List Occurrence
   pub occur : Occurs [] 0 u occurrences
   pub owned : Each IsOwned occurrences
