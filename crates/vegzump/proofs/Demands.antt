@@ -1,21 +1,36 @@
--- Everything that is promised of an expansion, from the bytes of a table and a formula to the answer and to all that was lent, on one page.
--- `expand` (meaning/specs/Expand) is what the public call promises by equation. What its answers mean, by rules: Meaning, Origins and Hygiene
--- of meaning/specs; below them Tiling and Unscanned (tokens), Figure3 and Costs (expansion), Stopping and Places (soundness), Passes (checker).
+-- What is promised of an expansion, from the bytes of a table and a formula to the answer and to all that was lent, on one page. `expand`
+-- (meaning/specs/Expand) and `check` (checker/specs/Check) are what the public calls promise by equation. What their answers mean, by rules: Meaning,
+-- Naming, Origins and Hygiene of meaning/specs; below them Tiling and Unscanned (tokens), Figure3 and Costs (expansion), Stopping and Places (soundness),
+-- Passes (checker), Unlaid, Misplaced and Missorted (causes).
+--
+-- The signs, here and in the contracts of src/*.rt:
+--   requires { ⌜ A ⌝ }, ensures { λ r. ⌜ A ⌝ }   a caller has to show A before the call; A holds of the answer r, with whatever A says of what was lent
+--   now (x .entry), now (x .exit)                the list of bytes or numbers lent as x, where the call begins and where it ends; ⌜ A ⌝ is A itself
+--   x ≡ y,  A ↔ B,  A × B,  A ⊎ B,  ¬ A          the same value; each if the other; both; one of the two; not
+--   (x : T) → A,  {x : T} → A                    A for every x of T; the second is left out where it is used.  A → B: if A, then B
+--   (x : T) × A                                  some x of T of which A holds
+--   λ x. e,  x .f,  h .0,  h .1                  the function of x that gives e; field f of x; the first and the second part, of A ↔ B both directions
+--   data R .. where, record R .. where           R holds by one of these rules, and by no other; R holds if all of these fields do
+--   [],  x ∷ xs,  xs ++ ys,  getD xs i d         no member; x, then xs; xs, then ys; member i, counted from 0, and d where there is none
 use Prim.Native.Nat.{ℕ, _*_, _≤_, _<_}
 use mathlib.Core.Path.{_≡_, refl}
-use mathlib.Core.Logic.{_↔_}
+use mathlib.Core.Logic.{_↔_, _⊎_}
 use mathlib.Core.List.{List, [], _∷_, _++_}
 use lib.ListN.{length, getD, take, drop}
 use Rattle.answers.specs.declared.Refusal.{Refusal}
 use Rattle.answers.specs.declared.Answer.the-variants.{Accepted, Refusing}
+use Rattle.answers.specs.declared.Verdict.the-variants.{Passed, Refused}
 use Rattle.grammar.specs.Table.{Template, Templates, none, Item, call}
 use Rattle.grammar.specs.Sorts.{Signature}
 use Rattle.judgements.specs.Judgements.{Newest, ItemSorted, Body, scopeOf}
 use Rattle.tokens.specs.declared.Token.{Token}
 use Rattle.tokens.specs.Unscanned.{Unscans}
 use Rattle.checker.specs.Syntax.{Syntax, syntaxOf}
+use Rattle.checker.specs.Check.{check}
 use Rattle.checker.specs.Passes.{Passes}
-use Rattle.causes.specs.Unlaid.{NotPassed}
+use Rattle.checker.proofs.TableTheorems as checks
+use Rattle.causes.specs.Unlaid.{RefusesTable, NotPassed}
+use Rattle.causes.proofs.CauseTheorems as causes
 use Rattle.productions.specs.Normal.{Production}
 use Rattle.firsts.specs.Rules.{Of}
 use Rattle.expansion.specs.Figure3.{Value, term, Gives, GiveAll, Derives}
@@ -28,13 +43,34 @@ use Rattle.terms.specs.Cells.{columns, column, rowsLent}
 use Rattle.terms.specs.Rows.{termAt}
 use Rattle.terms.specs.Rename.{rename}
 use Rattle.terms.specs.Print.{print}
-use Rattle.meaning.specs.Expand.{Expanded, expand}
+use Rattle.meaning.specs.Expand.{Expanded, expanded, expand}
+use Rattle.meaning.specs.Naming.{Named}
 use Rattle.meaning.specs.Meaning.{Scans, spellOf, Means, MeansWithin, cellsOf, textLength, Cause, Accepts}
 use Rattle.meaning.specs.Hygiene.{Demand3}
-use Rattle.meaning.proofs.Stages.{expand-passed, means-one}
+use Rattle.meaning.proofs.Stages.{expand-refused, expand-passed, means-one}
 use Rattle.meaning.proofs.Exactly as exactly
 use Rattle.meaning.proofs.Hygiene as hygiene
 use Rattle.vegzump.proofs.Refusing.{call-refuses}
+
+-- `Passes table` (checker/specs/Passes): the bytes are the encoding of a table within document 01's counts, spellings and ranges that is well sorted by
+-- the judgements of 001, has no left recursion, and of no nonterminal two alternatives that share an opening or are both nullable. Statements on bytes
+-- ask that there are bytes; a table lent to a call has no other entries, so that the promises of the calls ask nothing.
+module _ (table : List ℕ) (bytes : (at : ℕ) → getD table at 0 < 256) where
+  -- The check passes a table exactly if it passes by the rules: the third promise of `check_table`.
+  pub check-exactly : (check table ≡ Passed) ↔ Passes table
+  check-exactly = checks.check-exactly table bytes
+
+  -- It gives a refusal exactly if the rules of 1 to 13 do: the fourth promise of `check_table`.
+  pub check-refused-exactly : (refusal : Refusal) → (check table ≡ Refused refusal) ↔ RefusesTable table refusal
+  check-refused-exactly = causes.refused-exactly table bytes
+
+  -- A table passes, or is refused by these rules,
+  pub passes-or-refuses : Passes table ⊎ ((refusal : Refusal) × RefusesTable table refusal)
+  passes-or-refuses = causes.passes-or-refuses table bytes
+
+  -- and by one of them at most.
+  pub refused-once : (refusal other : Refusal) → RefusesTable table refusal → RefusesTable table other → refusal ≡ other
+  refused-once = causes.refused-once table bytes
 
 -- every table, formula, cells and text
 module _ (table formula cells text : List ℕ) where
@@ -42,12 +78,16 @@ module _ (table formula cells text : List ℕ) where
   X = expand table formula cells text
 
   -- If the table passes, an expansion ends in a refusal in its case, and the text is as lent, or in the one term that Figure 3 derives, each part
-  -- of the sort that its place demands, printed so that each variable belongs by nesting to the binder that its origin calls for.
+  -- of the sort that its place demands, printed with the names that document 01 gives, so that each variable belongs by nesting to the binder that its
+  -- origin calls for: the third promise of `expand`.
   pub demand-3 : Demand3 table formula cells text (X .answer) (X .text)
   demand-3 = hygiene.demand-3 table formula cells text
 
-  -- Demand 2: a table of bytes that does not pass gets the one refusal that the rules of 1 to 13 give, and nothing that was lent changes. The
-  -- table of a call is bytes, so that the fourth promise of `expand` has no such hypothesis.
+  -- Demand 2: a table that its check refuses gets that refusal, and nothing that was lent changes.
+  pub refused-by-check : {refusal : Refusal} → check table ≡ Refused refusal → X ≡ expanded (Refusing refusal) cells text
+  refused-by-check refused = expand-refused table refused formula cells text
+
+  -- So a table of bytes that does not pass gets the one refusal that the rules of 1 to 13 give: the fourth promise of `expand`.
   pub not-passed : ((at : ℕ) → getD table at 0 < 256) → NotPassed table cells text (X .answer) (X .cells) (X .text)
   not-passed bytes = call-refuses table bytes formula refl
 
@@ -73,6 +113,12 @@ module _ (table formula cells text : List ℕ) where
     pub accepted-text : (made size bytes : ℕ) → X .answer ≡ Accepted made size bytes → {meant : Term Name}
         → Means syntax formula meant → X .text ≡ print (rename meant) ++ drop (textLength meant) text
     accepted-text = rw (expand-passed table passes formula cells text) (exactly.accepted-text (passes .table) (passingOf passes) formula cells text)
+
+    -- New names, `_1`, `_2` and on from the left, go to each fresh binder, to each formula binder whose body holds an outside name of its spelling, and to
+    -- their variables; all other names are as written, and so are variables that no binder has: `Named` (meaning/specs/Naming), apart from `rename`.
+    pub accepted-names : (made size bytes : ℕ) → X .answer ≡ Accepted made size bytes → {meant : Term Name} → Means syntax formula meant
+        → (shown : Term (List ℕ)) × (next : ℕ) × Named [] 1 meant shown next × (X .text ≡ print shown ++ drop (length (print shown)) text)
+    accepted-names made size bytes accepted = hygiene.accepted-names (demand-3 passes) accepted
 
     -- A row of those made shows that term, whatever the other rows held, and each row made has the code of a constructor.
     pub accepted-cells : (made size bytes : ℕ) → X .answer ≡ Accepted made size bytes → {meant : Term Name} (means : Means syntax formula meant)
