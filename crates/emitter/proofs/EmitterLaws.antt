@@ -20,7 +20,7 @@ use Rattle.terms.specs.Rows.{termAt}
 use Rattle.terms.specs.Print.{print}
 use Rattle.terms.specs.Emit.{textOf, fitted, emitted}
 use Rattle.terms.proofs.EmitLaws.{leaves, fitted-long, fitted-whole, emitted-large, emitted-loose, emitted-fitted}
-use Rattle.rows.specs.Sizes.{noSpell, sizeAt}
+use Rattle.rows.specs.Sizes.{noSpell, sizeAt, mostBound}
 use Rattle.rows.proofs.ListLaws.{zeros}
 use Rattle.rows.proofs.SizeLaws.{size-spell}
 use Rattle.resolver.specs.declared.Resolution.{Resolution}
@@ -28,7 +28,6 @@ use Rattle.resolver.specs.declared.Resolution.the-variants.{Loose, Numbered}
 use Rattle.resolver.specs.Numbers.{walkOf, ResolvedAs}
 use Rattle.printer.specs.Printed.{textBy, Prints}
 use Rattle.emitter.specs.Emittable.{Emittable, Markable, answerBy}
-use Rattle.rows.specs.Bounds.{mostBound}
 
 module _ (made constructors needed room : ℕ) where
   -- a text longer than its buffer is refused with 24 and its length

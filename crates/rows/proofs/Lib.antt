@@ -1,4 +1,4 @@
 pub mod ListLaws
 pub mod RowLaws
+pub mod SumLaws
 pub mod SizeLaws
-pub mod BoundLaws

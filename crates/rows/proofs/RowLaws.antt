@@ -1,8 +1,8 @@
 -- The term and the field list of a row, by the code that stands in it.
 use Prim.Native.Nat.{ℕ, zero, suc, _+_, _-_, _/_, _%_, _<_, _≤_}
-use mathlib.Core.Path.{_≡_, refl, sym, ap, _∙_}
+use mathlib.Core.Path.{_≡_, refl}
 use mathlib.Core.Logic.{_⊎_, inl, inr}
-use mathlib.Core.Bool.{Bool, true, false, true≢false}
+use mathlib.Core.Bool.{Bool, true, false}
 use mathlib.Core.List.{List, [], _∷_}
 use native.Mathlib.Omega.{arith}
 use native.Mathlib.Decide.{decLt}
@@ -15,6 +15,39 @@ use Rattle.terms.specs.Rows.{constructorOf, termBy, isCons, fieldsBy, termAt, f
 
 -- ------------------------------------------------------------------ codes
 
+-- A fact of each code and its constructor: of those of hex 20 to 26, and of all others, which are read as mkTermNum's.
+module _ (P : ℕ → Constructor → Type 0) (var : P 0x20 varRow) (fun : P 0x21 funRow) (app : P 0x22 appRow) (rcds : P 0x23 rcdRow) (dots : P 0x24 dotRow)
+    (nils : P 0x25 nilRow) (conses : P 0x26 consRow)
+    (others : (code : ℕ) → (code ≡ 0x20 → ⊥) → (code ≡ 0x21 → ⊥) → (code ≡ 0x22 → ⊥) → (code ≡ 0x23 → ⊥) → (code ≡ 0x24 → ⊥) → (code ≡ 0x25 → ⊥)
+    → (code ≡ 0x26 → ⊥) → P code numRow)
+  where
+    nth : (place : ℕ) → P (0x20 + place) (getD (varRow ∷ funRow ∷ appRow ∷ rcdRow ∷ dotRow ∷ nilRow ∷ consRow ∷ numRow ∷ []) place numRow)
+    nth zero = var
+    nth (suc zero) = fun
+    nth (suc (suc zero)) = app
+    nth (suc (suc (suc zero))) = rcds
+    nth (suc (suc (suc (suc zero)))) = dots
+    nth (suc (suc (suc (suc (suc zero))))) = nils
+    nth (suc (suc (suc (suc (suc (suc zero)))))) = conses
+    nth (suc (suc (suc (suc (suc (suc (suc zero))))))) =
+        others 0x27 (λ e. omega arith) (λ e. omega arith) (λ e. omega arith) (λ e. omega arith) (λ e. omega arith) (λ e. omega arith) (λ e. omega arith)
+    nth (suc (suc (suc (suc (suc (suc (suc (suc place)))))))) =
+        others _ (λ e. omega arith) (λ e. omega arith) (λ e. omega arith) (λ e. omega arith) (λ e. omega arith) (λ e. omega arith) (λ e. omega arith)
+
+    -- it is one of each code
+    pub each-code : (code : ℕ) → P code (constructorOf code)
+    unfolding constructorOf
+    each-code code = by (decLt code 0x20)
+      where
+        by : Dec (code < 0x20) → P code (constructorOf code)
+        by (yes h) =
+            rw (lt-ltb code 0x20 h, constructorOf)
+            (others code (λ e. omega arith) (λ e. omega arith) (λ e. omega arith) (λ e. omega arith) (λ e. omega arith) (λ e. omega arith) (λ e. omega arith))
+        by (no h) =
+            let l : 0x20 ≤ code = omega arith in
+            let e : 0x20 + (code - 0x20) ≡ code = omega arith in
+            rw (le-ltb code 0x20 l, constructorOf) (rw e at (nth (code - 0x20)))
+
 -- the constructors with no part
 pub data Bare : Constructor → Type 0 where
   bare-var : Bare varRow
@@ -22,38 +55,18 @@ pub data Bare : Constructor → Type 0 where
   bare-cons : Bare consRow
   bare-num : Bare numRow
 
-bare-nth : (place : ℕ) → (place ≡ 1 → ⊥) → (place ≡ 2 → ⊥) → (place ≡ 3 → ⊥) → (place ≡ 4 → ⊥)
-    → Bare (getD (varRow ∷ funRow ∷ appRow ∷ rcdRow ∷ dotRow ∷ nilRow ∷ consRow ∷ numRow ∷ []) place numRow)
-bare-nth zero a b c d = bare-var
-bare-nth (suc zero) a b c d = absurd (a refl)
-bare-nth (suc (suc zero)) a b c d = absurd (b refl)
-bare-nth (suc (suc (suc zero))) a b c d = absurd (c refl)
-bare-nth (suc (suc (suc (suc zero)))) a b c d = absurd (d refl)
-bare-nth (suc (suc (suc (suc (suc zero))))) a b c d = bare-nil
-bare-nth (suc (suc (suc (suc (suc (suc zero)))))) a b c d = bare-cons
-bare-nth (suc (suc (suc (suc (suc (suc (suc zero))))))) a b c d = bare-num
-bare-nth (suc (suc (suc (suc (suc (suc (suc (suc place)))))))) a b c d = bare-num
-
-module _ (code : ℕ) where
-  low-code : code < 0x20 → constructorOf code ≡ numRow
-  unfolding constructorOf
-  low-code h = rw (lt-ltb code 0x20 h, constructorOf) refl
-
-  high-code : 0x20 ≤ code
-      → constructorOf code
-      ≡ getD (varRow ∷ funRow ∷ appRow ∷ rcdRow ∷ dotRow ∷ nilRow ∷ consRow ∷ numRow ∷ []) (code - 0x20) numRow
-  unfolding constructorOf
-  high-code h = rw (le-ltb code 0x20 h, constructorOf) refl
-
-  -- a code that is none of the four whose terms have parts
-  bare-code : (code ≡ 0x21 → ⊥) → (code ≡ 0x22 → ⊥) → (code ≡ 0x23 → ⊥) → (code ≡ 0x24 → ⊥) → Bare (constructorOf code)
-  bare-code a b c d = by (decLt code 0x20)
-    where
-      by : Dec (code < 0x20) → Bare (constructorOf code)
-      by (yes h) = rw (low-code h) bare-num
-      by (no h) =
-          let l : 0x20 ≤ code = omega arith in
-          rw (high-code l) (bare-nth (code - 0x20) (λ e. a (omega arith)) (λ e. b (omega arith)) (λ e. c (omega arith)) (λ e. d (omega arith)))
+-- a code that is none of the four whose terms have parts
+bare-code : (code : ℕ) → (code ≡ 0x21 → ⊥) → (code ≡ 0x22 → ⊥) → (code ≡ 0x23 → ⊥) → (code ≡ 0x24 → ⊥) → Bare (constructorOf code)
+bare-code =
+    each-code (λ code k. (code ≡ 0x21 → ⊥) → (code ≡ 0x22 → ⊥) → (code ≡ 0x23 → ⊥) → (code ≡ 0x24 → ⊥) → Bare k)
+    (λ a b c d. bare-var)
+    (λ a b c d. absurd (a refl))
+    (λ a b c d. absurd (b refl))
+    (λ a b c d. absurd (c refl))
+    (λ a b c d. absurd (d refl))
+    (λ a b c d. bare-nil)
+    (λ a b c d. bare-cons)
+    (λ code v f p r t n o a b c d. bare-num)
 
 -- the constructors of a Term place that are read as a number
 pub data Numeral : Constructor → Type 0 where
@@ -61,100 +74,43 @@ pub data Numeral : Constructor → Type 0 where
   numeral-cons : Numeral consRow
   numeral-num : Numeral numRow
 
-numeral-of : {constructed : Constructor} → Bare constructed → (constructed ≡ varRow → ⊥) → Numeral constructed
-numeral-of bare-var h = absurd (h refl)
-numeral-of bare-nil h = numeral-nil
-numeral-of bare-cons h = numeral-cons
-numeral-of bare-num h = numeral-num
+-- a code that is none of these and no variable's
+numeral-code : (code : ℕ) → (code ≡ 0x20 → ⊥) → (code ≡ 0x21 → ⊥) → (code ≡ 0x22 → ⊥) → (code ≡ 0x23 → ⊥) → (code ≡ 0x24 → ⊥) → Numeral (constructorOf code)
+numeral-code =
+    each-code (λ code k. (code ≡ 0x20 → ⊥) → (code ≡ 0x21 → ⊥) → (code ≡ 0x22 → ⊥) → (code ≡ 0x23 → ⊥) → (code ≡ 0x24 → ⊥) → Numeral k)
+    (λ v a b c d. absurd (v refl))
+    (λ v a b c d. absurd (a refl))
+    (λ v a b c d. absurd (b refl))
+    (λ v a b c d. absurd (c refl))
+    (λ v a b c d. absurd (d refl))
+    (λ v a b c d. numeral-nil)
+    (λ v a b c d. numeral-cons)
+    (λ code u f p r t n o v a b c d. numeral-num)
 
-isVar : Constructor → Bool
-isVar varRow = true
-isVar funRow = false
-isVar appRow = false
-isVar rcdRow = false
-isVar dotRow = false
-isVar nilRow = false
-isVar consRow = false
-isVar numRow = false
-
-var-nth : (place : ℕ) → (place ≡ 0 → ⊥)
-    → isVar (getD (varRow ∷ funRow ∷ appRow ∷ rcdRow ∷ dotRow ∷ nilRow ∷ consRow ∷ numRow ∷ []) place numRow) ≡ false
-unfolding isVar
-var-nth zero h = absurd (h refl)
-var-nth (suc zero) h = refl
-var-nth (suc (suc zero)) h = refl
-var-nth (suc (suc (suc zero))) h = refl
-var-nth (suc (suc (suc (suc zero)))) h = refl
-var-nth (suc (suc (suc (suc (suc zero))))) h = refl
-var-nth (suc (suc (suc (suc (suc (suc zero)))))) h = refl
-var-nth (suc (suc (suc (suc (suc (suc (suc zero))))))) h = refl
-var-nth (suc (suc (suc (suc (suc (suc (suc (suc place)))))))) h = refl
-
-no-var : (code : ℕ) → (code ≡ 0x20 → ⊥) → isVar (constructorOf code) ≡ false
-unfolding isVar
-no-var code h = by (decLt code 0x20)
-  where
-    by : Dec (code < 0x20) → isVar (constructorOf code) ≡ false
-    by (yes l) = ap isVar (low-code code l)
-    by (no g) =
-        let l : 0x20 ≤ code = omega arith in
-        ap isVar (high-code code l) ∙ var-nth (code - 0x20) (λ e. h (omega arith))
-
-no-var-is : (constructed : Constructor) → isVar constructed ≡ false → constructed ≡ varRow → ⊥
-unfolding isVar
-no-var-is constructed f e = true≢false (sym (ap isVar e) ∙ f)
-
-num-nth : (place : ℕ) → (place ≡ 0 → ⊥) → (place ≡ 1 → ⊥) → (place ≡ 2 → ⊥) → (place ≡ 3 → ⊥) → (place ≡ 4 → ⊥) → (place ≡ 5 → ⊥) → (place ≡ 6 → ⊥)
-    → getD (varRow ∷ funRow ∷ appRow ∷ rcdRow ∷ dotRow ∷ nilRow ∷ consRow ∷ numRow ∷ []) place numRow ≡ numRow
-num-nth zero a b c d e f g = absurd (a refl)
-num-nth (suc zero) a b c d e f g = absurd (b refl)
-num-nth (suc (suc zero)) a b c d e f g = absurd (c refl)
-num-nth (suc (suc (suc zero))) a b c d e f g = absurd (d refl)
-num-nth (suc (suc (suc (suc zero)))) a b c d e f g = absurd (e refl)
-num-nth (suc (suc (suc (suc (suc zero))))) a b c d e f g = absurd (f refl)
-num-nth (suc (suc (suc (suc (suc (suc zero)))))) a b c d e f g = absurd (g refl)
-num-nth (suc (suc (suc (suc (suc (suc (suc zero))))))) a b c d e f g = refl
-num-nth (suc (suc (suc (suc (suc (suc (suc (suc place)))))))) a b c d e f g = refl
-
-not-below : (code : ℕ) → (code < 0x20 → ⊥) → 0x20 ≤ code
-not-below code h = omega arith
-
-above : (code place : ℕ) → 0x20 ≤ code → code - 0x20 ≡ place → code ≡ 0x20 + place
-above code place l e = omega arith
-
+-- a code of none but mkTermNum
 num-code : (code : ℕ) → (code ≡ 0x20 → ⊥) → (code ≡ 0x21 → ⊥) → (code ≡ 0x22 → ⊥) → (code ≡ 0x23 → ⊥) → (code ≡ 0x24 → ⊥) → (code ≡ 0x25 → ⊥)
     → (code ≡ 0x26 → ⊥)
     → constructorOf code ≡ numRow
-num-code code a b c d e f g = by (decLt code 0x20)
-  where
-    by : Dec (code < 0x20) → constructorOf code ≡ numRow
-    by (yes l) = low-code code l
-    by (no h) =
-        let l : 0x20 ≤ code = not-below code h in
-        high-code code l
-        ∙ num-nth (code - 0x20) (λ z. a (above code 0 l z)) (λ z. b (above code 1 l z)) (λ z. c (above code 2 l z)) (λ z. d (above code 3 l z))
-        (λ z. e (above code 4 l z)) (λ z. f (above code 5 l z)) (λ z. g (above code 6 l z))
+num-code =
+    each-code
+    (λ code k.
+    (code ≡ 0x20 → ⊥) → (code ≡ 0x21 → ⊥) → (code ≡ 0x22 → ⊥) → (code ≡ 0x23 → ⊥) → (code ≡ 0x24 → ⊥) → (code ≡ 0x25 → ⊥) → (code ≡ 0x26 → ⊥)
+    → k ≡ numRow)
+    (λ v a b c d e f. absurd (v refl))
+    (λ v a b c d e f. absurd (a refl))
+    (λ v a b c d e f. absurd (b refl))
+    (λ v a b c d e f. absurd (c refl))
+    (λ v a b c d e f. absurd (d refl))
+    (λ v a b c d e f. absurd (e refl))
+    (λ v a b c d e f. absurd (f refl))
+    (λ code u g p r t n o v a b c d e f. refl)
 
-no-cons-nth : (place : ℕ) → (place ≡ 6 → ⊥)
-    → isCons (getD (varRow ∷ funRow ∷ appRow ∷ rcdRow ∷ dotRow ∷ nilRow ∷ consRow ∷ numRow ∷ []) place numRow) ≡ false
-no-cons-nth zero h = refl
-no-cons-nth (suc zero) h = refl
-no-cons-nth (suc (suc zero)) h = refl
-no-cons-nth (suc (suc (suc zero))) h = refl
-no-cons-nth (suc (suc (suc (suc zero)))) h = refl
-no-cons-nth (suc (suc (suc (suc (suc zero))))) h = refl
-no-cons-nth (suc (suc (suc (suc (suc (suc zero)))))) h = absurd (h refl)
-no-cons-nth (suc (suc (suc (suc (suc (suc (suc zero))))))) h = refl
-no-cons-nth (suc (suc (suc (suc (suc (suc (suc (suc place)))))))) h = refl
-
+-- a code that is not that of mkFieldCons
 no-cons : (code : ℕ) → (code ≡ 0x26 → ⊥) → isCons (constructorOf code) ≡ false
-no-cons code h = by (decLt code 0x20)
-  where
-    by : Dec (code < 0x20) → isCons (constructorOf code) ≡ false
-    by (yes l) = ap isCons (low-code code l)
-    by (no g) =
-        let l : 0x20 ≤ code = omega arith in
-        ap isCons (high-code code l) ∙ no-cons-nth (code - 0x20) (λ e. h (omega arith))
+no-cons =
+    each-code (λ code k. (code ≡ 0x26 → ⊥) → isCons k ≡ false) (λ h. refl) (λ h. refl) (λ h. refl) (λ h. refl) (λ h. refl) (λ h. refl)
+    (λ h. absurd (h refl))
+    (λ code u g p r t n o h. refl)
 
 -- ------------------------------------------------------------------ terms
 
@@ -216,7 +172,7 @@ module _ (spell : ℕ → List ℕ) (cells : List ℕ) (depth row : ℕ) where
     pub number-row : (P : Term Name → Type 0) → ((place : ℕ) → P (number place))
         → (code ≡ 0x20 → ⊥) → (code ≡ 0x21 → ⊥) → (code ≡ 0x22 → ⊥) → (code ≡ 0x23 → ⊥) → (code ≡ 0x24 → ⊥) → P (termAt depth spell cells row)
     unfolding termBy
-    number-row P n v a b c d = by (constructorOf code) refl (numeral-of (bare-code code a b c d) (no-var-is (constructorOf code) (no-var code v)))
+    number-row P n v a b c d = by (constructorOf code) refl (numeral-code code v a b c d)
       where
         by : (constructor : Constructor) → constructorOf code ≡ constructor → Numeral constructor → P (termAt depth spell cells row)
         by nilRow e numeral-nil = rw (by-code e) (n _)

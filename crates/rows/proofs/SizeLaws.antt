@@ -1,15 +1,21 @@
 -- What is left of a number of constructors without those of a term, part by part.
-use Prim.Native.Nat.{ℕ, zero, suc, _-_, _<_}
-use mathlib.Core.Path.{_≡_, refl, ap}
-use mathlib.Core.Bool.{Bool, true, false}
+use Prim.Native.Nat.{ℕ, zero, suc, _+_, _-_, _<_, _≤_, min}
+use mathlib.Core.Path.{_≡_, refl, sym, ap, _∙_}
+use mathlib.Core.Bool.{Bool, true, false, true≢false}
 use mathlib.Core.List.{List}
 use native.Mathlib.Omega.{arith}
-use Rattle.terms.specs.Cells.{column}
+use lib.ListN.{length, getD, take, replicate, length-replicate, getD-replicate}
+use lib.Seq.{length-take-le, getD-take}
+use Rattle.terms.specs.Cells.{column, mostCells}
 use Rattle.terms.specs.Term.{Name, Term, Fields, variable, function, apply, rcd, dot, number, nil, cons, size, sizeFields}
 use Rattle.terms.specs.Rows.{Constructor, varRow, funRow, appRow, rcdRow, dotRow, nilRow, consRow, numRow, constructorOf}
 use Rattle.terms.specs.Rows.{termBy, isCons, fieldsBy, termAt, fieldListAt}
-use Rattle.rows.specs.Sizes.{noSpell, sizeAt, sizeFieldsAt}
+use Rattle.rows.specs.declared.sums.Total.{Total}
+use Rattle.rows.specs.declared.sums.Total.the-variants.{Of}
+use Rattle.rows.specs.Sizes.{noSpell, sizeAt, sizeFieldsAt, mostBound, Ones}
+use Rattle.rows.specs.Sums.{rowIs, partsOf, sumOf, isFields, totalOf}
 use Rattle.rows.proofs.RowLaws as rows
+use Rattle.rows.proofs.SumLaws.{Adds, total-adds, adds-by}
 
 -- r of `left` constructors are left behind the term, or the field list, at a row
 abbrev pub Left : List ℕ → ℕ → ℕ → ℕ → ℕ → Type 0
@@ -128,3 +134,73 @@ pub size-some-fields : (fields : Fields Name) → 0 < sizeFields fields
 unfolding sizeFields
 size-some-fields nil = omega arith
 size-some-fields (cons l t fields) = omega arith
+
+-- ------------------------------------------------------------------ sizes by a pass over the rows
+
+-- where each row weighs 1, a size is a sum of weights
+pub size-adds : {weights : List ℕ} (cells : List ℕ) → Ones weights
+    → Adds weights cells (length weights) (λ depth row. sizeAt cells depth row) (λ depth row. sizeFieldsAt cells depth row)
+unfolding size sizeFields termBy fieldsBy partsOf
+size-adds {weights} cells ones = adds-by noSpell size sizeFields by-term by-list
+  where
+    by-term : (row : ℕ) → row < length weights → (c : Constructor) → rowIs cells row ≡ c → isFields c ≡ false
+        → (terms : ℕ → Term Name) (fields : ℕ → Fields Name)
+        → size (termBy c noSpell cells row terms fields)
+        ≡ getD weights row 0 + sumOf (partsOf c cells row) (λ q. size (terms q)) (λ q. sizeFields (fields q))
+    by-term row l varRow e k terms fields = omega (arith, ones .each row l)
+    by-term row l funRow e k terms fields = omega (arith, ones .each row l)
+    by-term row l appRow e k terms fields = omega (arith, ones .each row l)
+    by-term row l rcdRow e k terms fields = omega (arith, ones .each row l)
+    by-term row l dotRow e k terms fields = omega (arith, ones .each row l)
+    by-term row l nilRow e k terms fields = absurd (true≢false k)
+    by-term row l consRow e k terms fields = absurd (true≢false k)
+    by-term row l numRow e k terms fields = omega (arith, ones .each row l)
+
+    by-list : (row : ℕ) → row < length weights → (c : Constructor) → rowIs cells row ≡ c → isFields c ≡ true
+        → (terms : ℕ → Term Name) (fields : ℕ → Fields Name)
+        → sizeFields (fieldsBy (isCons c) noSpell cells row terms fields)
+        ≡ getD weights row 0 + sumOf (partsOf c cells row) (λ q. size (terms q)) (λ q. sizeFields (fields q))
+    by-list row l varRow e k terms fields = absurd (true≢false (sym k))
+    by-list row l funRow e k terms fields = absurd (true≢false (sym k))
+    by-list row l appRow e k terms fields = absurd (true≢false (sym k))
+    by-list row l rcdRow e k terms fields = absurd (true≢false (sym k))
+    by-list row l dotRow e k terms fields = absurd (true≢false (sym k))
+    by-list row l nilRow e k terms fields = omega (arith, ones .each row l)
+    by-list row l consRow e k terms fields = omega (arith, ones .each row l)
+    by-list row l numRow e k terms fields = absurd (true≢false (sym k))
+
+module _ {weights : List ℕ} (cells : List ℕ) (root : ℕ) {total : Total} {size : ℕ} (ones : Ones weights)
+    (is-total : total ≡ totalOf cells mostBound weights root) (is-size : total ≡ Of size)
+  where
+    -- the size that a pass tells, cut off
+    size-told : size ≡ min mostBound (sizeAt cells (length weights) root)
+    size-told = total-adds mostBound root (size-adds cells ones) (sym is-size ∙ is-total)
+
+    -- it is no more than is counted
+    pub told-most : size ≤ mostBound
+    told-most = omega (arith, size-told)
+
+    -- and leaves what the size leaves
+    pub told-left : mostBound - size ≡ mostBound - sizeAt cells (length weights) root
+    told-left = omega (arith, size-told)
+
+module _ (made room : ℕ) (lent : made ≤ room) (few : room ≤ mostCells) where
+  -- the front of a room of ones is as long as it is asked for
+  pub front-long : length (take made (replicate {A = ℕ} room 1)) ≡ made
+  front-long = length-take-le {A = ℕ} made (replicate room 1) (omega (arith, length-replicate {A = ℕ} room 1))
+
+  -- and has a weight of 1 for each row
+  pub front-ones : Ones (take made (replicate room 1))
+  front-ones =
+      record {
+        few = omega (arith, front-long);
+        each =
+            λ row l.
+            getD-take {A = ℕ} made (replicate room 1) row 0 (omega (arith, front-long))
+            ∙ getD-replicate {A = ℕ} room row 1 0 (omega (arith, front-long));
+      }
+
+  -- what is left by as many rows
+  pub front-left : (cells : List ℕ) (root : ℕ) {left : ℕ} → left ≡ mostBound - sizeAt cells (length (take made (replicate {A = ℕ} room 1))) root
+      → left ≡ mostBound - sizeAt cells made root
+  front-left cells root e = e ∙ ap (λ depth. mostBound - sizeAt cells depth root) front-long

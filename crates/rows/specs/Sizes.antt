@@ -1,15 +1,23 @@
 -- The size of the tree at a row, and whole rows. A size does not depend on spellings. Nobody needs this to believe `expand`.
-use Prim.Native.Nat.{ℕ, _*_, _/_, _≤_}
+use Prim.Native.Nat.{ℕ, _+_, _*_, _/_, _<_, _≤_}
 use mathlib.Core.Path.{_≡_}
 use mathlib.Core.List.{List, []}
-use lib.ListN.{length}
+use lib.ListN.{length, getD}
 use Rattle.terms.specs.Cells.{columns, mostCells}
-use Rattle.terms.specs.Term.{size, sizeFields}
+use Rattle.terms.specs.Term.{size, sizeFields, largestTerm}
 use Rattle.terms.specs.Rows.{termAt, fieldListAt}
 
 -- rows for which shorter rooms are lent
 abbrev pub fewRows : ℕ
 fewRows = 256
+
+-- rows for which all constructors that a term may have are counted at once
+abbrev pub manyRows : ℕ
+manyRows = 8000
+
+-- one constructor more than a term may have, up to which constructors are counted
+abbrev pub mostBound : ℕ
+mostBound = largestTerm + 1
 
 abbrev pub noSpell : ℕ → List ℕ
 noSpell n = []
@@ -25,3 +33,13 @@ sizeFieldsAt cells bound row = sizeFields (fieldListAt bound noSpell cells row)
 pub record WholeRows (cells : List ℕ) : Type 0 where
   pub few : length cells ≤ mostCells * columns
   pub whole : (length cells / columns) * columns ≡ length cells
+
+-- how many constructors are counted before the rows are looked at
+pub record FirstCount (made count : ℕ) : Type 0 where
+  pub most : count ≤ mostBound
+  pub all : manyRows ≤ made → count ≡ mostBound
+
+-- a weight of 1 for each of some rows
+pub record Ones (weights : List ℕ) : Type 0 where
+  pub few : length weights ≤ mostCells
+  pub each : (row : ℕ) → row < length weights → getD weights row 0 ≡ 1

@@ -1,16 +1,19 @@
 // The number of constructors of the tree at a row, counted while some are left.
-use crate::bounds::is_too_large;
+use crate::FEW_ROWS;
 use crate::column;
+use crate::sums::Total;
+use crate::sums::total_at;
+use terms::COLUMNS;
 use terms::FIELD_CONS;
 use terms::LARGEST_TERM;
 use terms::TERM_APP;
 use terms::TERM_DOT;
 use terms::TERM_FUN;
 use terms::TERM_RCD;
-ghost use Prim.Native.Nat.{_-_, _≤_};
+ghost use Prim.Native.Nat.{_-_, _<_, _≤_};
 ghost use mathlib.Core.Path.{_≡_};
-ghost use Rattle.rows.specs.Sizes.{sizeAt, sizeFieldsAt, WholeRows};
-ghost use Rattle.rows.specs.Bounds.{mostBound};
+ghost use lib.ListN.{length};
+ghost use Rattle.rows.specs.Sizes.{sizeAt, sizeFieldsAt, mostBound, manyRows, FirstCount, Ones};
 
 // One constructor more than a term may have.
 pub const MOST_BOUND: usize = LARGEST_TERM + 1;
@@ -66,7 +69,7 @@ const MANY_ROWS: usize = 8_000;
 // How many constructors are counted before the rows are looked at: twice as many as there are rows, and some more. Without shared parts a
 // term has no more constructors than rows.
 fn first_count(made: usize) -> usize
-    ensures { λ r. ⌜ r ≤ mostBound ⌝ }
+    ensures { λ r. ⌜ FirstCount made r ⌝ }
 {
     if made < MANY_ROWS {
         2 * made + 64
@@ -75,10 +78,36 @@ fn first_count(made: usize) -> usize
     }
 }
 
+// What is left of one constructor more than a term may have, where each row weighs 1 in a room. Rows that are not in order are walked.
+fn left_by_rows(cells: &[u32], root: u32, ones: &mut [u32]) -> usize
+    requires { ⌜ Ones (now ones) ⌝ }
+    ensures { λ r. ⌜ r ≡ mostBound - sizeAt (now (cells .entry)) (length (now (ones .entry))) root ⌝ }
+{
+    let made = ones.len();
+    let total = total_at(cells, root, MOST_BOUND as u32, ones);
+    match total {
+        Total::Of(size) => MOST_BOUND - (size as usize),
+        Total::Unordered => size_term(&cells, made, root, MOST_BOUND),
+    }
+}
+
+// The same with room for many rows. It calls itself on what it is never passed, no rows: the back end lays no such function into its caller, whose frame
+// stays without this room.
+fn left_of_many(cells: &[u32], made: usize, root: u32) -> usize
+    requires { ⌜ (0 < made) × (made ≤ manyRows) ⌝ }
+    ensures { λ r. ⌜ r ≡ mostBound - sizeAt (now (cells .entry)) made root ⌝ }
+{
+    if made == 0 {
+        let blank = [0u32; COLUMNS];
+        return left_of_many(&blank, 1, root);
+    }
+    let mut ones = [1u32; MANY_ROWS];
+    left_by_rows(cells, root, &mut ones[..made])
+}
+
 // What is left of one constructor more than a term may have. A term that goes on behind the first count has shared parts; a pass over the
-// rows then tells if it is too large, so that a few rows are not walked thousands of times.
+// rows then tells its size, so that a few rows are not walked thousands of times.
 pub fn size_left(cells: &[u32], made: usize, root: u32) -> usize
-    requires { ⌜ WholeRows (now cells) ⌝ }
     ensures { λ r. ⌜ r ≡ mostBound - sizeAt (now (cells .entry)) made root ⌝ }
 {
     let count = first_count(made);
@@ -86,8 +115,12 @@ pub fn size_left(cells: &[u32], made: usize, root: u32) -> usize
     if 0 < left {
         return left + (MOST_BOUND - count);
     }
-    if is_too_large(cells, made, root) {
+    if MANY_ROWS <= made {
         return 0;
     }
-    size_term(&cells, made, root, MOST_BOUND)
+    if FEW_ROWS < made {
+        return left_of_many(cells, made, root);
+    }
+    let mut ones = [1u32; FEW_ROWS];
+    left_by_rows(cells, root, &mut ones[..made])
 }

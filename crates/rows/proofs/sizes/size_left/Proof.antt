@@ -1,11 +1,26 @@
--- `size_left`: the first count is enough, or the rows show that the term is too large, or it is walked to its end.
+-- `size_left`: the first count is enough, or it counted all that a term may have, or a pass over the rows tells the size.
+use mathlib.Core.Path.{sym}
 use native.Mathlib.Omega.{arith}
 use borrow.Author.Needs.{needs}
+use Rattle.rows.proofs.SizeLaws as laws
 use Rattle.rows.proofs.sizes.size_left.Statement.{statement}
 use Rattle.rows.proofs.sizes.size_left.Tie as tie
 
 returns-2 : tie.Need-returns-2
-returns-2 c = omega (arith, c .before .is-too-large .ensures (c .if2 .taken))
+returns-2 c =
+    let counted = c .before .before .before .before .first-count in
+    omega (arith, counted .ensures .all (c .if2 .taken))
+
+slice-aggregate-left-by-rows : tie.Need-slice-aggregate-left-by-rows
+slice-aggregate-left-by-rows c = sym (laws.front-long _ 256 (omega arith) (omega arith))
+
+left-by-rows-requires : tie.Need-left-by-rows-requires
+left-by-rows-requires c κs =
+    let sized = c .before .before .before .before in
+    laws.front-ones (sized .before .before .before .before .args .made) 256 (omega arith) (omega arith)
+
+returns-4 : tie.Need-returns-4
+returns-4 c = laws.front-left _ 256 (omega arith) (omega arith) _ _ (c .before .left-by-rows .ensures)
 
 -- the function meets its contract
 pub size-left-spec : {M : Type 1} → statement M
@@ -17,7 +32,10 @@ size-left-spec =
     (λ c. search needs)
     (λ c. search needs)
     (λ c. search needs)
-    (λ c κs. search needs)
     returns-2
     (λ c κs. search needs)
-    (λ c. search needs))
+    (λ c. search needs)
+    (λ c. search needs)
+    slice-aggregate-left-by-rows
+    left-by-rows-requires
+    returns-4)
