@@ -1,7 +1,7 @@
 -- Laws of the choice of a production: the walk over a nonterminal's own places gives the rule that `choice` gives.
 use Prim.Native.Nat.{ℕ, zero, suc, _+_, _-_, _<_, _≤_}
 use mathlib.Core.Path.{_≡_, refl, sym, ap, _∙_, subst, subst⁻¹}
-use mathlib.Core.Bool.{Bool, true, false, _&&_, and-eq-true-iff}
+use mathlib.Core.Bool.{Bool, true, false, _&&_, false≢true, and-eq-true-iff}
 use mathlib.Core.List.{List, [], _∷_, map}
 use native.Mathlib.Nat.{sub-self, sub-zero}
 use native.Mathlib.Numerals.{add-one}
@@ -12,21 +12,23 @@ use lib.ListN.{length, getD, set, drop, length-set, length-drop, length-map, dro
 use lib.Seq.{drop-cons, drop-nil, drop-drop, getD-drop, getD-set-same, getD-set-other}
 use borrow.Author.Tests.{eq-eqb, eqb-true, lt-ltb, le-ltb, ltb-true, ltb-false}
 use Rattle.spellings.proofs.BytesLaws.{by-test}
-use Rattle.kinds.specs.Kinds.{hasKind}
+use Rattle.kinds.specs.Kinds.{noKind, hasKind}
 use Rattle.grammar.proofs.ReaderLaws.{getD-past}
 use Rattle.grammar.specs.Lookup.{fieldsAt}
-use Rattle.decoding.specs.Within.{Each, each-none, each-more}
+use Rattle.decoding.specs.Within.{Each, each-none, each-more, Among, among-first, among-later}
 use Rattle.productions.specs.Normal.{Production}
 use Rattle.productions.specs.Index.{Place, placesOf, productionAt, wholeBody, Whole}
 use Rattle.productions.specs.Room.{Entry, noEntry, noPlace, HoldsEntries, placeFrom, isOf, isNullableOf, firstIn, startIn, firstSetIn}
 use Rattle.productions.specs.Room.{firstPlaceIn, nextPlaceIn, nullablePlaceIn}
 use Rattle.productions.proofs.RoomLaws.{first-set-in, first-place-in, nullable-place-in, first-in, start-in, next-place-in}
-use Rattle.firsts.specs.FirstSets.{openingOf, nullables}
+use Rattle.firsts.specs.FirstSets.{openingOf, nullables, firstOf}
 use Rattle.firsts.specs.Room.{entryAt, productionsIn, tableRoom}
+use Rattle.firsts.specs.Rules.{Opens}
 use Rattle.firsts.proofs.StepLaws.{length-sets}
+use Rattle.firsts.proofs.FirstsTheorems.{opens-exactly, production-opens-exactly}
 use Rattle.expansion.specs.Expansion.{Rule, ruleOf, Choice, unfit, chosen, firstRule, choice, ready}
 use Rattle.choices.specs.Held.{Held}
-use Rattle.choices.specs.Chosen.{firstSetsOf, kindsIn, entriesOf, opensOf, chosenPlace, chosenStart, kindsInAll, memorySize, slot, Remembers}
+use Rattle.choices.specs.Chosen.{firstSetsOf, kindsIn, entriesOf, opensOf, chosenPlace, chosenStart, memorySize, slot, Remembers}
 
 -- ------------------------------------------------------------------ places
 
@@ -186,29 +188,29 @@ remembers-none bs =
       known = λ n kind few fits l. absurd (omega (arith, l, getD-replicate {A = ℕ} memorySize (slot n kind) 0 0 (omega arith)));
     }
 
-module _ {bs memory : List ℕ} (remembers : Remembers bs memory) {nonterminal kind : ℕ} (few : nonterminal < 64) (fits : kind < kindsInAll) where
+module _ {bs memory : List ℕ} (remembers : Remembers bs memory) {nonterminal kind : ℕ} (few : nonterminal < 64) (fits : kind < noKind) where
   -- What is remembered is what is chosen.
   pub remembered : {found-place : ℕ} → found-place ≡ getD memory (slot nonterminal kind) 0 → 0 < found-place
-      → found-place - 1 ≡ chosenPlace (entriesOf bs) nonterminal kind
-  remembered e l = omega (arith, e, remembers .known nonterminal kind few fits (omega (arith, e)))
+      → found-place ≡ chosenPlace (entriesOf bs) nonterminal kind
+  remembered e l = e ∙ remembers .known nonterminal kind few fits (omega (arith, e))
 
   -- One more choice is remembered.
-  pub remembers-more : {place : ℕ} → place ≡ chosenPlace (entriesOf bs) nonterminal kind → Remembers bs (set memory (slot nonterminal kind) (place + 1))
+  pub remembers-more : {place : ℕ} → place ≡ chosenPlace (entriesOf bs) nonterminal kind → Remembers bs (set memory (slot nonterminal kind) place)
   remembers-more {place} e =
       record {
-        long = length-set memory (slot nonterminal kind) (place + 1) ∙ remembers .long;
+        long = length-set memory (slot nonterminal kind) place ∙ remembers .long;
         known = λ n′ kind′ few′ fits′. by n′ kind′ few′ fits′ (ℕ-discrete (slot n′ kind′) (slot nonterminal kind));
       }
     where
-      by : (nonterminal′ kind′ : ℕ) → nonterminal′ < 64 → kind′ < kindsInAll → Dec (slot nonterminal′ kind′ ≡ slot nonterminal kind)
-          → 0 < getD (set memory (slot nonterminal kind) (place + 1)) (slot nonterminal′ kind′) 0
-          → getD (set memory (slot nonterminal kind) (place + 1)) (slot nonterminal′ kind′) 0 ≡ chosenPlace (entriesOf bs) nonterminal′ kind′ + 1
+      by : (nonterminal′ kind′ : ℕ) → nonterminal′ < 64 → kind′ < noKind → Dec (slot nonterminal′ kind′ ≡ slot nonterminal kind)
+          → 0 < getD (set memory (slot nonterminal kind) place) (slot nonterminal′ kind′) 0
+          → getD (set memory (slot nonterminal kind) place) (slot nonterminal′ kind′) 0 ≡ chosenPlace (entriesOf bs) nonterminal′ kind′
       by nonterminal′ kind′ few′ fits′ (yes s) l =
           let en : nonterminal′ ≡ nonterminal = omega arith in
           let ek : kind′ ≡ kind = omega arith in
-          rw (s, getD-set-same memory (slot nonterminal kind) (place + 1) 0 (omega (arith, remembers .long)), en, ek) (omega (arith, e))
+          rw (s, getD-set-same memory (slot nonterminal kind) place 0 (omega (arith, remembers .long)), en, ek) e
       by nonterminal′ kind′ few′ fits′ (no f) l =
-          let other = getD-set-other memory (slot nonterminal kind) (slot nonterminal′ kind′) (place + 1) 0 f in
+          let other = getD-set-other memory (slot nonterminal kind) (slot nonterminal′ kind′) place 0 f in
           other ∙ remembers .known nonterminal′ kind′ few′ fits′ (omega (arith, other))
 
 -- ------------------------------------------------------------------ what a place stands for
@@ -262,6 +264,26 @@ each-at each-none spot h = absurd (omega arith)
 each-at (each-more x xs) zero h = x
 each-at (each-more x xs) (suc spot) h = each-at xs spot (omega arith)
 
+each-among : {A : Type 0} {P : A → Type 0} {xs : List A} {item : A} → Each P xs → Among xs item → P item
+each-among (each-more x xs) among-first = x
+each-among (each-more x xs) (among-later a) = each-among xs a
+
+module _ {A B : Type 0} (image : A → B) where
+  -- a member's image is a member of the images
+  mapped-among : {xs : List A} {item : A} → Among xs item → Among (map image xs) (image item)
+  mapped-among among-first = among-first
+  mapped-among (among-later a) = among-later (mapped-among a)
+
+  -- what is among the images is a member's
+  record ImageOf (xs : List A) (other : B) : Type 0 where
+    item : A
+    member : Among xs item
+    equal : image item ≡ other
+
+  among-mapped : (xs : List A) {other : B} → Among (map image xs) other → ImageOf xs other
+  among-mapped (x ∷ xs) among-first = record { item = x; member = among-first; equal = refl }
+  among-mapped (x ∷ xs) (among-later a) = let r = among-mapped xs a in record { item = r .item; member = among-later (r .member); equal = r .equal }
+
 map-at : {A B : Type 0} (image : A → B) (xs : List A) (spot : ℕ) (default : A) (image-default : B) → spot < length xs
     → getD (map image xs) spot image-default ≡ image (getD xs spot default)
 map-at image [] spot default image-default h = absurd (omega arith)
@@ -288,8 +310,11 @@ module _ {bs room : List ℕ} (held : Held bs room) where
   abbrev E : Place → Entry
   E = entryAt bs nulls (firstSetsOf bs)
 
+  abbrev placed : Place → Production
+  placed p = productionAt bs (p .nonterminal) (p .start)
+
   abbrev R : Place → Rule
-  R p = ruleOf nulls (firstSetsOf bs) (productionAt bs (p .nonterminal) (p .start))
+  R p = ruleOf nulls (firstSetsOf bs) (placed p)
 
   few : length (placesOf bs) ≤ 256
   few = held .grammar .few
@@ -359,26 +384,83 @@ module _ {bs room : List ℕ} (held : Held bs room) where
           → next-place ≡ chosenPlace (entriesOf bs) nonterminal kind
       place-nullable l ek = ek ∙ nullable-place-in entries-held nonterminal small ∙ chosen-nullable (entriesOf bs) nonterminal kind equal l
 
-  -- the nonterminals are 64
-  each-other : (test : Entry → Bool) (nonterminal : ℕ) → 64 ≤ nonterminal → ((entry : Entry) → test entry ≡ true → entry .nonterminal ≡ nonterminal)
-      → {ps : List Place} → Each (Whole bs) ps
-      → (spot : ℕ)
+  -- where no place passes a test, none is found
+  none-passes : (test : Entry → Bool) (ps : List Place) → ((stands-at : Place) → Among ps stands-at → test (E stands-at) ≡ false) → (spot : ℕ)
       → placeFrom test (map E ps) spot ≡ 256
   unfolding placeFrom
-  each-other test nonterminal l own each-none spot = refl
-  each-other test nonterminal l own (each-more {x = p} {xs = ps} o xs) spot =
-      by-test (test (E p)) (λ t. absurd (omega (arith, own (E p) t, o .small)))
-      (λ t. place-miss test (E p) (map E ps) spot t ∙ each-other test nonterminal l own xs (spot + 1))
+  none-passes test [] fails spot = refl
+  none-passes test (p ∷ ps) fails spot =
+      place-miss test (E p) (map E ps) spot (fails p among-first) ∙ none-passes test ps (λ q a. fails q (among-later a)) (spot + 1)
+
+  -- where one passes it, one is found
+  one-passes : (test : Entry → Bool) {ps : List Place} {stands-at : Place} → Among ps stands-at → test (E stands-at) ≡ true → (spot : ℕ)
+      → spot + length ps ≤ 256 → placeFrom test (map E ps) spot < 256
+  one-passes test {ps = p ∷ ps} among-first t spot h = rw (place-hit test (E p) (map E ps) spot t) (omega arith)
+  one-passes test {ps = p ∷ ps} (among-later a) t spot h =
+      by-test (test (E p)) (λ e. rw (place-hit test (E p) (map E ps) spot e) (omega arith))
+      (λ e. rw (place-miss test (E p) (map E ps) spot e) (one-passes test a t (spot + 1) (omega arith)))
+
+  -- the nonterminals are 64
+  each-other : (test : Entry → Bool) (nonterminal : ℕ) → 64 ≤ nonterminal → ((entry : Entry) → test entry ≡ true → entry .nonterminal ≡ nonterminal)
+      → placeFrom test (map E (placesOf bs)) 0 ≡ 256
+  each-other test nonterminal l own =
+      none-passes test (placesOf bs)
+      (λ p a. by-test (test (E p)) (λ t. absurd (omega (arith, own (E p) t, each-among (held .places) a .small))) (λ t. t)) 0
 
   -- What is no nonterminal has no production.
   pub chosen-outside : (nonterminal kind : ℕ) → 64 ≤ nonterminal → 256 ≡ chosenPlace (entriesOf bs) nonterminal kind
   unfolding entriesOf
   chosen-outside nonterminal kind l =
       let a : placeFrom (opensOf nonterminal kind) (map E (placesOf bs)) 0 ≡ 256
-      = each-other (opensOf nonterminal kind) nonterminal l (λ e t. eqb-true _ nonterminal (and-eq-true-iff _ _ .0 t .0)) (held .places) 0 in
+      = each-other (opensOf nonterminal kind) nonterminal l (λ e t. eqb-true _ nonterminal (and-eq-true-iff _ _ .0 t .0)) in
       let b : placeFrom (isNullableOf nonterminal) (map E (placesOf bs)) 0 ≡ 256
-      = each-other (isNullableOf nonterminal) nonterminal l (λ e t. eqb-true _ nonterminal (and-eq-true-iff _ _ .0 t .0)) (held .places) 0 in
+      = each-other (isNullableOf nonterminal) nonterminal l (λ e t. eqb-true _ nonterminal (and-eq-true-iff _ _ .0 t .0)) in
       sym b ∙ chosen-nullable (map E (placesOf bs)) nonterminal kind (sym a) (omega arith)
+
+  -- ---------------------------------------------------------------- the first set of a nonterminal says whether a place of it opens by a kind
+
+  module _ {nonterminal : ℕ} (small : nonterminal < 64) (kind : ℕ) {test : Bool} (tested : hasKind (firstSetIn room nonterminal) kind ≡ test) where
+    in-set : hasKind (getD (firstSetsOf bs) nonterminal 0) kind ≡ test
+    in-set = rw (sym (first-set-in entries-held nonterminal small)) tested
+
+    -- Where the set has the kind, some production opens by it.
+    pub opens-some : test ≡ true → placeFrom (opensOf nonterminal kind) (entriesOf bs) 0 < 256
+    unfolding entriesOf firstSetsOf productionAt
+    opens-some t = by (opens-exactly (productionsIn bs) nonterminal kind .0 (in-set ∙ t))
+      where
+        by : Opens (productionsIn bs) nonterminal kind → placeFrom (opensOf nonterminal kind) (map E (placesOf bs)) 0 < 256
+        by o =
+            let p = among-mapped placed (placesOf bs) (o .of .member) in
+            one-passes (opensOf nonterminal kind) (p .member)
+            (and-eq-true-iff _ _ .1 (
+              eq-eqb _ nonterminal (ap (λ x. x .nonterminal) (p .equal) ∙ o .of .owned),
+              ap (λ x. hasKind (firstOf nulls (firstSetsOf bs) x) kind) (p .equal)
+                  ∙ production-opens-exactly (productionsIn bs) (o .production) kind .1 (o .first),
+            ))
+            0
+            (omega (arith, few))
+
+    -- Where it does not, none does.
+    pub opens-none : test ≡ false → 256 ≡ placeFrom (opensOf nonterminal kind) (entriesOf bs) 0
+    unfolding entriesOf firstSetsOf productionAt
+    opens-none t =
+        sym
+        (none-passes (opensOf nonterminal kind) (placesOf bs)
+        (λ p a.
+        by-test (opensOf nonterminal kind (E p))
+        (λ e.
+        let q = and-eq-true-iff _ _ .0 e in
+        absurd
+        (false≢true
+        (sym (in-set ∙ t)
+        ∙ opens-exactly (productionsIn bs) nonterminal kind .1
+        (record {
+          production = placed p;
+          of = record { member = mapped-among placed a; owned = eqb-true _ nonterminal (q .0); small = small };
+          first = production-opens-exactly (productionsIn bs) (placed p) kind .0 (q .1);
+        }))))
+        (λ e. e))
+        0)
 
   set-inside : (nonterminal : ℕ) → nonterminal < 64 → firstSetIn room nonterminal ≡ getD (firstSetsOf bs) nonterminal 0
   set-inside nonterminal l = first-set-in entries-held nonterminal l

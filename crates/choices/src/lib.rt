@@ -19,14 +19,10 @@ ghost use Rattle.productions.specs.Room.{placeFrom};
 ghost use Rattle.choices.specs.Held.{Held, HoldsSome};
 ghost use Rattle.choices.specs.Chosen.{kindsIn, entriesOf, opensOf, chosenPlace, Remembers, MayChoose, Chooses};
 
-// The kinds, with the one that is none.
-const KINDS: usize = NO_KIND as usize + 1;
+const KINDS: usize = NO_KIND as usize;
 
 // What is remembered: a byte for each nonterminal and kind.
 pub const MEMORY: usize = EACH_NONTERMINAL * KINDS;
-
-// The first place that a byte does not hold with one more.
-const NOT_HELD: usize = 255;
 
 // The place of the first production of nonterminal n whose first set holds a kind, 256 if there is none.
 fn opened(room: &[u64; ROOM], n: u8, kind: u32) -> usize
@@ -44,24 +40,23 @@ fn opened(room: &[u64; ROOM], n: u8, kind: u32) -> usize
     NO_PLACE
 }
 
-// The place of the production whose first set holds the kind of the next token, else of the nullable one; 256 if there is neither. It
-// looks at the productions of the nonterminal only.
+// The place of the production whose first set holds the kind of the next token, else of the nullable one; 256 if there is neither. The
+// first set of the nonterminal says whether there is one of the first; only then its productions are looked at.
 fn search(room: &[u64; ROOM], n: u8, kind: u32) -> usize
-    requires { ⌜ HoldsSome (now room) ⌝ }
+    requires { ⌜ HoldsSome (now room) × (n < most .nonterminals) ⌝ }
     ensures { λ r. ⌜ ((bs : List ℕ) → Held bs (now (room .entry)) → r ≡ chosenPlace (entriesOf bs) n kind) ⌝ }
 {
-    if NONTERMINALS <= n {
-        return NO_PLACE;
+    let opens = has_kind(first_set(room, n), kind);
+    if opens {
+        opened(room, n, kind)
+    } else {
+        nullable_place(room, n)
     }
-    let j = opened(room, n, kind);
-    if j < NO_PLACE {
-        return j;
-    }
-    nullable_place(room, n)
 }
 
-// The same, remembered: a choice is searched for where it is met first, and then looked up. A place is remembered as one more than it is;
-// 255 and 256 are searched for each time.
+// The same, remembered: a choice is searched for where it is met first, and then looked up. A place is remembered as it is, and 0 says that
+// none is. So place 0 is searched for each time, and so is what is not there; but place 0 is that of a nonterminal's first production, which is
+// looked at first, and the first set says that there is none.
 pub fn choose(room: &[u64; ROOM], memory: &mut [u8; MEMORY], n: u8, kind: u32) -> usize
     requires { ⌜ MayChoose (now room) (now memory) ⌝ }
     ensures { λ r. ⌜ ((bs : List ℕ) → Held bs (now (room .entry)) → Remembers bs (now (memory .entry)) → Chooses bs n kind r (now (memory
@@ -70,17 +65,17 @@ pub fn choose(room: &[u64; ROOM], memory: &mut [u8; MEMORY], n: u8, kind: u32) -
     if NONTERMINALS <= n {
         return NO_PLACE;
     }
-    if NO_KIND < kind {
+    if NO_KIND <= kind {
         return search(room, n, kind);
     }
     let at = n as usize * KINDS + kind as usize;
     let known = wide_byte(memory[at]);
     if 0 < known {
-        return known - 1;
+        return known;
     }
     let place = search(room, n, kind);
-    if place < NOT_HELD {
-        memory[at] = place as u8 + 1;
+    if place < NO_PLACE {
+        memory[at] = place as u8;
     }
     place
 }

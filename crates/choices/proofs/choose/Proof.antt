@@ -15,10 +15,10 @@ module _ {room memory : List ℕ} (may : MayChoose room memory) where
   some = record { bs = may .bs; held = may .held }
 
 search-requires : tie.Need-search-requires
-search-requires c κs = some (c .before .before .pre)
+search-requires c κs = (some (c .before .before .pre), c .before .if1 .left)
 
 search-requires-2 : tie.Need-search-requires-2
-search-requires-2 c κs = some (c .before .before .before .before .before .pre)
+search-requires-2 c κs = let at-place = c .before .before .before .before in (some (at-place .before .pre), at-place .if1 .left)
 
 returns : tie.Need-returns
 returns c =
@@ -62,10 +62,8 @@ choose-spec =
     (λ c. search needs)
     (λ c. search needs)
     (λ c κs. search needs)
-    (λ c. search needs)
     returns-3
     search-requires-2
-    (λ c. search needs)
     (λ c. search needs)
     (λ c. search needs)
     returns-4
