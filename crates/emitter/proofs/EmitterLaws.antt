@@ -19,7 +19,7 @@ use Rattle.terms.specs.Term.{Name, Term, size, largestTerm}
 use Rattle.terms.specs.Rows.{termAt}
 use Rattle.terms.specs.Print.{print}
 use Rattle.terms.specs.Emit.{textOf, fitted, emitted}
-use Rattle.terms.proofs.EmitLaws.{leaves, fitted-long, fitted-whole, emitted-large, emitted-loose, emitted-fitted}
+use Rattle.terms.proofs.EmitLaws.{leaves, fitted-long, fitted-whole, judged-large, judged-loose, judged-passes, emitted-refused, emitted-fitted}
 use Rattle.rows.specs.Sizes.{noSpell, sizeAt, mostBound}
 use Rattle.rows.proofs.ListLaws.{zeros}
 use Rattle.rows.proofs.SizeLaws.{size-spell}
@@ -65,7 +65,7 @@ module _ (spell : ℕ → List ℕ) (cells : List ℕ) (made root : ℕ) where
   -- 22
   pub emit-large : (text : List ℕ) {answer : Answer} → largestTerm < sizeAt cells made root → answer ≡ Refusing (refusal 22 made 0 0)
       → emitted textOf made T text ≡ leaves answer text
-  emit-large text h e = emitted-large textOf made T text (omega (arith, sized)) ∙ ap (λ a. leaves a text) (sym e)
+  emit-large text h e = emitted-refused textOf made T text (judged-large made T (omega (arith, sized))) ∙ ap (λ a. leaves a text) (sym e)
 
   module _ (text : List ℕ) (small : sizeAt cells made root ≤ largestTerm) {numbers : List ℕ} {resolution : Resolution}
       (resolved : ResolvedAs T numbers resolution)
@@ -74,7 +74,7 @@ module _ (spell : ℕ → List ℕ) (cells : List ℕ) (made root : ℕ) where
       pub emit-loose : {place : ℕ} {answer : Answer} → resolution ≡ Loose place → answer ≡ Refusing (refusal 23 place 0 0)
           → emitted textOf made T text ≡ leaves answer text
       emit-loose en e =
-          emitted-loose textOf made T text (omega (arith, sized)) (resolved .answer ∙ ap (λ w. walkOf w (size T)) en)
+          emitted-refused textOf made T text (judged-loose made T (omega (arith, sized)) (resolved .answer ∙ ap (λ w. walkOf w (size T)) en))
           ∙ ap (λ a. leaves a text) (sym e)
 
       -- 24 or the text: what the walk prints is the text
@@ -86,7 +86,7 @@ module _ (spell : ℕ → List ℕ) (cells : List ℕ) (made root : ℕ) where
           let same : textBy spell cells numbers made root ≡ textOf T = ap print (resolved .named en) in
           let answer : answerBy made (size T) (length (textOf T)) (length text) ≡ given-answer =
           ap₂ (λ c l. answerBy made c l (length text)) (sym (ec ∙ sized)) (ap length (sym same) ∙ sym (p .needed)) ∙ sym er in
-          emitted-fitted textOf made T text (omega (arith, sized)) (resolved .answer ∙ ap (λ w. walkOf w (size T)) en)
+          emitted-fitted textOf made T text (judged-passes made T (omega (arith, sized)) (resolved .answer ∙ ap (λ w. walkOf w (size T)) en))
           ∙ fitted-by made (size T) (textOf T) text
           ∙ ap₂ leaves answer (ap (λ out. writtenInto out text) (sym same) ∙ sym (p .placed))
 

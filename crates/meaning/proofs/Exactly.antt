@@ -1,8 +1,8 @@
 -- When an expansion of a passed table is accepted, when it gives each refusal, and what it leaves as it was.
 use Prim.Native.Nat.{ℕ, _*_, _≤_, _<_}
-use mathlib.Core.Path.{_≡_, refl, sym, ap, subst, subst⁻¹, _∙_}
+use mathlib.Core.Path.{_≡_, refl, sym, ap, subst, _∙_}
 use mathlib.Core.Logic.{_↔_}
-use mathlib.Core.List.{List, [], _∷_, _++_}
+use mathlib.Core.List.{List, _++_}
 use native.Mathlib.Omega.{arith}
 use lib.ListN.{length, getD, take, drop}
 use Rattle.answers.specs.declared.Refusal.{Refusal}
@@ -23,17 +23,16 @@ use Rattle.expansion.proofs.Shows.{IsCode}
 use Rattle.soundness.specs.Passing.{Passing}
 use Rattle.soundness.specs.Stopping.{Left, Refuses}
 use Rattle.soundness.proofs.CellsLeft.{Leaves, run-leaves}
-use Rattle.terms.specs.Term.{Name, Term, size, largestTerm}
+use Rattle.terms.specs.Term.{Name, Term, size}
 use Rattle.terms.specs.Cells.{columns, column, rowsLent}
 use Rattle.terms.specs.Rows.{termAt}
 use Rattle.terms.specs.Rename.{rename}
 use Rattle.terms.specs.Print.{print}
-use Rattle.terms.specs.Occurrences.{occurrences, loosePlaces}
 use Rattle.meaning.specs.Expand.{Expanded, refused, expandTable, checkedFirst, expand}
-use Rattle.meaning.specs.Meaning.{Scans, spellOf, Means, MeansWithin, cellsOf, Cause, unscanned, stopped, Accepts}
-use Rattle.meaning.specs.Meaning as Meaning
-use Rattle.meaning.proofs.Owners.{occurs, Says, loose-says, none-places, first-places}
-use Rattle.meaning.proofs.Stages.{Finish, too-big, is-loose, too-long, prints, same-words, means-one, RunsTo, Stage, in-scan, in-parse, at-last, stages}
+use Rattle.meaning.specs.Meaning.{Scans, spellOf, Means, MeansWithin, cellsOf, Judges, PassesTests, Cause, unscanned, stopped, is-judged, text-too-long}
+use Rattle.meaning.specs.Meaning.{Accepts}
+use Rattle.meaning.proofs.Judging.{judges-one, judges-not}
+use Rattle.meaning.proofs.Stages.{Finish, is-refused, too-long, prints, same-words, means-one, RunsTo, Stage, in-scan, in-parse, at-last, stages}
 use Rattle.meaning.proofs.Stages.{unscanned-ends, stopped-ends, meant-ends, meant-reached}
 
 -- ------------------------------------------------------------------ answers
@@ -44,51 +43,33 @@ same-refusal e = cc
 never : {A : Type 0} {made constructors text-size : ℕ} {cause : Refusal} → Accepted made constructors text-size ≡ Refusing cause → A
 never e = let z : _≡_ {A = ℕ} 0 1 = cc in absurd (omega arith)
 
-differ : {A : Type 0} {place : ℕ} {ps qs : List ℕ} → qs ≡ place ∷ ps → qs ≡ [] → A
-differ e f = let z : _≡_ {A = ℕ} 0 1 = cc in absurd (omega arith)
-
--- ------------------------------------------------------------------ the last tests
+-- ------------------------------------------------------------------ the last step
 
 module _ {made : ℕ} {meant : Term Name} {cells text : List ℕ} where
-  large-answer : {expanded : Expanded} → Finish made meant cells text expanded → largestTerm < size meant → expanded .answer ≡ Refusing (refusal 22 made 0 0)
-  large-answer (too-big b) h = refl
-  large-answer (is-loose s l) h = absurd (omega arith)
-  large-answer (too-long s l b) h = absurd (omega arith)
-  large-answer (prints s l b) h = absurd (omega arith)
+  judged-answer : {expanded : Expanded} {cause : Refusal} → Finish made meant cells text expanded → Judges made meant cause
+      → expanded .answer ≡ Refusing cause
+  judged-answer (is-refused j) k = ap Refusing (judges-one made meant j k)
+  judged-answer (too-long p b) k = judges-not made meant k p
+  judged-answer (prints p b) k = judges-not made meant k p
 
-  loose-answer : {expanded : Expanded} {place : ℕ} {ps : List ℕ} → Finish made meant cells text expanded → size meant ≤ largestTerm
-      → loosePlaces (occurrences [] 0 meant) ≡ place ∷ ps
-      → expanded .answer ≡ Refusing (refusal 23 place 0 0)
-  loose-answer (too-big b) h k = absurd (omega arith)
-  loose-answer {place = place} (is-loose {place = q} s l) h k = let z : q ≡ place = cc in rw z
-  loose-answer (too-long s l b) h k = differ k l
-  loose-answer (prints s l b) h k = differ k l
-
-  long-answer : {expanded : Expanded} → Finish made meant cells text expanded → size meant ≤ largestTerm → loosePlaces (occurrences [] 0 meant) ≡ []
-      → length text < length (print (rename meant))
+  long-answer : {expanded : Expanded} → Finish made meant cells text expanded → PassesTests meant → length text < length (print (rename meant))
       → expanded .answer ≡ Refusing (refusal 24 (length (print (rename meant))) 0 0)
-  long-answer (too-big b) h k l = absurd (omega arith)
-  long-answer (is-loose s l) h k m = differ l k
-  long-answer (too-long s l b) h k m = refl
-  long-answer (prints s l b) h k m = absurd (omega arith)
+  long-answer (is-refused j) p l = judges-not made meant j p
+  long-answer (too-long q b) p l = refl
+  long-answer (prints q b) p l = absurd (omega arith)
 
-  prints-of : {expanded : Expanded} {cells-made constructors text-size : ℕ} → Finish made meant cells text expanded
+  text-printed : {expanded : Expanded} {cells-made constructors text-size : ℕ} → Finish made meant cells text expanded
       → expanded .answer ≡ Accepted cells-made constructors text-size
-      → (size meant ≤ largestTerm) × (loosePlaces (occurrences [] 0 meant) ≡ []) × (length (print (rename meant)) ≤ length text)
-      × (Accepted cells-made constructors text-size ≡ Accepted made (size meant) (length (print (rename meant))))
-      × (expanded .text ≡ print (rename meant) ++ drop (length (print (rename meant))) text)
-  prints-of (too-big b) e = never (sym e)
-  prints-of (is-loose s l) e = never (sym e)
-  prints-of (too-long s l b) e = never (sym e)
-  prints-of (prints s l b) e = (s, l, b, sym e, refl)
+      → expanded .text ≡ print (rename meant) ++ drop (length (print (rename meant))) text
+  text-printed (is-refused j) e = never (sym e)
+  text-printed (too-long p b) e = never (sym e)
+  text-printed (prints p b) e = refl
 
-  prints-answer : {expanded : Expanded} → Finish made meant cells text expanded → size meant ≤ largestTerm → loosePlaces (occurrences [] 0 meant) ≡ []
-      → length (print (rename meant)) ≤ length text
+  prints-answer : {expanded : Expanded} → Finish made meant cells text expanded → PassesTests meant → length (print (rename meant)) ≤ length text
       → expanded .answer ≡ Accepted made (size meant) (length (print (rename meant)))
-  prints-answer (too-big b) h k l = absurd (omega arith)
-  prints-answer (is-loose s l) h k m = differ l k
-  prints-answer (too-long s l b) h k m = absurd (omega arith)
-  prints-answer (prints s l b) h k m = refl
+  prints-answer (is-refused j) p l = judges-not made meant j p
+  prints-answer (too-long q b) p l = absurd (omega arith)
+  prints-answer (prints q b) p l = refl
 
 -- ------------------------------------------------------------------ a table that does not pass
 
@@ -117,14 +98,9 @@ module _ (table : Table) (passing : Passing table) (formula cells text : List �
   cause-last : {meant : Term Name} {cells′ : List ℕ} {expanded : Expanded} (means-within : MeansWithin syntax formula cells meant)
       → Finish (cellsOf means-within) meant cells′ text expanded → (cause : Refusal)
       → expanded .answer ≡ Refusing cause → Cause syntax formula cells text cause
-  cause-last means-within (too-big b) cause e = subst (Cause syntax formula cells text) (same-refusal e) (Meaning.too-large means-within (omega arith))
-  cause-last {meant = meant} means-within (is-loose s l) cause e =
-      subst (Cause syntax formula cells text) (same-refusal e)
-      (Meaning.is-loose means-within s (occurs [] 0 meant) (subst (Says (occurrences [] 0 meant)) l (loose-says (occurrences [] 0 meant))))
-  cause-last {meant = meant} means-within (too-long s l b) cause e =
-      subst (Cause syntax formula cells text) (same-refusal e)
-      (Meaning.text-too-long means-within s (occurs [] 0 meant) (subst (Says (occurrences [] 0 meant)) l (loose-says (occurrences [] 0 meant))) (omega arith))
-  cause-last means-within (prints s l b) cause e = never e
+  cause-last means-within (is-refused j) cause e = subst (Cause syntax formula cells text) (same-refusal e) (is-judged means-within j)
+  cause-last means-within (too-long p b) cause e = subst (Cause syntax formula cells text) (same-refusal e) (text-too-long means-within p (omega arith))
+  cause-last means-within (prints p b) cause e = never e
 
   cause-of : {expanded : Expanded} → Stage table passing formula cells text expanded → (cause : Refusal) → expanded .answer ≡ Refusing cause
       → Cause syntax formula cells text cause
@@ -135,9 +111,8 @@ module _ (table : Table) (passing : Passing table) (formula cells text : List �
   answer-of : {cause : Refusal} → Cause syntax formula cells text cause → X .answer ≡ Refusing cause
   answer-of (unscanned u) = rw (unscanned-ends table passing formula cells text u)
   answer-of (stopped S h) = rw (stopped-ends table passing formula cells text S h .1)
-  answer-of (Meaning.too-large E b) = large-answer (meant-ends table passing formula cells text E .1) b
-  answer-of (Meaning.is-loose E s o f) = loose-answer (meant-ends table passing formula cells text E .1) s (first-places o f .1)
-  answer-of (Meaning.text-too-long E s o n b) = long-answer (meant-ends table passing formula cells text E .1) s (none-places o n) b
+  answer-of (is-judged E j) = judged-answer (meant-ends table passing formula cells text E .1) j
+  answer-of (text-too-long E p b) = long-answer (meant-ends table passing formula cells text E .1) p b
 
   -- A refusal is given exactly in its case.
   pub refused-exactly : (cause : Refusal) → (X .answer ≡ Refusing cause) ↔ Cause syntax formula cells text cause
@@ -146,21 +121,10 @@ module _ (table : Table) (passing : Passing table) (formula cells text : List �
   accepts-last : {meant : Term Name} {cells′ : List ℕ} {expanded : Expanded} {made constructors text-size : ℕ}
       (means-within : MeansWithin syntax formula cells meant) → Finish (cellsOf means-within) meant cells′ text expanded
       → expanded .answer ≡ Accepted made constructors text-size → Accepts syntax formula cells text meant made constructors text-size
-  accepts-last means-within (too-big b) e = never (sym e)
-  accepts-last means-within (is-loose s l) e = never (sym e)
-  accepts-last means-within (too-long s l b) e = never (sym e)
-  accepts-last {meant = meant} means-within (prints s l b) e =
-      record {
-        means = means-within;
-        small = s;
-        occurrences = occurrences [] 0 meant;
-        occur = occurs [] 0 meant;
-        none-loose = subst (Says (occurrences [] 0 meant)) l (loose-says (occurrences [] 0 meant));
-        fits = b;
-        cells-are = (cc);
-        size-is = (cc);
-        length-is = (cc);
-      }
+  accepts-last means-within (is-refused j) e = never (sym e)
+  accepts-last means-within (too-long p b) e = never (sym e)
+  accepts-last means-within (prints p b) e =
+      record { means = means-within; passes = p; fits = b; cells-are = (cc); size-is = (cc); length-is = (cc) }
 
   accepts-of : {expanded : Expanded} {made constructors text-size : ℕ} → Stage table passing formula cells text expanded
       → expanded .answer ≡ Accepted made constructors text-size → (meant : Term Name) × Accepts syntax formula cells text meant made constructors text-size
@@ -175,7 +139,7 @@ module _ (table : Table) (passing : Passing table) (formula cells text : List �
     accepts-of (stages table passing formula cells text),
     λ d.
         let A = d .1 in
-        prints-answer (meant-ends table passing formula cells text (A .means) .1) (A .small) (none-places (A .occur) (A .none-loose)) (A .fits)
+        prints-answer (meant-ends table passing formula cells text (A .means) .1) (A .passes) (A .fits)
         ∙ (cc (A .cells-are, A .size-is, A .length-is)),
   )
 
@@ -186,7 +150,7 @@ module _ (table : Table) (passing : Passing table) (formula cells text : List �
       → expanded .text ≡ print (rename meant) ++ drop (length (print (rename meant))) text
   text-of (in-scan u) e M = never (sym e)
   text-of (in-parse S h k) e M = never (sym e)
-  text-of (at-last E R f) e M = rw (means-one table passing formula M (E .means)) (prints-of f e .4)
+  text-of (at-last E R f) e M = rw (means-one table passing formula M (E .means)) (text-printed f e)
 
   -- The text of an acceptance is the term, renamed and printed, and what was lent behind it.
   pub accepted-text : (made constructors text-size : ℕ) → X .answer ≡ Accepted made constructors text-size → {meant : Term Name} → Means syntax formula meant
@@ -194,17 +158,15 @@ module _ (table : Table) (passing : Passing table) (formula cells text : List �
   accepted-text made constructors text-size = text-of (stages table passing formula cells text)
 
   finish-cells : {made : ℕ} {meant : Term Name} {cells′ : List ℕ} {expanded : Expanded} → Finish made meant cells′ text expanded → expanded .cells ≡ cells′
-  finish-cells (too-big b) = refl
-  finish-cells (is-loose s b) = refl
-  finish-cells (too-long s b k) = refl
-  finish-cells (prints s b k) = refl
+  finish-cells (is-refused j) = refl
+  finish-cells (too-long p b) = refl
+  finish-cells (prints p b) = refl
 
   finish-count : {made : ℕ} {meant : Term Name} {cells′ : List ℕ} {expanded : Expanded} → Finish made meant cells′ text expanded
       → (cells-made constructors text-size : ℕ) → expanded .answer ≡ Accepted cells-made constructors text-size → cells-made ≡ made
-  finish-count (too-big b) cells-made b′ text-size e = never (sym e)
-  finish-count (is-loose s b) cells-made b′ text-size e = never (sym e)
-  finish-count (too-long s b k) cells-made b′ text-size e = never (sym e)
-  finish-count (prints s b k) cells-made b′ text-size e = cc
+  finish-count (is-refused j) cells-made constructors text-size e = never (sym e)
+  finish-count (too-long p b) cells-made constructors text-size e = never (sym e)
+  finish-count (prints p b) cells-made constructors text-size e = cc
 
   -- the cells of an acceptance show its term
   cells-of : {expanded : Expanded} → Stage table passing formula cells text expanded → (cells-made constructors text-size : ℕ)
@@ -231,10 +193,9 @@ module _ (table : Table) (passing : Passing table) (formula cells text : List �
       → expanded .text ≡ text
   text-left (in-scan u) cause a = refl
   text-left (in-parse S e h) cause a = refl
-  text-left (at-last E R (too-big b)) cause a = refl
-  text-left (at-last E R (is-loose s b)) cause a = refl
-  text-left (at-last E R (too-long s b k)) cause a = refl
-  text-left (at-last E R (prints s b k)) cause a = never a
+  text-left (at-last E R (is-refused j)) cause a = refl
+  text-left (at-last E R (too-long p b)) cause a = refl
+  text-left (at-last E R (prints p b)) cause a = never a
 
   -- A refusal leaves the text as it was.
   pub text-kept : (cause : Refusal) → X .answer ≡ Refusing cause → X .text ≡ text

@@ -23,11 +23,10 @@ use Rattle.meaning.specs.Meaning as Meaning
 use Rattle.meaning.specs.Naming.{Named}
 use Rattle.meaning.specs.Hygiene.{Hygienic, Ends, refuses, Demand3}
 use Rattle.meaning.specs.Hygiene as Hygiene
-use Rattle.meaning.proofs.Owners.{Says, occurs, loose-says, all-owned}
+use Rattle.meaning.proofs.Owners.{Says, occurs, loose-says, none-places, all-owned}
 use Rattle.meaning.proofs.Naming.{rename-named}
-use Rattle.meaning.proofs.Stages.{expand-passed, Finish, too-big, is-loose, prints, supplied, words-as-written, outsides-as-listed, worded, means-one}
+use Rattle.meaning.proofs.Stages.{expand-passed, Finish, is-refused, too-long, prints, supplied, words-as-written, outsides-as-listed, worded, means-one}
 use Rattle.meaning.proofs.Stages.{Stage, in-scan, in-parse, at-last, stages}
-use Rattle.meaning.proofs.Stages as Stages
 
 -- ------------------------------------------------------------------ demand 3
 
@@ -65,25 +64,11 @@ module _ (table : Table) (passing : Passing table) (formula cells text : List �
 
   ends-last : {meant : Term Name} {cells′ : List ℕ} {given-expanded : Expanded} (means-within : MeansWithin syntax formula cells meant)
       → Finish (cellsOf means-within) meant cells′ text given-expanded → EndsAs given-expanded
-  ends-last means-within (too-big b) = refuses (Meaning.too-large means-within b)
-  ends-last {meant = meant} means-within (is-loose s l) =
-      refuses (Meaning.is-loose means-within s (occurs [] 0 meant) (subst (Says (occurrences [] 0 meant)) l (loose-says (occurrences [] 0 meant))))
-  ends-last {meant = meant} means-within (Stages.too-long s l b) =
-      refuses (Meaning.text-too-long means-within s (occurs [] 0 meant) (subst (Says (occurrences [] 0 meant)) l (loose-says (occurrences [] 0 meant))) b)
-  ends-last {meant = meant} means-within (prints s l b) =
-      Hygiene.prints
-      (record {
-        means = means-within;
-        small = s;
-        occurrences = occurrences [] 0 meant;
-        occur = occurs [] 0 meant;
-        none-loose = subst (Says (occurrences [] 0 meant)) l (loose-says (occurrences [] 0 meant));
-        fits = b;
-        cells-are = refl;
-        size-is = refl;
-        length-is = refl;
-      })
-      (hygienic (means-within .means) l)
+  ends-last means-within (is-refused j) = refuses (Meaning.is-judged means-within j)
+  ends-last means-within (too-long p b) = refuses (Meaning.text-too-long means-within p b)
+  ends-last means-within (prints p b) =
+      Hygiene.prints (record { means = means-within; passes = p; fits = b; cells-are = refl; size-is = refl; length-is = refl })
+      (hygienic (means-within .means) (none-places (p .occur) (p .none-loose)))
 
   ends-stage : {given-expanded : Expanded} → Stage table passing formula cells text given-expanded → EndsAs given-expanded
   ends-stage (in-scan u) = refuses (Meaning.unscanned u)

@@ -3,7 +3,7 @@ use Prim.Native.Nat.{ℕ, zero, suc, _*_, _≤_, _<_}
 use mathlib.Core.Path.{_≡_, refl, sym, ap, ap₂, _∙_}
 use mathlib.Core.Bool.{true}
 use mathlib.Core.Logic.{_↔_}
-use mathlib.Core.List.{List, [], _∷_, _++_}
+use mathlib.Core.List.{List, [], _++_}
 use native.Mathlib.Omega.{arith}
 use native.Mathlib.Decide.{decLe}
 use lib.ListN.{length, getD, take, drop}
@@ -41,17 +41,16 @@ use Rattle.soundness.specs.Stopping.{Left, Refuses}
 use Rattle.soundness.specs.Places.{Supplied, givenIn}
 use Rattle.soundness.specs.Passing.{Passing, Lexemes}
 use Rattle.soundness.proofs.ExpansionTheorems as expansion
-use Rattle.terms.specs.Term.{Name, Term, size, largestTerm}
+use Rattle.terms.specs.Term.{Name, Term, size}
 use Rattle.terms.specs.Rows.{termAt}
 use Rattle.terms.specs.Rename.{rename}
-use Rattle.terms.specs.Loose.{walk}
 use Rattle.terms.specs.Print.{print}
 use Rattle.terms.specs.Emit.{textOf, fitted, emitted}
-use Rattle.terms.proofs.EmitLaws.{fitted-long, fitted-whole, emitted-large, emitted-loose, emitted-fitted}
-use Rattle.terms.specs.Occurrences.{occurrences, loosePlaces, stopsAtFirst, isWorded}
-use Rattle.terms.proofs.Statements as terms
+use Rattle.terms.proofs.EmitLaws.{fitted-long, fitted-whole, emitted-refused, emitted-fitted}
+use Rattle.terms.specs.Occurrences.{isWorded}
 use Rattle.meaning.specs.Expand.{Expanded, refused, withCells, finished, scanned, expandTable, checkedFirst, expand}
-use Rattle.meaning.specs.Meaning.{Scans, spellOf, Means, MeansWithin, cellsOf}
+use Rattle.meaning.specs.Meaning.{Scans, spellOf, Means, MeansWithin, cellsOf, Judges, PassesTests}
+use Rattle.meaning.proofs.Judging.{Judgement, refuses, passes, judgement, judges-bad, passes-ok}
 
 -- ------------------------------------------------------------------ the table
 
@@ -73,14 +72,12 @@ module _ (bs : List ℕ) (passes : Passes bs) where
 
 -- ------------------------------------------------------------------ the last step
 
--- How the last step ends: by 22, 23 or 24, in their order, else with the text.
+-- How the last step ends: refused by what is judged of the term, or by 24, else with the text.
 pub data Finish (made : ℕ) (core-term : Term Name) (cells text : List ℕ) : Expanded → Type 0 where
-  too-big : largestTerm < size core-term → Finish made core-term cells text (refused (refusal 22 made 0 0) cells text)
-  is-loose : {place : ℕ} {ps : List ℕ} → size core-term ≤ largestTerm → loosePlaces (occurrences [] 0 core-term) ≡ place ∷ ps
-      → Finish made core-term cells text (refused (refusal 23 place 0 0) cells text)
-  too-long : size core-term ≤ largestTerm → loosePlaces (occurrences [] 0 core-term) ≡ [] → length text < length (print (rename core-term))
+  is-refused : {cause : Refusal} → Judges made core-term cause → Finish made core-term cells text (refused cause cells text)
+  too-long : PassesTests core-term → length text < length (print (rename core-term))
       → Finish made core-term cells text (refused (refusal 24 (length (print (rename core-term))) 0 0) cells text)
-  prints : size core-term ≤ largestTerm → loosePlaces (occurrences [] 0 core-term) ≡ [] → length (print (rename core-term)) ≤ length text
+  prints : PassesTests core-term → length (print (rename core-term)) ≤ length text
       → Finish made core-term cells text
       (record {
         answer = Accepted made (size core-term) (length (print (rename core-term)));
@@ -89,29 +86,25 @@ pub data Finish (made : ℕ) (core-term : Term Name) (cells text : List ℕ) : E
       })
 
 module _ (made : ℕ) (core-term : Term Name) (cells text : List ℕ) where
-  by-room : size core-term ≤ largestTerm → loosePlaces (occurrences [] 0 core-term) ≡ []
-      → Finish made core-term cells text (withCells cells (fitted made (size core-term) (textOf core-term) text))
-  by-room small none = by (decLe (length (textOf core-term)) (length text))
+  -- 24 or the text, of a term that passes
+  by-room : PassesTests core-term → Finish made core-term cells text (withCells cells (emitted textOf made core-term text))
+  by-room p = rw (emitted-fitted textOf made core-term text (passes-ok made core-term p)) (by (decLe (length (textOf core-term)) (length text)))
     where
       by : Dec (length (textOf core-term) ≤ length text)
           → Finish made core-term cells text (withCells cells (fitted made (size core-term) (textOf core-term) text))
-      by (yes h) = rw (fitted-whole made (size core-term) (textOf core-term) text h) (prints small none h)
+      by (yes h) = rw (fitted-whole made (size core-term) (textOf core-term) text h) (prints p h)
       by (no n) =
-          let h : length text < length (textOf core-term) = omega arith in rw (fitted-long made (size core-term) (textOf core-term) text h)
-          (too-long small none h)
+          let h : length text < length (textOf core-term) = omega arith in
+          rw (fitted-long made (size core-term) (textOf core-term) text h) (too-long p h)
 
   -- The last step ends so.
   pub finishes : Finish made core-term cells text (withCells cells (emitted textOf made core-term text))
-  finishes = by (decLe (size core-term) largestTerm) (loosePlaces (occurrences [] 0 core-term)) refl
+  finishes = by (judgement made core-term)
     where
-      walks : {ps : List ℕ} → loosePlaces (occurrences [] 0 core-term) ≡ ps → walk [] 0 core-term ≡ stopsAtFirst ps (size core-term)
-      walks e = rw (terms.first-loose core-term, e)
-
-      by : Dec (size core-term ≤ largestTerm) → (ps : List ℕ) → loosePlaces (occurrences [] 0 core-term) ≡ ps
+      by : {answer : Checked (Unit {0})} → Judgement made core-term answer
           → Finish made core-term cells text (withCells cells (emitted textOf made core-term text))
-      by (no n) ps e = let h : largestTerm < size core-term = omega arith in rw (emitted-large textOf made core-term text h) (too-big h)
-      by (yes h) [] e = rw (emitted-fitted textOf made core-term text h (walks e)) (by-room h e)
-      by (yes h) (p ∷ ps) e = rw (emitted-loose textOf made core-term text h (walks e)) (is-loose h e)
+      by (refuses j) = rw (emitted-refused textOf made core-term text (judges-bad made core-term j)) (is-refused j)
+      by (passes p) = by-room p
 
 -- ------------------------------------------------------------------ the tokens
 

@@ -51,6 +51,24 @@ cellsOf E = rowsIn (E .means .parsed .derived)
 abbrev pub textLength : Term Name → ℕ
 textLength u = length (print (rename u))
 
+-- ------------------------------------------------------------------ what is judged of a term
+
+-- what a term is refused for, after so many cells were made, whatever is to be written of it
+pub data Judges (made : ℕ) (u : Term Name) : Refusal → Type 0 where
+  too-large : largestTerm < size u → Judges made u (refusal 22 made 0 0)
+  is-loose : {os : List Occurrence} {p : ℕ}
+      → size u ≤ largestTerm
+      → Occurs [] 0 u os
+      → FirstLoose os p
+      → Judges made u (refusal 23 p 0 0)
+
+-- a term that is refused for none of these
+pub record PassesTests (u : Term Name) : Type 0 where
+  pub small : size u ≤ largestTerm
+  pub occurrences : List Occurrence
+  pub occur : Occurs [] 0 u occurrences
+  pub none-loose : NoneLoose occurrences
+
 -- ------------------------------------------------------------------ refusals and acceptance
 
 -- document 01's causes from 14 on, under a passed table: when each is given, and with what values
@@ -64,34 +82,22 @@ pub data Cause (syntax : Syntax) (formula cells text : List ℕ) : Refusal → T
       → Scans syntax formula tokens words
       → Refuses (syntax .productions) (spellOf syntax words) (rowsLent (length cells)) tokens (syntax .root) r made
       → Cause syntax formula cells text r
-  -- 22
-  too-large : {u : Term Name}
+  -- 22 and 23
+  is-judged : {r : Refusal} {u : Term Name}
       → (E : MeansWithin syntax formula cells u)
-      → largestTerm < size u
-      → Cause syntax formula cells text (refusal 22 (cellsOf E) 0 0)
-  -- 23
-  is-loose : {u : Term Name} {os : List Occurrence} {p : ℕ}
-      → MeansWithin syntax formula cells u
-      → size u ≤ largestTerm
-      → Occurs [] 0 u os
-      → FirstLoose os p
-      → Cause syntax formula cells text (refusal 23 p 0 0)
+      → Judges (cellsOf E) u r
+      → Cause syntax formula cells text r
   -- 24
-  text-too-long : {u : Term Name} {os : List Occurrence}
+  text-too-long : {u : Term Name}
       → MeansWithin syntax formula cells u
-      → size u ≤ largestTerm
-      → Occurs [] 0 u os
-      → NoneLoose os
+      → PassesTests u
       → length text < textLength u
       → Cause syntax formula cells text (refusal 24 (textLength u) 0 0)
 
 -- an acceptance of the term u, and its values: cells, constructors and text length
 pub record Accepts (syntax : Syntax) (formula cells text : List ℕ) (u : Term Name) (a b c : ℕ) : Type 0 where
   pub means : MeansWithin syntax formula cells u
-  pub small : size u ≤ largestTerm
-  pub occurrences : List Occurrence
-  pub occur : Occurs [] 0 u occurrences
-  pub none-loose : NoneLoose occurrences
+  pub passes : PassesTests u
   pub fits : textLength u ≤ length text
   pub cells-are : a ≡ cellsOf means
   pub size-is : b ≡ size u

@@ -28,14 +28,14 @@ walkTest (reached p) = ok tt
 abbrev pub bindingTest : Term Name → Checked (Unit {0})
 bindingTest t = walkTest (walk [] 0 t)
 
--- the tests in order
-abbrev pub termTests : ℕ → List (Term Name → Checked (Unit {0}))
-termTests made = sizeTest made ∷ bindingTest ∷ []
-
 -- a term passes all tests, or the first that it fails refuses it; no test is made behind one that refuses
 unfoldable pub passing : List (Term Name → Checked (Unit {0})) → Term Name → Checked (Unit {0})
 passing [] t = ok tt
 passing (test ∷ rest) t = test t >>= λ u. passing rest t
+
+-- What is judged of a term after so many cells were made: the tests in order.
+unfoldable pub judged : ℕ → Term Name → Checked (Unit {0})
+judged made t = passing (sizeTest made ∷ bindingTest ∷ []) t
 
 -- ------------------------------------------------------------------ what is written
 
@@ -60,6 +60,6 @@ abbrev pub emittedIf : Checked (Unit {0}) → (Term Name → List ℕ) → ℕ �
 emittedIf (bad r) write made t text = record { answer = Refusing r; text = text }
 emittedIf (ok u) write made t text = fitted made (size t) (write t) text
 
--- The last step for a term after so many cells were made: its answer, and the buffer with what `write` gives of the term.
+-- The last step for a term after so many cells were made, judged and then written: its answer, and the buffer with what `write` gives of the term.
 unfoldable pub emitted : (Term Name → List ℕ) → ℕ → Term Name → List ℕ → Emitted
-emitted write made t text = emittedIf (passing (termTests made) t) write made t text
+emitted write made t text = emittedIf (judged made t) write made t text
