@@ -1,7 +1,9 @@
--- Refusals by document 01's numbers, and what an answer's number and values are.
+-- Refusals by document 01's numbers, and what the number and values of an answer and of a verdict are.
 -- Document 01, "Causes, by number".
 use Prim.Native.Nat.{ℕ}
 use Rattle.answers.specs.declared.Refusal.{Refusal}
+use Rattle.answers.specs.declared.Verdict.{Verdict}
+use Rattle.answers.specs.declared.Verdict.the-variants.{Passed, Refused}
 use Rattle.answers.specs.declared.Answer.{Answer}
 use Rattle.answers.specs.declared.Answer.the-variants.{Accepted, Refusing}
 
@@ -13,3 +15,8 @@ refusal number a b c = record { number = number; a = a; b = b; c = c }
 abbrev pub numbered : Answer → Refusal
 numbered (Accepted cells constructors size) = refusal 0 cells constructors size
 numbered (Refusing r) = r
+
+-- the verdict of a table's check so: a table that passes is 0
+abbrev pub numberedVerdict : Verdict → Refusal
+numberedVerdict Passed = refusal 0 0 0 0
+numberedVerdict (Refused r) = r

@@ -9,6 +9,7 @@ use sorts::check_sorts;
 ghost use mathlib.Core.Path.{_≡_};
 ghost use mathlib.Core.Logic.{_↔_};
 ghost use Rattle.answers.specs.declared.Verdict.the-variants.{Passed};
+ghost use Rattle.answers.specs.Refusals.{numberedVerdict};
 ghost use Rattle.checker.specs.Check.{check};
 ghost use Rattle.checker.specs.CheckedInto.{CheckedInto};
 ghost use Rattle.checker.specs.Passes.{Passes};
@@ -34,10 +35,11 @@ pub fn check_into(table: &[u8], room: &mut [u64; ROOM]) -> Verdict
     check_firsts(table, &owners, &starts, m, room)
 }
 
-// The check of a table, for any bytes. The promise rules out, among others, a check that passes every table, one that gives 11 before
+// The check of a table, for any bytes: the verdict, document 01's number and values of it, and when a table passes. Ruled out are, among others, a check that passes every table, one that gives 11 before
 // 9, and one that reports a place one field off.
 pub fn check_table(table: &[u8]) -> Verdict
     ensures { λ r. ⌜ r ≡ check (now (table .entry)) ⌝ }
+    ensures { λ r. ⌜ numberedVerdict r ≡ numberedVerdict (check (now (table .entry))) ⌝ }
     ensures { λ r. ⌜ (r ≡ Passed) ↔ Passes (now (table .entry)) ⌝ }
 {
     let mut room = [0u64; ROOM];

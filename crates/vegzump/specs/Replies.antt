@@ -2,17 +2,9 @@
 use Prim.Native.Nat.{ℕ}
 use mathlib.Core.List.{List}
 use Rattle.answers.specs.declared.Refusal.{Refusal}
-use Rattle.answers.specs.declared.Verdict.{Verdict}
-use Rattle.answers.specs.declared.Verdict.the-variants.{Passed, Refused}
-use Rattle.answers.specs.declared.Answer.{Answer}
-use Rattle.answers.specs.Refusals.{refusal, numbered}
+use Rattle.answers.specs.Refusals.{numbered}
 use Rattle.vegzump.specs.declared.hosts.Reply.{Reply}
 use Rattle.meaning.specs.Expand.{Expanded}
-
--- the verdict of a table's check
-abbrev pub numberedVerdict : Verdict → Refusal
-numberedVerdict Passed = refusal 0 0 0 0
-numberedVerdict (Refused r) = r
 
 -- a reply holds a number and its values
 abbrev pub reply : Refusal → Reply

@@ -1,9 +1,7 @@
 -- `check_table`: what the check of the table answers.
-use mathlib.Core.Path.{ap}
 use native.Mathlib.Omega.{arith}
 use borrow.Author.Needs.{needs}
 use Rattle.decoding.proofs.Split.{Bytes}
-use Rattle.vegzump.specs.Replies.{numberedVerdict}
 use Rattle.vegzump.proofs.Refusing.{verdict-refuses}
 use Rattle.vegzump.proofs.check_table.Statement.{statement}
 use Rattle.vegzump.proofs.check_table.Tie as tie
@@ -12,7 +10,7 @@ returns : tie.Need-returns
 returns c =
     let e = c .check-table .ensures in
     let bytes : Bytes (c .before .before .args .table .now) = λ i. omega (arith, c .before .shared-slice-known .given i) in
-    (e .0, (ap numberedVerdict (e .0), (e .1, verdict-refuses _ bytes (e .0))))
+    (e .0, (e .1 .0, (e .1 .1, verdict-refuses _ bytes (e .0))))
 
 -- `check_table` meets its contract.
 pub check-table-spec : {M : Type 1} → statement M

@@ -2,7 +2,8 @@
 use mathlib.Core.Path.{sym, ap, _∙_}
 use borrow.Author.Needs.{needs}
 use Rattle.answers.specs.declared.Verdict.{Verdict}
-use Rattle.vegzump.specs.Replies.{numberedVerdict, reply}
+use Rattle.answers.specs.Refusals.{numberedVerdict}
+use Rattle.vegzump.specs.Replies.{reply}
 use Rattle.vegzump.proofs.hosts.of_verdict.Statement.{statement}
 use Rattle.vegzump.proofs.hosts.of_verdict.Tie as tie
 
