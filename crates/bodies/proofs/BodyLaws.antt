@@ -13,9 +13,13 @@ use Rattle.grammar.specs.Sorts.{unit, binder, num}
 use Rattle.bodies.specs.declared.Known.{Known}
 use Rattle.bodies.specs.declared.ItemSort.{ItemSort}
 use Rattle.bodies.specs.declared.ItemSort.the-variants.{As, Unsorted}
+use Rattle.bodies.specs.declared.Fault.{Fault}
+use Rattle.bodies.specs.declared.Fault.the-variants.{Undefined}
+use Rattle.bodies.specs.declared.Tested.{Tested}
+use Rattle.bodies.specs.declared.Tested.the-variants.{Sound, Faulty}
 use Rattle.bodies.specs.TemplateBytes.{templatesFault, places}
 use Rattle.bodies.specs.HeadBytes.{signatureAt}
-use Rattle.bodies.specs.BodyBytes.{Context, context, unlessFault, callAt, itemAt, resultAt, ParametersLoaded, ParameterSorts, oneMore, SortAdded}
+use Rattle.bodies.specs.BodyBytes.{Context, context, unlessFaulty, callAt, itemAt, resultAt, ParametersLoaded, ParameterSorts, oneMore, SortAdded}
 use Rattle.bodies.proofs.TemplateInduction.{choose}
 use Rattle.bodies.proofs.TemplateLoops.{places-set}
 
@@ -159,40 +163,39 @@ module _ (bs : List ℕ) (given-context : Context) (count : ℕ) (arguments : Li
   -- by the test of the head
   call-by :
       (missing : Bool) → eqb head 0 ≡ missing
-      → choose (Unsorted 9)
-      (unlessFault (getD (signatureAt bs head) 0 0) (templatesFault (given-context .outsides) (given-context .sorts) arguments (drop 1 (signatureAt bs head))))
+      → choose (Unsorted Undefined)
+      (unlessFaulty (getD (signatureAt bs head) 0 0) (templatesFault (given-context .outsides) (given-context .sorts) arguments (drop 1 (signatureAt bs head))))
       missing
       ≡ callAt bs given-context count arguments
   unfolding callAt
   call-by missing d =
       let good : ℕ → ItemSort =
-      λ x. unlessFault (getD (signatureAt bs x) 0 0) (templatesFault (given-context .outsides) (given-context .sorts) arguments (drop 1 (signatureAt bs x))) in
+      λ x. unlessFaulty (getD (signatureAt bs x) 0 0) (templatesFault (given-context .outsides) (given-context .sorts) arguments (drop 1 (signatureAt bs x))) in
       cc
 
   -- the nonterminal has no head
-  pub call-undefined : head ≡ 0 → Unsorted 9 ≡ callAt bs given-context count arguments
+  pub call-undefined : head ≡ 0 → Unsorted Undefined ≡ callAt bs given-context count arguments
   call-undefined z = call-by true (eq-eqb head 0 z)
 
-  module _ (declared : head ≡ 0 → ⊥) {signature : List ℕ} (agrees : signature ≡ signatureAt bs head) {fault : ℕ}
-      (also-equal : fault ≡ templatesFault (given-context .outsides) (given-context .sorts) arguments (drop 1 signature)) where
-    call-fault : (clean : Bool) → eqb fault 0 ≡ clean → choose (As (getD signature 0 0)) (Unsorted fault) clean ≡ callAt bs given-context count arguments
-    call-fault clean k =
-        cc (call-by false (ne-eqb head 0 declared))
+  module _ (declared : head ≡ 0 → ⊥) {signature : List ℕ} (agrees : signature ≡ signatureAt bs head) {tested : Tested}
+      (also-equal : tested ≡ templatesFault (given-context .outsides) (given-context .sorts) arguments (drop 1 signature)) where
+    call-tested : unlessFaulty (getD signature 0 0) tested ≡ callAt bs given-context count arguments
+    call-tested = cc (call-by false (ne-eqb head 0 declared))
 
     -- the arguments have a fault
-    pub call-unfit : (fault ≡ 0 → ⊥) → Unsorted fault ≡ callAt bs given-context count arguments
-    call-unfit k = call-fault false (ne-eqb fault 0 k)
+    pub call-unfit : {fault : Fault} → tested ≡ Faulty fault → Unsorted fault ≡ callAt bs given-context count arguments
+    call-unfit f = cc call-tested
 
     -- they have none
-    pub call-fit : {sort : ℕ} → fault ≡ 0 → sort ≡ getD signature 0 0 → As sort ≡ callAt bs given-context count arguments
-    call-fit k g = ap As g ∙ call-fault true (eq-eqb fault 0 k)
+    pub call-fit : {sort : ℕ} → tested ≡ Sound → sort ≡ getD signature 0 0 → As sort ≡ callAt bs given-context count arguments
+    call-fit f g = cc call-tested
 
 -- ------------------------------------------------------------------ items
 
 module _ (bs : List ℕ) (given-context : Context) (value : List ℕ) {kind operand : ℕ} (equal : kind ≡ getD value 0 0) (agrees : operand ≡ getD value 1 0) where
   itemTests : ℕ → Bool → Bool → Bool → Bool → ItemSort
   itemTests o keyword ide local call =
-      choose (choose (As unit) (Unsorted 9) (ltb o (given-context .keywords)))
+      choose (choose (As unit) (Unsorted Undefined) (ltb o (given-context .keywords)))
       (choose (As o) (choose (As binder) (choose (callAt bs given-context o (drop 2 value)) (As num) call) local) ide)
       keyword
 
@@ -207,13 +210,13 @@ module _ (bs : List ℕ) (given-context : Context) (value : List ℕ) {kind oper
   pub item-keyword : {keyword-number : ℕ} → keyword-number ≡ operand → kind ≡ 0 → keyword-number < given-context .keywords
       → As 0 ≡ itemAt bs given-context value
   unfolding itemBy itemTests
-  item-keyword w g h = ap (choose (As unit) (Unsorted 9)) (sym (lt-ltb operand (given-context .keywords) (omega arith))) ∙ item-is g
+  item-keyword w g h = ap (choose (As unit) (Unsorted Undefined)) (sym (lt-ltb operand (given-context .keywords) (omega arith))) ∙ item-is g
 
   -- one that is not
   pub item-unknown : {keyword-number : ℕ} → keyword-number ≡ operand → kind ≡ 0 → given-context .keywords ≤ keyword-number
-      → Unsorted 9 ≡ itemAt bs given-context value
+      → Unsorted Undefined ≡ itemAt bs given-context value
   unfolding itemBy itemTests
-  item-unknown w g h = ap (choose (As unit) (Unsorted 9)) (sym (le-ltb operand (given-context .keywords) (omega arith))) ∙ item-is g
+  item-unknown w g h = ap (choose (As unit) (Unsorted Undefined)) (sym (le-ltb operand (given-context .keywords) (omega arith))) ∙ item-is g
 
   -- an identifier at a sort
   pub item-ide : kind ≡ 1 → As operand ≡ itemAt bs given-context value
@@ -240,11 +243,11 @@ module _ (bs : List ℕ) (given-context : Context) (value : List ℕ) {kind oper
 
 -- ------------------------------------------------------------------ results
 
--- the refusal of a result, where the sort asked is that of the signature's result
+-- what is wrong with a result, where the sort asked is that of the signature's result
 pub result-is :
-    (bs : List ℕ) (known : Known) (heads L value room : List ℕ) {B : ℕ} {signature : List ℕ} {fault : ℕ} → signature ≡ signatureAt bs (known .head)
+    (bs : List ℕ) (known : Known) (heads L value room : List ℕ) {B : ℕ} {signature : List ℕ} {tested : Tested} → signature ≡ signatureAt bs (known .head)
     → B ≡ getD signature 0 0 → 0 < length room
-    → fault ≡ templatesFault (known .outsides) (take (known .variables) L) value (places (set room 0 B) 1) → fault ≡ resultAt bs (context known heads L) value
+    → tested ≡ templatesFault (known .outsides) (take (known .variables) L) value (places (set room 0 B) 1) → tested ≡ resultAt bs (context known heads L) value
 unfolding resultAt
 result-is bs known heads L value room {B} e b h f =
     cc (one-place room B h)

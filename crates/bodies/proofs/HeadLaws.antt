@@ -10,7 +10,12 @@ use lib.ListN.{length, getD, take, drop, set, length-take, drop-of-length-le}
 use lib.Seq.{take-all, take-nil, take-take, drop-drop, set-out}
 use borrow.Author.Tests.{eq-eqb, ne-eqb}
 use Rattle.spellings.specs.Bytes.{same}
-use Rattle.bodies.specs.HeadBytes.{valueAt, signatureAt, faultOf, withHead, Defined}
+use Rattle.bodies.specs.declared.Fault.{Fault}
+use Rattle.bodies.specs.declared.Fault.the-variants.{NumberInUse, BadExtension}
+use Rattle.bodies.specs.declared.Tested.{Tested}
+use Rattle.bodies.specs.declared.Tested.the-variants.{Sound, Faulty}
+use Rattle.bodies.specs.Faults.{testedBy}
+use Rattle.bodies.specs.HeadBytes.{valueAt, signatureAt, faultOf, Defined}
 use Rattle.bodies.proofs.TemplateInduction.{choose}
 
 -- ------------------------------------------------------------------ signatures
@@ -63,12 +68,11 @@ signature-short bs at = omega (arith, length-take 5 (drop 2 (valueAt bs at)))
 module _ (bs heads : List ℕ) (at block : ℕ) {nonterminal mode head : ℕ} (equal : nonterminal ≡ getD bs (at + 3) 0) (agrees : mode ≡ getD bs (at + 4) 0)
     (also-equal : head ≡ getD heads nonterminal 0) where
   -- by the mode, and one test for each
-  faultBy : Bool → Bool → Bool → ℕ
-  faultBy earlier good new = choose (choose 0 8 good) (choose 0 7 new) earlier
-
-  fault-is : faultOf bs at block heads ≡ faultBy (eqb mode 1 || eqb mode 2) (leb head block && ltb 0 head && same (signatureAt bs head) (signatureAt bs at))
-      (eqb head 0)
-  unfolding faultOf faultBy
+  fault-is : faultOf bs at block heads
+      ≡ choose (testedBy (leb head block && ltb 0 head && same (signatureAt bs head) (signatureAt bs at)) BadExtension)
+      (testedBy (eqb head 0) NumberInUse)
+      (eqb mode 1 || eqb mode 2)
+  unfolding faultOf
   fault-is =
       let k : getD heads (getD bs (at + 3) 0) 0 ≡ head = cc in
       cc
@@ -76,16 +80,15 @@ module _ (bs heads : List ℕ) (at block : ℕ) {nonterminal mode head : ℕ} (e
   -- extend and update
   pub fault-earlier :
       {signature signature′ : List ℕ} {alike : Bool} → (eqb mode 1 || eqb mode 2) ≡ true → signature ≡ signatureAt bs head → signature′ ≡ signatureAt bs at
-      → alike ≡ same signature signature′ → (good : Bool) → (leb head block && ltb 0 head && alike) ≡ good → choose 0 8 good ≡ faultOf bs at block heads
-  unfolding faultBy
+      → alike ≡ same signature signature′ → (good : Bool) → (leb head block && ltb 0 head && alike) ≡ good
+      → testedBy good BadExtension ≡ faultOf bs at block heads
   fault-earlier {signature} {signature′} {alike} m p q a good k =
       let test : Bool = leb head block && ltb 0 head && same (signatureAt bs head) (signatureAt bs at) in
       let b : test ≡ good = cc in
       cc fault-is
 
   -- add
-  pub fault-new : (eqb mode 1 || eqb mode 2) ≡ false → (new : Bool) → eqb head 0 ≡ new → choose 0 7 new ≡ faultOf bs at block heads
-  unfolding faultBy
+  pub fault-new : (eqb mode 1 || eqb mode 2) ≡ false → (new : Bool) → eqb head 0 ≡ new → testedBy new NumberInUse ≡ faultOf bs at block heads
   fault-new m new k =
       let test : Bool = leb head block && ltb 0 head && same (signatureAt bs head) (signatureAt bs at) in
       cc fault-is
@@ -94,33 +97,27 @@ module _ (bs heads : List ℕ) (at block : ℕ) {nonterminal mode head : ℕ} (e
 
 module _ (bs : List ℕ) (at tag block : ℕ) (heads : List ℕ) where
   -- no head
-  pub head-none : (tag ≡ 4 → ⊥) → Defined bs at tag block heads 0 heads
+  pub head-none : (tag ≡ 4 → ⊥) → Defined bs at tag block heads Sound heads
   head-none d =
-      let e : false ≡ eqb tag 4 = sym (ne-eqb tag 4 d) in
-      record { faulty = ap (choose (faultOf bs at block heads) 0) e; heads = ap (choose (withHead bs at heads) heads) e }
+      let e : eqb tag 4 ≡ false = ne-eqb tag 4 d in
+      record { tested-is = cc; heads-are = cc }
 
-  module _ (equal : tag ≡ 4) {fault : ℕ} (agrees : fault ≡ faultOf bs at block heads) where
-    -- by the head's own refusal
-    head-by : (clean : Bool) → eqb fault 0 ≡ clean → {heads′ : List ℕ} → heads′ ≡ choose (withHead bs at heads) heads clean
-        → Defined bs at tag block heads fault heads′
-    head-by clean c q =
-        record {
-          faulty = agrees ∙ ap (choose (faultOf bs at block heads) 0) (sym (eq-eqb tag 4 equal));
-          heads = cc (eq-eqb tag 4 equal);
-        }
+  module _ (equal : tag ≡ 4) {tested : Tested} (agrees : tested ≡ faultOf bs at block heads) where
+    head : eqb tag 4 ≡ true
+    head = eq-eqb tag 4 equal
 
     -- a head that is refused is not kept
-    pub head-refused : (fault ≡ 0 → ⊥) → Defined bs at tag block heads fault heads
-    head-refused h = head-by false (ne-eqb fault 0 h) refl
+    pub head-refused : {fault : Fault} → tested ≡ Faulty fault → Defined bs at tag block heads (Faulty fault) heads
+    head-refused f = record { tested-is = cc head; heads-are = refl }
 
-    module _ (also-equal : fault ≡ 0) {nonterminal : ℕ} (numbered : nonterminal ≡ getD bs (at + 3) 0) where
-      put : {heads′ : List ℕ} → heads′ ≡ set heads nonterminal at → Defined bs at tag block heads 0 heads′
-      put {heads′} p = rw (← also-equal) (head-by true (eq-eqb fault 0 also-equal) (cc))
+    module _ (sound : tested ≡ Sound) {nonterminal : ℕ} (numbered : nonterminal ≡ getD bs (at + 3) 0) where
+      put : {heads′ : List ℕ} → heads′ ≡ set heads nonterminal at → Defined bs at tag block heads Sound heads′
+      put p = record { tested-is = cc head; heads-are = cc head }
 
       -- one that is not refused is
-      pub head-put : Defined bs at tag block heads 0 (set heads nonterminal at)
+      pub head-put : Defined bs at tag block heads Sound (set heads nonterminal at)
       head-put = put refl
 
       -- a nonterminal past the heads is not kept
-      pub head-left : length heads ≤ nonterminal → Defined bs at tag block heads 0 heads
+      pub head-left : length heads ≤ nonterminal → Defined bs at tag block heads Sound heads
       head-left h = put (sym (set-out heads nonterminal at h))

@@ -1,11 +1,11 @@
 -- Laws of the loops over the bytes of templates: what is left gives what the whole gives.
 use Prim.Native.Nat.{ℕ, zero, suc, _+_, _-_, _*_, _≤_, _<_}
 use mathlib.Core.Path.{_≡_, refl, sym, ap, _∙_}
-use mathlib.Core.Bool.{Bool, true, false, not, _&&_}
+use mathlib.Core.Bool.{Bool, true, false, not, _&&_, _||_}
 use mathlib.Core.List.{List, [], _∷_, _++_}
 use native.Mathlib.Numerals.{add-one}
 use native.Mathlib.Omega.{arith}
-use lib.Dec.{eqb, ltb}
+use lib.Dec.{eqb, leb, ltb}
 use lib.ListN.{length, getD, drop, set, length-set, drop-of-length-le}
 use lib.Seq.{drop-cons, getD-set-same, getD-set-other}
 use borrow.Author.Tests.{not-true, not-false, ltb-true, ltb-false, lt-ltb, le-ltb, eq-eqb, ne-eqb}
@@ -14,8 +14,14 @@ use Rattle.grammar.specs.Sorts.{unit, var, label, constructor, arity}
 use Rattle.grammar.specs.SortTests.{fits}
 use Rattle.grammar.proofs.SortLaws.{arity-small}
 use Rattle.decoding.specs.Prefix.{isNameTag}
+use Rattle.bodies.specs.declared.Fault.the-variants.{Undefined, WrongSort}
+use Rattle.bodies.specs.declared.Tested.{Tested}
+use Rattle.bodies.specs.declared.Tested.the-variants.{Sound, Faulty}
+use Rattle.bodies.specs.declared.Filling.{Filling}
+use Rattle.bodies.specs.declared.Filling.the-variants.{Unfit, Open}
+use Rattle.bodies.specs.Faults.{testedBy}
 use Rattle.bodies.specs.TemplateBytes.{isClosedByte, namesNext, closedBytes, headSort, headParams, fillBytes, templatesFault}
-use Rattle.bodies.specs.TemplateBytes.{Places, ill-sorted, awaiting, fillByte, places, placesAt, PlaceFilled, PlacesOpened}
+use Rattle.bodies.specs.TemplateBytes.{Places, ill-sorted, awaiting, fillByte, places, placesAt, heightOf, isFilled, PlaceFilled, PlacesOpened}
 use Rattle.bodies.proofs.TemplateInduction.{choose}
 use Rattle.bodies.proofs.TemplatesByBytes.{head-sort, head-variable, head-constructor, params-none, params-some}
 
@@ -126,63 +132,57 @@ module _ {room₀ : List ℕ} {start byte : ℕ} where
 
 -- ------------------------------------------------------------------ one byte fills a place
 
--- the places open, by the height
-places-none : (byte : ℕ) (L room : List ℕ) (height : ℕ) → height < 2 → ill-sorted ≡ fillByte false byte L (placesAt room height)
-unfolding placesAt places
-places-none byte L room zero h = refl
-places-none byte L room (suc zero) h = refl
-places-none byte L room (suc (suc k)) h = absurd (omega arith)
-
-places-some :
-    (room : List ℕ) (height : ℕ) → 2 ≤ height
-    → placesAt room height ≡ awaiting (getD room (height - 2) 0 ∷ places room (height - 2))
-unfolding placesAt places
-places-some room zero h = absurd (omega arith)
-places-some room (suc zero) h = absurd (omega arith)
-places-some room (suc (suc k)) h =
-    let e : k ≡ suc (suc k) - 2 = omega arith in
+-- the place on top of those open
+pub places-top : (room : List ℕ) (top : ℕ) → (top ≡ 0 → ⊥) → places room top ≡ getD room (top - 1) 0 ∷ places room (top - 1)
+unfolding places
+places-top room zero h = absurd (h refl)
+places-top room (suc top) h =
+    let e : top ≡ suc top - 1 = omega arith in
     cc
-
-placed : (room : List ℕ) (top : ℕ) → placesAt room (top + 1) ≡ awaiting (places room top)
-unfolding placesAt
-placed room top = ap (placesAt room) (add-one top)
 
 -- by the test of the sort
 fill-by :
-    (byte : ℕ) (L room : List ℕ) (height sort : ℕ) → 2 ≤ height → sort ≡ headSort byte L → (fitting : Bool) → fits sort (getD room (height - 2) 0) ≡ fitting
-    → choose (awaiting (headParams byte ++ places room (height - 2))) ill-sorted fitting ≡ fillByte false byte L (placesAt room height)
-fill-by byte L room height sort h q fitting k =
-    cc (places-some room height h)
+    (byte : ℕ) (L room : List ℕ) (filling : Filling) {top sort : ℕ} → filling ≡ Open top → (top ≡ 0 → ⊥) → sort ≡ headSort byte L → (fitting : Bool)
+    → fits sort (getD room (top - 1) 0) ≡ fitting
+    → choose (awaiting (headParams byte ++ places room (top - 1))) ill-sorted fitting ≡ fillByte byte L (placesAt room filling)
+fill-by byte L room filling {top} e some q fitting k = cc (places-top room top some)
 
-other-byte : (byte : ℕ) (L : List ℕ) (ps : Places) {name : Bool} → name ≡ false → fillByte false byte L ps ≡ fillByte name byte L ps
-other-byte byte L ps e = cc
+module _ {byte : ℕ} {L room : List ℕ} {filling : Filling} where
+  -- a template did not fit before
+  pub fill-unfit : filling ≡ Unfit → PlaceFilled byte L room filling room Unfit
+  fill-unfit e = record { small = omega arith; filled = cc }
 
-module _ {name : Bool} {byte : ℕ} {L room : List ℕ} {height : ℕ} where
-  -- a name's number fills nothing
-  pub fill-number : name ≡ true → PlaceFilled name byte L room height room height
-  fill-number e = record { small = omega arith; filled = cc }
+  module _ {top : ℕ} (open-places : filling ≡ Open top) where
+    -- no place is open
+    pub fill-none : top ≡ 0 → PlaceFilled byte L room filling room Unfit
+    unfolding places
+    fill-none z =
+        let e : filling ≡ Open 0 = cc in
+        record { small = omega arith; filled = sym (ap (λ (given : Filling). fillByte byte L (placesAt room given)) e) }
 
-  -- no place is open
-  pub fill-none : name ≡ false → height < 2 → PlaceFilled name byte L room height room 0
-  unfolding placesAt
-  fill-none e h = record { small = omega arith; filled = places-none byte L room height h ∙ other-byte byte L _ e }
+    module _ (some : top ≡ 0 → ⊥) {sort : ℕ} (sorted : sort ≡ headSort byte L) where
+      -- the template does not fit the place on top
+      pub fill-other : fits sort (getD room (top - 1) 0) ≡ false → PlaceFilled byte L room filling room Unfit
+      fill-other k = record { small = omega arith; filled = fill-by byte L room filling open-places some sorted false k }
 
-  -- the template does not fit the place on top
-  pub fill-unfit :
-      {sort : ℕ} → name ≡ false → 2 ≤ height → sort ≡ headSort byte L → fits sort (getD room (height - 2) 0) ≡ false
-      → PlaceFilled name byte L room height room 0
-  unfolding placesAt
-  fill-unfit {sort} e h q k = record { small = omega arith; filled = fill-by byte L room height sort h q false k ∙ other-byte byte L _ e }
+      -- it fits, and opens places of its own
+      pub fill-fits : {room′ : List ℕ} {top′ : ℕ} → fits sort (getD room (top - 1) 0) ≡ true → PlacesOpened byte room (top - 1) room′ top′
+          → PlaceFilled byte L room filling room′ (Open top′)
+      fill-fits k o =
+          let high : heightOf filling ≡ top = ap heightOf open-places in
+          record {
+            small = omega (arith, o .height, params-small byte);
+            filled = ap awaiting (o .opened) ∙ fill-by byte L room filling open-places some sorted true k;
+          }
 
-  -- it fits, and opens places of its own
-  pub fill-fits :
-      {sort : ℕ} {room′ : List ℕ} {top : ℕ} → name ≡ false → 2 ≤ height → sort ≡ headSort byte L → fits sort (getD room (height - 2) 0) ≡ true
-      → PlacesOpened byte room (height - 2) room′ top → PlaceFilled name byte L room height room′ (top + 1)
-  fill-fits {sort} {room′} {top} e h q k o =
-      record {
-        small = omega (arith, o .height, params-small byte);
-        filled = placed room′ top ∙ ap awaiting (o .opened) ∙ fill-by byte L room height sort h q true k ∙ other-byte byte L _ e;
-      }
+-- all places are filled, or not
+pub filled-unfit : {filling : Filling} → filling ≡ Unfit → Faulty WrongSort ≡ testedBy (isFilled filling) WrongSort
+filled-unfit e = cc
+
+-- by the number of places open
+pub filled-open : {filling : Filling} {top : ℕ} → filling ≡ Open top → (none : Bool) → eqb top 0 ≡ none → testedBy none WrongSort
+    ≡ testedBy (isFilled filling) WrongSort
+filled-open e none k = cc
 
 -- ------------------------------------------------------------------ both tests
 
@@ -191,15 +191,19 @@ abbrev fillLeft : Bool → List ℕ → List ℕ → Places → Bool
 fillLeft name bs L ill-sorted = false
 fillLeft name bs L (awaiting ps) = fillBytes name bs L ps
 
-fill-left : (name : Bool) (byte : ℕ) (bs L : List ℕ) (ps : Places) → fillLeft (namesNext name byte) bs L (fillByte name byte L ps)
-    ≡ fillLeft name (byte ∷ bs) L ps
+-- a name's number fills nothing
+left-number : (byte : ℕ) (bs L : List ℕ) (ps : Places) → fillLeft false bs L ps ≡ fillLeft true (byte ∷ bs) L ps
 unfolding fillBytes
-fill-left true byte bs L ill-sorted = refl
-fill-left true byte bs L (awaiting []) = refl
-fill-left true byte bs L (awaiting (p ∷ ps)) = refl
-fill-left false byte bs L ill-sorted = refl
-fill-left false byte bs L (awaiting []) = refl
-fill-left false byte bs L (awaiting (p ∷ ps)) = by (fits (headSort byte L) p)
+left-number byte bs L ill-sorted = refl
+left-number byte bs L (awaiting []) = refl
+left-number byte bs L (awaiting (p ∷ ps)) = refl
+
+-- any other byte fills a place
+left-byte : (byte : ℕ) (bs L : List ℕ) (ps : Places) → fillLeft (isNameTag byte) bs L (fillByte byte L ps) ≡ fillLeft false (byte ∷ bs) L ps
+unfolding fillBytes
+left-byte byte bs L ill-sorted = refl
+left-byte byte bs L (awaiting []) = refl
+left-byte byte bs L (awaiting (p ∷ ps)) = by (fits (headSort byte L) p)
   where
     by :
         (fitting : Bool)
@@ -208,84 +212,95 @@ fill-left false byte bs L (awaiting (p ∷ ps)) = by (fits (headSort byte L) p)
     by true = refl
     by false = refl
 
-left-end : (name : Bool) (L room : List ℕ) (height : ℕ) → eqb height 1 ≡ fillLeft name [] L (placesAt room height)
-unfolding fillBytes placesAt places
-left-end name L room zero = refl
-left-end name L room (suc zero) = refl
-left-end name L room (suc (suc k)) = ne-eqb (suc (suc k)) 1 (λ e. omega arith)
+left-end : (name : Bool) (L room : List ℕ) (filling : Filling) → isFilled filling ≡ fillLeft name [] L (placesAt room filling)
+unfolding fillBytes places
+left-end name L room Unfit = refl
+left-end name L room (Open zero) = refl
+left-end name L room (Open (suc top)) = ne-eqb (suc top) 0 (λ e. omega arith)
 
 -- The bytes from `place` on and the places open give what all the bytes and the first places give.
-pub record Testing (bytes L : List ℕ) (outsides : ℕ) (room₀ : List ℕ) (start : ℕ) (room : List ℕ) (height : ℕ) (name : Bool) (place : ℕ) : Type 0 where
+pub record Testing (bytes L : List ℕ) (outsides : ℕ) (room₀ : List ℕ) (start : ℕ) (room : List ℕ) (filling : Filling) (name : Bool) (place : ℕ) : Type 0 where
   -- the byte is within the template
   pub within : place ≤ length bytes
   -- the room is as long as it was
   pub as-many : length room ≡ length room₀
   -- the room holds what the bytes left may open
-  pub enough : height + 2 * (length bytes - place) + 2 ≤ length room
+  pub enough : heightOf filling + 2 * (length bytes - place) + 2 ≤ length room
   -- the bytes left are closed exactly if all are
   pub closed : closedBytes name (drop place bytes) outsides (length L) ≡ closedBytes false bytes outsides (length L)
   -- the bytes left fill the places exactly if all do
-  pub fills : fillLeft name (drop place bytes) L (placesAt room height) ≡ fillBytes false bytes L (places room₀ start)
+  pub fills : fillLeft name (drop place bytes) L (placesAt room filling) ≡ fillBytes false bytes L (places room₀ start)
 
 -- no byte yet
 pub testing-start :
-    {bytes L room₀ : List ℕ} {outsides start : ℕ} → start + 2 * length bytes + 3 ≤ length room₀ → Testing bytes L outsides room₀ start room₀ (start + 1) false 0
-testing-start {bytes} {L} {room₀} {outsides} {start} h =
-    record {
-      within = omega arith;
-      as-many = refl;
-      enough = omega arith;
-      closed = refl;
-      fills = ap (fillLeft false bytes L) (placed room₀ start);
-    }
+    {bytes L room₀ : List ℕ} {outsides start : ℕ} → start + 2 * length bytes + 3 ≤ length room₀
+    → Testing bytes L outsides room₀ start room₀ (Open start) false 0
+testing-start h = record { within = omega arith; as-many = refl; enough = omega arith; closed = refl; fills = refl }
 
--- the refusal, by the outcomes of both tests
+-- what is wrong, by the outcomes of both tests
 fault-by :
     (outsides : ℕ) (L bytes ps : List ℕ) (closed filled : Bool) → closedBytes false bytes outsides (length L) ≡ closed → fillBytes false bytes L ps ≡ filled
-    → choose (choose 0 11 filled) 9 closed ≡ templatesFault outsides L bytes ps
+    → choose (testedBy filled WrongSort) (Faulty Undefined) closed ≡ templatesFault outsides L bytes ps
 unfolding templatesFault
 fault-by outsides L bytes ps closed filled e f =
     cc
 
-module _ {bytes L room₀ room : List ℕ} {outsides start height place : ℕ} {name : Bool} (testing : Testing bytes L outsides room₀ start room height name place)
-  where
-    module _ (below : place < length bytes) {byte number : ℕ} (equal : byte ≡ getD bytes place 0) (agrees : number ≡ byte) where
-      closed-step :
-          (closed : Bool) → isClosedByte name number outsides (length L) ≡ closed
-          → (closed && closedBytes (namesNext name byte) (drop (place + 1) bytes) outsides (length L)) ≡ closedBytes false bytes outsides (length L)
-      unfolding closedBytes
-      closed-step closed k =
-          cc (front bytes place below equal, testing .closed)
-
-      -- a variable or a name that is not defined
-      pub testing-open : not (isClosedByte name number outsides (length L)) ≡ true → 9 ≡ templatesFault outsides L bytes (places room₀ start)
-      testing-open k = fault-by outsides L bytes (places room₀ start) false _ (sym (closed-step false (not-true _ k))) refl
-
-      -- one byte more
-      pub testing-next :
-          {room′ : List ℕ} {height′ : ℕ} → not (isClosedByte name number outsides (length L)) ≡ false → length room′ ≡ length room
-          → PlaceFilled name byte L room height room′ height′ → Testing bytes L outsides room₀ start room′ height′ (namesNext name byte) (place + 1)
-      testing-next k l f =
-          record {
-            within = omega arith;
-            as-many = l ∙ testing .as-many;
-            enough = omega (arith, testing .enough, f .small);
-            closed = closed-step true (not-false _ k);
-            fills =
-                cc (f .filled, fill-left name byte (drop (place + 1) bytes) L (placesAt room height), front bytes place below equal, testing .fills);
-          }
-
-    -- all bytes are passed
-    testing-end : length bytes ≤ place → (filled : Bool) → eqb height 1 ≡ filled → choose 0 11 filled ≡ templatesFault outsides L bytes (places room₀ start)
+module _ {bytes L room₀ room : List ℕ} {outsides start place : ℕ} {filling : Filling} {name : Bool}
+    (testing : Testing bytes L outsides room₀ start room filling name place) where
+  module _ (below : place < length bytes) {byte number : ℕ} (equal : byte ≡ getD bytes place 0) (agrees : number ≡ byte) where
+    closed-step :
+        (closed : Bool) → isClosedByte name number outsides (length L) ≡ closed
+        → (closed && closedBytes (namesNext name byte) (drop (place + 1) bytes) outsides (length L)) ≡ closedBytes false bytes outsides (length L)
     unfolding closedBytes
-    testing-end h filled e =
-        fault-by outsides L bytes (places room₀ start) true filled (cc (testing .closed, ended bytes h))
-        (cc (testing .fills, ended bytes h, left-end name L room height))
+    closed-step closed k =
+        cc (front bytes place below equal, testing .closed)
 
-    -- every place is filled
-    pub testing-filled : length bytes ≤ place → height ≡ 1 → 0 ≡ templatesFault outsides L bytes (places room₀ start)
-    testing-filled h e = testing-end h true (eq-eqb height 1 e)
+    open-fault : isClosedByte name number outsides (length L) ≡ false → Faulty Undefined ≡ templatesFault outsides L bytes (places room₀ start)
+    open-fault k = fault-by outsides L bytes (places room₀ start) false _ (sym (closed-step false k)) refl
 
-    -- some place is not, or a template did not fit
-    pub testing-unfilled : length bytes ≤ place → (height ≡ 1 → ⊥) → 11 ≡ templatesFault outsides L bytes (places room₀ start)
-    testing-unfilled h e = testing-end h false (ne-eqb height 1 e)
+    -- a name that is not defined
+    pub testing-unnamed : name ≡ true → outsides ≤ number → Faulty Undefined ≡ templatesFault outsides L bytes (places room₀ start)
+    testing-unnamed e h = open-fault (rw e (le-ltb number outsides h))
+
+    -- a variable that is not
+    pub testing-unbound :
+        name ≡ false → not (leb 16 number || ltb number (length L)) ≡ true → Faulty Undefined ≡ templatesFault outsides L bytes (places room₀ start)
+    testing-unbound e k = open-fault (rw e (not-true _ k))
+
+    -- one byte more
+    next : (room′ : List ℕ) (filling′ : Filling) → isClosedByte name number outsides (length L) ≡ true → length room′ ≡ length room
+        → heightOf filling′ ≤ heightOf filling + 2
+        → fillLeft (namesNext name byte) (drop (place + 1) bytes) L (placesAt room′ filling′) ≡ fillLeft name (byte ∷ drop (place + 1) bytes) L
+        (placesAt room filling)
+        → Testing bytes L outsides room₀ start room′ filling′ (namesNext name byte) (place + 1)
+    next room′ filling′ k l h f =
+        record {
+          within = omega arith;
+          as-many = l ∙ testing .as-many;
+          enough = omega (arith, testing .enough);
+          closed = closed-step true k;
+          fills = cc (f, front bytes place below equal, testing .fills);
+        }
+
+    -- a name's number more
+    pub testing-number : name ≡ true → number < outsides → Testing bytes L outsides room₀ start room filling false (place + 1)
+    testing-number e h =
+        rw e at (next room filling (rw e (lt-ltb number outsides h)) refl (omega arith) (rw e (left-number byte (drop (place + 1) bytes) L (placesAt room filling))))
+
+    -- any other byte more
+    pub testing-next :
+        {room′ : List ℕ} {filling′ : Filling} → name ≡ false → not (leb 16 number || ltb number (length L)) ≡ false → length room′ ≡ length room
+        → PlaceFilled byte L room filling room′ filling′ → Testing bytes L outsides room₀ start room′ filling′ (isNameTag byte) (place + 1)
+    testing-next {room′} {filling′} e k l f =
+        rw e at
+        (next room′ filling′ (rw e (not-false _ k)) l (f .small)
+        (rw e (cc (f .filled, left-byte byte (drop (place + 1) bytes) L (placesAt room filling)))))
+
+  -- all bytes are passed
+  pub testing-end : length bytes ≤ place → {tested : Tested} → tested ≡ testedBy (isFilled filling) WrongSort
+      → tested ≡ templatesFault outsides L bytes (places room₀ start)
+  unfolding closedBytes
+  testing-end h e =
+      e
+      ∙ fault-by outsides L bytes (places room₀ start) true (isFilled filling) (cc (testing .closed, ended bytes h))
+      (cc (testing .fills, ended bytes h, left-end name L room filling))

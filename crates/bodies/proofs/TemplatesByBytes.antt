@@ -27,10 +27,6 @@ and-true : (test : Bool) → (test && true) ≡ test
 and-true true = refl
 and-true false = refl
 
-or-false : (test : Bool) → (test || false) ≡ test
-or-false true = refl
-or-false false = refl
-
 -- a name's tag is hex 10 or 11
 by-name : {A : Type 0} (byte : ℕ) → isNameTag byte ≡ true → (byte ≡ 0x10 → A) → (byte ≡ 0x11 → A) → A
 by-name byte e f g = either (eqb byte 0x10) (eqb byte 0x11) e (λ h. f (eqb-true byte 0x10 h)) (λ h. g (eqb-true byte 0x11 h))
@@ -76,7 +72,7 @@ module _ (scope : Scope) (variables : ℕ) where
   closed-number : (number : ℕ) (bs : List ℕ) → closedBytes true (number ∷ bs) (scope .outsides) variables
       ≡ (ltb number (scope .outsides) && closedBytes false bs (scope .outsides) variables)
   unfolding closedBytes
-  closed-number number bs = cc (or-false (ltb number (scope .outsides)))
+  closed-number number bs = refl
 
   closed-read : Read (λ bs ts. closedBytes false bs (scope .outsides) variables ≡ areClosed ts scope variables)
   unfolding closedBytes areClosed closedFirst

@@ -11,6 +11,9 @@ use Rattle.grammar.specs.Variables.{mostVariables}
 use Rattle.bodies.specs.declared.Known.{Known}
 use Rattle.bodies.specs.declared.ItemSort.{ItemSort}
 use Rattle.bodies.specs.declared.ItemSort.the-variants.{As, Unsorted}
+use Rattle.bodies.specs.declared.Fault.the-variants.{Undefined}
+use Rattle.bodies.specs.declared.Tested.{Tested}
+use Rattle.bodies.specs.declared.Tested.the-variants.{Sound, Faulty}
 use Rattle.bodies.specs.TemplateBytes.{templatesFault, places}
 use Rattle.bodies.specs.HeadBytes.{signatureAt}
 
@@ -39,17 +42,18 @@ context k H L =
 -- ------------------------------------------------------------------ bodies
 
 -- a sort, unless there is a fault
-abbrev pub unlessFault : ℕ → ℕ → ItemSort
-unlessFault s fault = elim (eqb fault 0) [ true ↦ As s | false ↦ Unsorted fault ]
+abbrev pub unlessFaulty : ℕ → Tested → ItemSort
+unlessFaulty s Sound = As s
+unlessFaulty s (Faulty fault) = Unsorted fault
 
 -- a call of n with its arguments' bytes
 unfoldable pub callAt : List ℕ → Context → ℕ → List ℕ → ItemSort
 callAt bs X n arguments =
     let h : ℕ = getD (X .heads) n 0 in
     elim (eqb h 0) [
-      | true ↦ Unsorted 9
+      | true ↦ Unsorted Undefined
       | false ↦
-          unlessFault (getD (signatureAt bs h) 0 0)
+          unlessFaulty (getD (signatureAt bs h) 0 0)
           (templatesFault (X .outsides) (X .sorts) arguments (drop 1 (signatureAt bs h)))
     ]
 
@@ -57,7 +61,7 @@ callAt bs X n arguments =
 unfoldable pub itemAt : List ℕ → Context → List ℕ → ItemSort
 itemAt bs X v =
     elim (eqb (getD v 0 0) 0) [
-      | true ↦ elim (ltb (getD v 1 0) (X .keywords)) [ true ↦ As unit | false ↦ Unsorted 9 ]
+      | true ↦ elim (ltb (getD v 1 0) (X .keywords)) [ true ↦ As unit | false ↦ Unsorted Undefined ]
       | false ↦
           elim (eqb (getD v 0 0) 1) [
             | true ↦ As (getD v 1 0)
@@ -69,8 +73,8 @@ itemAt bs X v =
           ]
     ]
 
--- the refusal of a result by its value, 9 or 11, or 0
-unfoldable pub resultAt : List ℕ → Context → List ℕ → ℕ
+-- what is wrong with a result, by its value
+unfoldable pub resultAt : List ℕ → Context → List ℕ → Tested
 resultAt bs X v = templatesFault (X .outsides) (X .sorts) v (getD (signatureAt bs (X .head)) 0 0 ∷ [])
 
 -- the places of a signature's parameters on an empty stack

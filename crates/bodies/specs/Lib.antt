@@ -1,4 +1,5 @@
 pub mod ByFields
+pub mod Faults
 pub mod TemplateBytes
 pub mod HeadBytes
 pub mod BodyBytes

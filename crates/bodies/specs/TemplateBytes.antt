@@ -9,13 +9,20 @@ use lib.ListN.{length, getD}
 use Rattle.grammar.specs.Sorts.{unit, var, label, constructor}
 use Rattle.grammar.specs.SortTests.{fits}
 use Rattle.decoding.specs.Prefix.{isNameTag}
+use Rattle.bodies.specs.declared.Fault.the-variants.{Undefined, WrongSort}
+use Rattle.bodies.specs.declared.Tested.{Tested}
+use Rattle.bodies.specs.declared.Tested.the-variants.{Sound, Faulty}
+use Rattle.bodies.specs.declared.Filling.{Filling}
+use Rattle.bodies.specs.declared.Filling.the-variants.{Unfit, Open}
+use Rattle.bodies.specs.Faults.{testedBy}
 
 -- ------------------------------------------------------------------ variables and names
 
 -- One byte, where N outside names and n variables are defined; `name` says that it is a name's number. A byte from hex 10 on is no
 -- variable.
 abbrev pub isClosedByte : Bool → ℕ → ℕ → ℕ → Bool
-isClosedByte name b N n = (name && ltb b N) || (not name && (leb 0x10 b || ltb b n))
+isClosedByte true b N n = ltb b N
+isClosedByte false b N n = leb 0x10 b || ltb b n
 
 -- the byte after b is a name's number
 abbrev pub namesNext : Bool → ℕ → Bool
@@ -51,38 +58,46 @@ fillBytes false (b ∷ bs) L (p ∷ ps) = fits (headSort b L) p && fillBytes (is
 
 -- ------------------------------------------------------------------ both tests in one pass
 
--- the refusal of templates that are to fill places: 9 before 11, or 0
-unfoldable pub templatesFault : ℕ → List ℕ → List ℕ → List ℕ → ℕ
+-- what is wrong with templates that are to fill places: what is not defined comes before sorts and counts
+unfoldable pub templatesFault : ℕ → List ℕ → List ℕ → List ℕ → Tested
 templatesFault N L v ps =
-    elim (closedBytes false v N (length L))
-    [ true ↦ elim (fillBytes false v L ps) [ true ↦ 0 | false ↦ 11 ] | false ↦ 9 ]
+    elim (closedBytes false v N (length L)) [ true ↦ testedBy (fillBytes false v L ps) WrongSort | false ↦ Faulty Undefined ]
 
 -- the places open, until a template does not fit its place
 pub data Places : Type 0 where
   ill-sorted : Places
   awaiting : List ℕ → Places
 
--- the places open after one byte more; `name` says that it is a name's number
-abbrev pub fillByte : Bool → ℕ → List ℕ → Places → Places
-fillByte true b L ps = ps
-fillByte false b L ill-sorted = ill-sorted
-fillByte false b L (awaiting []) = ill-sorted
-fillByte false b L (awaiting (p ∷ ps)) = elim (fits (headSort b L) p) [ true ↦ awaiting (headParams b ++ ps) | false ↦ ill-sorted ]
+-- the places open after the byte that begins a template
+abbrev pub fillByte : ℕ → List ℕ → Places → Places
+fillByte b L ill-sorted = ill-sorted
+fillByte b L (awaiting []) = ill-sorted
+fillByte b L (awaiting (p ∷ ps)) = elim (fits (headSort b L) p) [ true ↦ awaiting (headParams b ++ ps) | false ↦ ill-sorted ]
 
 -- the first k bytes of a room as a stack of places, the newest first
 unfoldable pub places : List ℕ → ℕ → List ℕ
 places room zero = []
 places room (suc k) = getD room k 0 ∷ places room k
 
--- the places open as the code has them: a room, and one more than their number, 0 once a template did not fit
-unfoldable pub placesAt : List ℕ → ℕ → Places
-placesAt room zero = ill-sorted
-placesAt room (suc k) = awaiting (places room k)
+-- the places open as the code has them: a room, and their number
+abbrev pub placesAt : List ℕ → Filling → Places
+placesAt room Unfit = ill-sorted
+placesAt room (Open k) = awaiting (places room k)
 
--- what filling one place does to the number of places open
-pub record PlaceFilled (name : Bool) (b : ℕ) (L room : List ℕ) (height : ℕ) (room′ : List ℕ) (height′ : ℕ) : Type 0 where
-  pub small : height′ ≤ height + 2
-  pub filled : placesAt room′ height′ ≡ fillByte name b L (placesAt room height)
+-- the number of places open
+abbrev pub heightOf : Filling → ℕ
+heightOf Unfit = 0
+heightOf (Open k) = k
+
+-- no template did not fit, and no place is open
+abbrev pub isFilled : Filling → Bool
+isFilled Unfit = false
+isFilled (Open k) = eqb k 0
+
+-- what the byte that begins a template does to the places open
+pub record PlaceFilled (b : ℕ) (L room : List ℕ) (filling : Filling) (room′ : List ℕ) (filling′ : Filling) : Type 0 where
+  pub small : heightOf filling′ ≤ heightOf filling + 2
+  pub filled : placesAt room′ filling′ ≡ fillByte b L (placesAt room filling)
 
 -- what opening the places of a constructor's arguments does to a stack
 pub record PlacesOpened (b : ℕ) (room : List ℕ) (start : ℕ) (room′ : List ℕ) (top : ℕ) : Type 0 where

@@ -1,13 +1,18 @@
 // The heads of definitions: signatures, and refusals 7 and 8.
+use crate::Fault;
+use crate::Tested;
+use crate::faults::cause_of;
 use answers::Verdict;
 use answers::refused;
 use grammar::Front;
 use grammar::codes::BLOCK_TAG;
 use grammar::codes::EXTEND;
 use grammar::codes::HEAD_TAG;
+use grammar::codes::HEADER;
 use grammar::codes::ROOT_TAG;
 use grammar::codes::UPDATE;
 use grammar::front_at;
+use grammar::limits::MOST_PARAMETERS;
 use grammar::reader::byte;
 use grammar::reader::part;
 use spellings::equal;
@@ -18,6 +23,20 @@ ghost use lib.ListN.{length, getD, take, drop, set};
 ghost use Rattle.grammar.specs.Limits.{most};
 ghost use Rattle.bodies.specs.HeadBytes.{signatureAt, faultOf, Defined, collected, collectAt};
 
+// A head's nonterminal, its mode and its signature, from the offset of the head on; the signature is a sort and those of the parameters.
+const NONTERMINAL: usize = HEADER;
+
+const MODE: usize = NONTERMINAL + 1;
+
+const SIGNATURE: usize = MODE + 1;
+
+// How many bytes of a head's value stand before its signature, how many a signature has, and both, at most.
+const BEFORE_SIGNATURE: usize = SIGNATURE - HEADER;
+
+const LONGEST_SIGNATURE: usize = 1 + MOST_PARAMETERS;
+
+const LONGEST_HEAD: usize = BEFORE_SIGNATURE + LONGEST_SIGNATURE;
+
 // The signature in the head at an offset: the sort of the result, then those of the parameters, four at most.
 pub fn signature_at(table: &[u8], at: usize) -> &[u8]
     ensures { λ r. ⌜ now r ≡ signatureAt (now (table .entry)) at ⌝ }
@@ -26,13 +45,13 @@ pub fn signature_at(table: &[u8], at: usize) -> &[u8]
         return part(table, at, 0);
     }
     let size = wide_byte(byte(table, at + 1)) * 256 + wide_byte(byte(table, at + 2));
-    if size < 2 {
-        return part(table, at + 5, 0);
+    if size < BEFORE_SIGNATURE {
+        return part(table, at + SIGNATURE, 0);
     }
-    if size < 7 {
-        return part(table, at + 5, size - 2);
+    if size < LONGEST_HEAD {
+        return part(table, at + SIGNATURE, size - BEFORE_SIGNATURE);
     }
-    part(table, at + 5, 5)
+    part(table, at + SIGNATURE, LONGEST_SIGNATURE)
 }
 
 // The offset of a nonterminal's newest head, 0 for none.
@@ -47,41 +66,46 @@ pub fn head_of(heads: &[u16], n: u8) -> usize
     }
 }
 
-// The refusal of the head at an offset, 7 or 8, or 0, in the block that begins at `block`.
-fn fault_of(table: &[u8], at: usize, block: usize, heads: &[u16]) -> u8
+// What is wrong with the head at an offset, in the block that begins at `block`.
+fn fault_of(table: &[u8], at: usize, block: usize, heads: &[u16]) -> Tested
     requires { ⌜ at ≤ most .bytes ⌝ }
     ensures { λ r. ⌜ r ≡ faultOf (now (table .entry)) at block (now (heads .entry)) ⌝ }
 {
-    let n = byte(table, at + 3);
-    let mode = byte(table, at + 4);
+    let n = byte(table, at + NONTERMINAL);
+    let mode = byte(table, at + MODE);
     let h = head_of(heads, n);
     if (mode == EXTEND) | (mode == UPDATE) {
         let alike = equal(signature_at(table, h), signature_at(table, at));
-        if (h <= block) & (0 < h) & alike { 0 } else { 8 }
+        if (h <= block) & (0 < h) & alike {
+            Tested::Sound
+        } else {
+            Tested::Faulty(Fault::BadExtension)
+        }
     } else if h == 0 {
-        0
+        Tested::Sound
     } else {
-        7
+        Tested::Faulty(Fault::NumberInUse)
     }
 }
 
-// A field at an offset: a head goes among the heads, if it is not refused. The refusal, or 0.
-fn define(heads: &mut [u16], table: &[u8], at: usize, tag: u8, block: usize) -> u8
+// A field at an offset: a head goes among the heads, if nothing is wrong with it.
+fn define(heads: &mut [u16], table: &[u8], at: usize, tag: u8, block: usize) -> Tested
     requires { ⌜ at ≤ most .bytes ⌝ }
     ensures { λ r. ⌜ Defined (now (table .entry)) at tag block (now (heads .entry)) r (now (heads .exit)) ⌝ }
 {
     if tag != HEAD_TAG {
-        return 0;
+        return Tested::Sound;
     }
-    let fault = fault_of(table, at, block, heads);
-    if fault != 0 {
-        return fault;
+    let tested = fault_of(table, at, block, heads);
+    match tested {
+        Tested::Faulty(fault) => return Tested::Faulty(fault),
+        Tested::Sound => {}
     }
-    let n = wide_byte(byte(table, at + 3));
+    let n = wide_byte(byte(table, at + NONTERMINAL));
     if n < heads.len() {
         heads[n] = at as u16;
     }
-    0
+    Tested::Sound
 }
 
 // The heads of the block that begins at an offset, from its first field on.
@@ -100,13 +124,16 @@ pub fn collect(heads: &mut [u16], table: &[u8], block: usize, from: usize) -> Ve
                 return Verdict::Passed;
             }
             Front::Field(tag, size) => {
-                let to = at + 3 + size;
+                let to = at + HEADER + size;
                 if (tag == BLOCK_TAG) | (tag == ROOT_TAG) {
                     return Verdict::Passed;
                 }
-                let fault = define(heads, table, at, tag, block);
-                if fault != 0 {
-                    return refused(fault, at);
+                let tested = define(heads, table, at, tag, block);
+                match tested {
+                    Tested::Faulty(fault) => {
+                        return refused(cause_of(fault), at);
+                    }
+                    Tested::Sound => {}
                 }
                 at = to;
             }

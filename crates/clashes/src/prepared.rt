@@ -3,6 +3,8 @@ use super::clash::clashing;
 use super::clash::left_recursive;
 use super::clash::shared;
 use answers::Verdict;
+use answers::causes::AMBIGUOUS;
+use answers::causes::LEFT_RECURSION;
 use answers::refuse;
 use firsts::items::gather;
 use firsts::nullable::nullables;
@@ -74,7 +76,7 @@ fn check_clash(room: &[u64; ROOM]) -> Verdict
     let n = clashing(room);
     if n < NONTERMINALS {
         let kinds = shared(room, n);
-        Verdict::Refused(refuse(13, n as u64, lowest(kinds) as u64, 0))
+        Verdict::Refused(refuse(AMBIGUOUS, n as u64, lowest(kinds) as u64, 0))
     } else {
         Verdict::Passed
     }
@@ -94,7 +96,7 @@ pub fn check_firsts(
 {
     let n = prepare(table, owners, starts, m, room);
     if n < NONTERMINALS {
-        Verdict::Refused(refuse(12, n as u64, 0, 0))
+        Verdict::Refused(refuse(LEFT_RECURSION, n as u64, 0, 0))
     } else {
         check_clash(room)
     }

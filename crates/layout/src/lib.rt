@@ -3,6 +3,13 @@ mod index;
 
 use answers::Refusal;
 use answers::Verdict;
+use answers::causes::BAD_SPELLING;
+use answers::causes::BAD_TEMPLATE;
+use answers::causes::FIELD_OUT_OF_ORDER;
+use answers::causes::FIELD_PAST_END;
+use answers::causes::TABLE_TOO_LONG;
+use answers::causes::TOO_MANY;
+use answers::causes::UNKNOWN_FIELD;
 use answers::refuse;
 use answers::refused;
 use decoding::Progress;
@@ -12,6 +19,7 @@ use fields::is_known;
 use fields::is_whole;
 use fields::may_follow;
 use grammar::Front;
+use grammar::codes::HEADER;
 use grammar::codes::KEYWORD_TAG;
 use grammar::codes::OUTSIDE_TAG;
 use grammar::codes::ROOT_TAG;
@@ -91,23 +99,23 @@ fn check_field(
 {
     let known = is_known(tag, v);
     if !known {
-        return stopped(3, at);
+        return stopped(UNKNOWN_FIELD, at);
     }
     let ordered = may_follow(tag, s.last);
     if !ordered {
-        return stopped(4, at);
+        return stopped(FIELD_OUT_OF_ORDER, at);
     }
     let spelled = is_spelled(keywords, outsides, table, tag, v, h);
     if !spelled {
-        return stopped(5, at);
+        return stopped(BAD_SPELLING, at);
     }
     let room = has_room(tag, s);
     if !room {
-        return stopped(6, at);
+        return stopped(TOO_MANY, at);
     }
     let whole = is_whole(tag, v);
     if !whole {
-        return stopped(10, at);
+        return stopped(BAD_TEMPLATE, at);
     }
     Checking::Further(further(tag, s))
 }
@@ -119,7 +127,7 @@ fn check_end(at: usize, s: Progress) -> Verdict
     if s.last == ROOT_TAG {
         return Verdict::Passed;
     }
-    refused(4, at)
+    refused(FIELD_OUT_OF_ORDER, at)
 }
 
 // What has been read where a table begins.
@@ -172,7 +180,7 @@ pub fn check_layout(table: &[u8]) -> Verdict
     ensures { λ r. ⌜ r ≡ verdict (layout (now (table .entry))) ⌝ }
 {
     if LONGEST_TABLE < table.len() {
-        return refused(1, 0);
+        return refused(TABLE_TOO_LONG, 0);
     }
     let mut keywords = [0u32; ROOM];
     let mut outsides = [0u32; ROOM];
@@ -185,10 +193,10 @@ pub fn check_layout(table: &[u8]) -> Verdict
                 return check_end(at, s);
             }
             Front::Short => {
-                return refused(2, at);
+                return refused(FIELD_PAST_END, at);
             }
             Front::Field(tag, size) => {
-                let from = at + 3;
+                let from = at + HEADER;
                 let to = from + size;
                 let v = &table[from..to];
                 let h = spelling_hash(tag, v);

@@ -2,6 +2,7 @@
 use grammar::Front;
 use grammar::codes::ALTERNATIVE_TAG;
 use grammar::codes::HEAD_TAG;
+use grammar::codes::HEADER;
 use grammar::codes::UPDATE;
 use grammar::front_at;
 use grammar::limits::EACH_ALTERNATIVE;
@@ -95,7 +96,7 @@ pub fn build_index(
                 return k;
             }
             Front::Field(tag, size) => {
-                let from = at + 3;
+                let from = at + HEADER;
                 let to = from + size;
                 if tag == HEAD_TAG {
                     n = byte(&table[from..to], 0);

@@ -4,6 +4,7 @@ use crate::SymbolStep;
 use crate::Terminal;
 use grammar::Front;
 use grammar::codes::CALL_ITEM;
+use grammar::codes::HEADER;
 use grammar::codes::IDE_ITEM;
 use grammar::codes::ITEM_TAG;
 use grammar::codes::KEYWORD_ITEM;
@@ -47,7 +48,7 @@ pub fn item_at(table: &[u8], at: usize) -> SymbolStep
             if tag != ITEM_TAG {
                 return SymbolStep::Done;
             }
-            let from = at + 3;
+            let from = at + HEADER;
             let to = from + size;
             let s = symbol(&table[from..to]);
             SymbolStep::Past(s, to)

@@ -27,8 +27,12 @@ use Rattle.judgements.specs.CheckSorts.{isDefined, signatureOf, isClosed, areCl
 use Rattle.judgements.specs.Scopes.{Scope}
 use Rattle.bodies.specs.TemplateBytes.{fillBytes, templatesFault}
 use Rattle.bodies.specs.HeadBytes.{signatureAt}
-use Rattle.bodies.specs.BodyBytes.{Context, unlessFault, callAt, itemAt, resultAt}
-use Rattle.sorts.specs.ByBytes.{rootAt, verdictOf}
+use Rattle.bodies.specs.BodyBytes.{Context, unlessFaulty, callAt, itemAt, resultAt}
+use Rattle.bodies.specs.declared.Fault.the-variants.{Undefined, WrongSort}
+use Rattle.bodies.specs.declared.Tested.{Tested}
+use Rattle.bodies.specs.declared.Tested.the-variants.{Faulty}
+use Rattle.bodies.specs.Faults.{causeOf, testedBy, verdictOf}
+use Rattle.sorts.specs.ByBytes.{rootAt}
 use Rattle.bodies.proofs.TemplateInduction.{choose}
 use Rattle.bodies.proofs.TemplatesByBytes.{closed-bytes, fill-bytes}
 use Rattle.sorts.proofs.HeadsByBytes.{Knows, zero-test}
@@ -40,15 +44,15 @@ contextOf G h H L = record { keywords = G .keywords; outsides = G .outsides; hea
 -- a sort or a refusal at a place
 abbrev pub sortedAt : ℕ → ItemSort → Checked ℕ
 sortedAt at (As s) = ok s
-sortedAt at (Unsorted fault) = bad (refusal fault at 0 0)
+sortedAt at (Unsorted fault) = bad (refusal (causeOf fault) at 0 0)
 
 -- 9 before 11, by the outcomes of the tests
-abbrev faultBy : Bool → Bool → ℕ
-faultBy closed filled = choose (choose 0 11 filled) 9 closed
+abbrev faultBy : Bool → Bool → Tested
+faultBy closed filled = choose (testedBy filled WrongSort) (Faulty Undefined) closed
 
 call-by :
     (at sort : ℕ) (defined closed filled : Bool)
-    → sortedAt at (choose (Unsorted 9) (unlessFault sort (faultBy closed filled)) (not defined))
+    → sortedAt at (choose (Unsorted Undefined) (unlessFaulty sort (faultBy closed filled)) (not defined))
     ≡ (need (defined && closed) 9 at >> need filled 11 at >> ok sort)
 call-by at sort true true true = refl
 call-by at sort true true false = refl
@@ -60,7 +64,7 @@ result-by at true true = refl
 result-by at true false = refl
 result-by at false filled = refl
 
-root-by : (at : ℕ) (defined fitting : Bool) → verdictOf at (choose 9 (choose 0 11 fitting) (not defined))
+root-by : (at : ℕ) (defined fitting : Bool) → verdictOf at (choose (Faulty Undefined) (testedBy fitting WrongSort) (not defined))
     ≡ verdict (need defined 9 at >> need fitting 11 at)
 root-by at true true = refl
 root-by at true false = refl
@@ -87,7 +91,7 @@ module _ (bs : List ℕ) (scope : Scope) (heads : List ℕ) (knows : (nontermina
         let tests = call-by at (getD sig 0 0) (isDefined (scope .env) nonterminal) closed (fillBytes false args L (drop 1 sig)) in
         by-test (isDefined (scope .env) nonterminal) (λ e. cc (knows nonterminal l .shown e, fill-bytes L args ts (S .params) (read-templates w))) (λ e. cc)
 
-    keyword-agrees : (test : Bool) → sortedAt at (choose (As 0) (Unsorted 9) test) ≡ (need test 9 at >> ok 0)
+    keyword-agrees : (test : Bool) → sortedAt at (choose (As 0) (Unsorted Undefined) test) ≡ (need test 9 at >> ok 0)
     keyword-agrees true = refl
     keyword-agrees false = refl
 

@@ -20,10 +20,12 @@ use Rattle.decoding.proofs.Accept.{accepted}
 use Rattle.judgements.specs.CheckSorts.{consistent}
 use Rattle.judgements.specs.Scopes.{Env, entryOf}
 use Rattle.bodies.specs.ByFields.{endsBlock, headOf, collectBy}
-use Rattle.bodies.specs.HeadBytes.{faultOf, withHead, Collected, collected, collectFrom}
+use Rattle.bodies.specs.declared.Tested.{Tested}
+use Rattle.bodies.specs.declared.Tested.the-variants.{Sound, Faulty}
+use Rattle.bodies.specs.HeadBytes.{faultOf, withHead, Collected, collected, collectAfter, collectFrom}
 use Rattle.bodies.proofs.TemplateInduction.{choose}
 use Rattle.sorts.proofs.PlacedFields.{Placed, endOf, placed-end, placed-from-lower}
-use Rattle.sorts.proofs.HeadsByBytes.{Head, head-known, Collects, head-same, head-more}
+use Rattle.sorts.proofs.HeadsByBytes.{Head, head-known, checkOf, Collects, head-same, head-more}
 
 -- every head lies at an offset or before it
 abbrev pub Below : List ℕ → ℕ → Type 0
@@ -60,29 +62,24 @@ module _ (bs : List ℕ) (E : Env) (block : ℕ) where
     abbrev bytesGive : Bool → Bool → Collected
     bytesGive ends head =
         choose (collected Passed heads)
-        (choose
-        (choose (collectFrom fs bs block (withHead bs at heads)) (collected (Refused (refusal (faultOf bs at block heads) at 0 0)) heads)
-        (eqb (faultOf bs at block heads) 0))
-        (collectFrom fs bs block heads) head)
+        (collectAfter (choose (faultOf bs at block heads) Sound head) at heads (collectFrom fs bs block (choose (withHead bs at heads) heads head)))
         ends
 
     -- a head: refused by both, or one more
     refused-or-more :
-        (clean : Bool)
+        (tested : Tested)
         → Agree bs E block (endOf fs) (collectBy fs E (entryOf (headOf value) ∷ own)) (collectFrom fs bs block (withHead bs at heads))
-        → Agree bs E block (endOf fs)
-        (choose (ok (tt {0})) (bad (refusal (faultOf bs at block heads) at 0 0)) clean >> collectBy fs E (entryOf (headOf value) ∷ own))
-        (choose (collectFrom fs bs block (withHead bs at heads)) (collected (Refused (refusal (faultOf bs at block heads) at 0 0)) heads) clean)
-    refused-or-more true more = more
-    refused-or-more false more = refl
+        → Agree bs E block (endOf fs) (checkOf at tested >> collectBy fs E (entryOf (headOf value) ∷ own))
+        (collectAfter tested at heads (collectFrom fs bs block (withHead bs at heads)))
+    refused-or-more Sound more = more
+    refused-or-more (Faulty fault) more = refl
 
     head-agrees :
-        consistent (headOf value .mode) E own (headOf value) at
-        ≡ choose (ok tt) (bad (refusal (faultOf bs at block heads) at 0 0)) (eqb (faultOf bs at block heads) 0)
+        consistent (headOf value .mode) E own (headOf value) at ≡ checkOf at (faultOf bs at block heads)
         → Agree bs E block (endOf fs) (collectBy fs E (entryOf (headOf value) ∷ own)) (collectFrom fs bs block (withHead bs at heads))
         → Agree bs E block (endOf fs) (fieldsGive false true) (bytesGive false true)
     head-agrees q more =
-        rw q (refused-or-more (eqb (faultOf bs at block heads) 0) more)
+        rw q (refused-or-more (faultOf bs at block heads) more)
 
     field-agrees :
         (ends head : Bool) → Collects bs E own block heads → Below heads (choose at (endOf fs) ends)

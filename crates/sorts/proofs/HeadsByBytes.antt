@@ -24,8 +24,12 @@ use Rattle.decoding.proofs.Values.{head-value}
 use Rattle.judgements.specs.CheckSorts.{isDefined, signatureOf, sameSignature, isUnused, isAsBefore, consistent}
 use Rattle.judgements.specs.Scopes.{Declaration, Env, entryOf}
 use Rattle.bodies.specs.ByFields.{headOf}
+use Rattle.bodies.specs.declared.Fault.{Fault}
+use Rattle.bodies.specs.declared.Fault.the-variants.{NumberInUse, BadExtension}
+use Rattle.bodies.specs.declared.Tested.{Tested}
+use Rattle.bodies.specs.declared.Tested.the-variants.{Sound, Faulty}
+use Rattle.bodies.specs.Faults.{causeOf, testedBy}
 use Rattle.bodies.specs.HeadBytes.{valueAt, signatureAt, faultOf, withHead}
-use Rattle.bodies.proofs.TemplateInduction.{choose}
 use Rattle.bodies.proofs.HeadLaws.{fault-earlier, fault-new}
 use Rattle.judgements.proofs.Environments.{defined-here, defined-later, signature-here, signature-later}
 
@@ -145,6 +149,11 @@ append-signature (e ∷ own) E nonterminal h =
     by-test (eqb (e .nonterminal) nonterminal) (λ q. absurd (true≢false (sym (defined-here e own nonterminal q) ∙ h)))
     (λ q. signature-later e (own ++ E) nonterminal q ∙ append-signature own E nonterminal (sym (defined-later e own nonterminal q) ∙ h))
 
+-- what a test finds at an offset, as a check
+abbrev pub checkOf : ℕ → Tested → Checked (Unit {0})
+checkOf at Sound = ok tt
+checkOf at (Faulty fault) = bad (refusal (causeOf fault) at 0 0)
+
 -- what a block has defined lies behind its beginning
 pub record Collects (bs : List ℕ) (E own : Env) (block : ℕ) (known-heads : List ℕ) : Type 0 where
   -- there is a head for each nonterminal
@@ -200,19 +209,10 @@ module _ (bs : List ℕ) (E own : Env) (block : ℕ) (known-heads : List ℕ) (c
       let known : isDefined (own ++ E) n ≡ true = cc (append-defined own E n) in
       ap₂ same (known-head .shown known ∙ ap bytesOf (append-signature own E n missing)) (head-signature bs at equal given-head))
 
-  -- the refusal of the head is that of the definition
-  outcome : ℕ → Checked (Unit {0})
-  outcome fault = choose (ok tt) (bad (refusal fault at 0 0)) (eqb fault 0)
-
-  need-outcome-7 : (test : Bool) → need test 7 at ≡ outcome (choose 0 7 test)
-  unfolding outcome
-  need-outcome-7 true = refl
-  need-outcome-7 false = refl
-
-  need-outcome-8 : (test : Bool) → need test 8 at ≡ outcome (choose 0 8 test)
-  unfolding outcome
-  need-outcome-8 true = refl
-  need-outcome-8 false = refl
+  -- the test of a head, as a check
+  need-tested : (test : Bool) (fault : Fault) → need test (causeOf fault) at ≡ checkOf at (testedBy test fault)
+  need-tested true fault = refl
+  need-tested false fault = refl
 
   numbered : headOf value .nonterminal ≡ n
   unfolding n
@@ -222,36 +222,34 @@ module _ (bs : List ℕ) (E own : Env) (block : ℕ) (known-heads : List ℕ) (c
   coded q = sym (head-mode bs at equal given-head ∙ ap modeCode q)
 
   new-outcome : (eqb (modeCode (given-head .mode)) 1 || eqb (modeCode (given-head .mode)) 2) ≡ false → need (isUnused E own (headOf value)) 7 at
-      ≡ outcome (faultOf bs at block known-heads)
+      ≡ checkOf at (faultOf bs at block known-heads)
   unfolding head n
   new-outcome m =
       cc (
         numbered,
         new-same,
-        need-outcome-7 (eqb head 0),
+        need-tested (eqb head 0) NumberInUse,
         fault-new bs known-heads at block (sym (head-nonterminal bs at equal given-head)) (coded refl) refl m (eqb head 0) refl,
       )
 
   before-outcome : (eqb (modeCode (given-head .mode)) 1 || eqb (modeCode (given-head .mode)) 2) ≡ true → need (isAsBefore E own (headOf value)) 8 at
-      ≡ outcome (faultOf bs at block known-heads)
+      ≡ checkOf at (faultOf bs at block known-heads)
   unfolding head n
   before-outcome m =
       let good : Bool = leb head block && ltb 0 head && same (signatureAt bs head) (signatureAt bs at) in
       cc (
         numbered,
         before-same,
-        need-outcome-8 good,
+        need-tested good BadExtension,
         fault-earlier bs known-heads at block (sym (head-nonterminal bs at equal given-head)) (coded refl) refl m refl refl refl good refl,
       )
 
   -- the refusal of a head is that of its definition
   pub head-same :
-      consistent (headOf value .mode) E own (headOf value) at
-      ≡ choose (ok tt) (bad (refusal (faultOf bs at block known-heads) at 0 0)) (eqb (faultOf bs at block known-heads) 0)
-  unfolding outcome
+      consistent (headOf value .mode) E own (headOf value) at ≡ checkOf at (faultOf bs at block known-heads)
   head-same = by (headOf value .mode) (sym (head-of-mode given-head))
     where
-      by : (mode : Mode) → given-head .mode ≡ mode → consistent mode E own (headOf value) at ≡ outcome (faultOf bs at block known-heads)
+      by : (mode : Mode) → given-head .mode ≡ mode → consistent mode E own (headOf value) at ≡ checkOf at (faultOf bs at block known-heads)
       by add q = new-outcome (cc q)
       by extend q = before-outcome (cc q)
       by update q = before-outcome (cc q)

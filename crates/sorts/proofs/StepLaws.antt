@@ -25,7 +25,12 @@ use Rattle.sorts.specs.declared.FieldStep.the-variants.{Next, Stop}
 use Rattle.bodies.specs.HeadBytes.{signatureAt, collected, collectAt}
 use Rattle.bodies.specs.BodyBytes.{context, itemAt, resultAt}
 use Rattle.sorts.specs.ByBytes.{unknown, rootAt}
-use Rattle.sorts.specs.ByBytes.{FieldStepped, going, verdict-found, stepped, verdictOf, afterVerdict, afterBlock, afterItem, itemStep, stepAt}
+use Rattle.bodies.specs.declared.Fault.{Fault}
+use Rattle.bodies.specs.declared.Fault.the-variants.{Undefined, WrongSort}
+use Rattle.bodies.specs.declared.Tested.{Tested}
+use Rattle.bodies.specs.declared.Tested.the-variants.{Faulty}
+use Rattle.bodies.specs.Faults.{causeOf, testedBy, verdictOf}
+use Rattle.sorts.specs.ByBytes.{FieldStepped, going, verdict-found, stepped, afterVerdict, afterBlock, afterItem, itemStep, stepAt}
 use Rattle.sorts.specs.ByBytes.{verdictStep}
 use Rattle.sorts.specs.ByBytes.{withSorts, counting, counted, goOn, sortsFrom, sortsOf, Counts, ItemChecked, FieldChecked}
 use Rattle.bodies.proofs.TemplateInduction.{choose}
@@ -36,32 +41,24 @@ module _ (bs heads : List ℕ) (nonterminal : ℕ) {head : ℕ} (equal : head �
   -- by its tests
   root-by :
       (missing fitting : Bool) → eqb head 0 ≡ missing → (leb (length (signatureAt bs head)) 1 && eqb (getD (signatureAt bs head) 0 0) term) ≡ fitting
-      → choose 9 (choose 0 11 fitting) missing ≡ rootAt bs heads nonterminal
+      → choose (Faulty Undefined) (testedBy fitting WrongSort) missing ≡ rootAt bs heads nonterminal
   unfolding rootAt
   root-by missing fitting d f =
       cc
 
   -- it is not defined
-  pub root-undefined : head ≡ 0 → 9 ≡ rootAt bs heads nonterminal
+  pub root-undefined : head ≡ 0 → Faulty Undefined ≡ rootAt bs heads nonterminal
   root-undefined z = root-by true _ (eq-eqb head 0 z) refl
 
   -- by the code's test of its signature
   pub root-tested :
       {signature : List ℕ} {sort : ℕ} → (head ≡ 0 → ⊥) → signature ≡ signatureAt bs head → sort ≡ getD signature 0 0 → (fitting : Bool)
-      → (leb (length signature) 1 && eqb sort term) ≡ fitting → choose 0 11 fitting ≡ rootAt bs heads nonterminal
+      → (leb (length signature) 1 && eqb sort term) ≡ fitting → testedBy fitting WrongSort ≡ rootAt bs heads nonterminal
   root-tested {signature} {sort} z s q fitting t =
       root-by false fitting (ne-eqb head 0 z)
       (cc)
 
--- ------------------------------------------------------------------ verdicts and counts
-
--- the verdict of no fault, and of one
-pub verdict-none : (at fault : ℕ) → fault ≡ 0 → Passed ≡ verdictOf at fault
-verdict-none at fault e = ap (choose Passed (Refused (refusal fault at 0 0))) (sym (eq-eqb fault 0 e))
-
--- and of one
-pub verdict-some : (at fault : ℕ) → (fault ≡ 0 → ⊥) → Refused (refusal fault at 0 0) ≡ verdictOf at fault
-verdict-some at fault e = ap (choose Passed (Refused (refusal fault at 0 0))) (sym (ne-eqb fault 0 e))
+-- ------------------------------------------------------------------ counts
 
 module _ (known : Known) (tag at : ℕ) where
   -- what is known, by the tests of the tag
@@ -118,9 +115,10 @@ module _ (known : Known) (tag at : ℕ) where
 module _ {bs : List ℕ} {at : ℕ} {value : List ℕ} {known : Known} {heads L : List ℕ} where
   -- an item's refusal
   pub item-refused :
-      {item-sort : ItemSort} {fault : ℕ} {verdict : Verdict} {L′ : List ℕ} → item-sort ≡ itemAt bs (context known heads L) value → item-sort ≡ Unsorted fault
-      → verdict ≡ Refused (refusal fault at 0 0) → ItemChecked bs at value known heads L (Stop verdict) L′
-  item-refused e f q = record { steps = ap verdict-found q ∙ ap (afterItem (context known heads L) at) (sym f ∙ e); counts = tt }
+      {item-sort : ItemSort} {fault : Fault} {number : ℕ} {verdict : Verdict} {L′ : List ℕ} → item-sort ≡ itemAt bs (context known heads L) value
+      → item-sort ≡ Unsorted fault → number ≡ causeOf fault → verdict ≡ Refused (refusal number at 0 0)
+      → ItemChecked bs at value known heads L (Stop verdict) L′
+  item-refused e f n q = record { steps = cc; counts = tt }
 
   -- one variable more
   pub item-added :
@@ -198,10 +196,10 @@ module _ {bs : List ℕ} {at tag : ℕ} {value : List ℕ} {to : ℕ} {known : K
 
   -- a result
   pub step-result :
-      {fault : ℕ} {verdict : Verdict} {field-step : FieldStep} → tag ≡ 7 → fault ≡ resultAt bs (context known [] L) value → verdict ≡ verdictOf at fault
+      {tested : Tested} {verdict : Verdict} {field-step : FieldStep} → tag ≡ 7 → tested ≡ resultAt bs (context known [] L) value → verdict ≡ verdictOf at tested
       → field-step ≡ verdictStep known verdict → FieldChecked bs at tag value to known heads L field-step heads L
   unfolding stepAt resultAt
-  step-result {fault} {verdict} e p q f =
+  step-result {tested} {verdict} e p q f =
       record {
         steps =
             cc (verdict-goes known heads L verdict, step-is bs at value to known heads L 7 e);
@@ -210,7 +208,8 @@ module _ {bs : List ℕ} {at tag : ℕ} {value : List ℕ} {to : ℕ} {known : K
 
   -- the root
   pub step-root :
-      {nonterminal fault : ℕ} {verdict : Verdict} → tag ≡ 8 → nonterminal ≡ getD value 0 0 → fault ≡ rootAt bs heads nonterminal → verdict ≡ verdictOf at fault
+      {nonterminal : ℕ} {tested : Tested} {verdict : Verdict} → tag ≡ 8 → nonterminal ≡ getD value 0 0 → tested ≡ rootAt bs heads nonterminal
+      → verdict ≡ verdictOf at tested
       → FieldChecked bs at tag value to known heads L (Stop verdict) heads L
   unfolding stepAt
   step-root e p q f =

@@ -15,6 +15,10 @@ use Rattle.grammar.specs.Fields.{RawFields, end, cut, next, fieldsOf}
 use Rattle.grammar.specs.Lookup.{fieldsAt}
 use Rattle.grammar.specs.Limits.{most}
 use Rattle.bodies.specs.declared.Known.{Known}
+use Rattle.bodies.specs.declared.Fault.the-variants.{Undefined, WrongSort}
+use Rattle.bodies.specs.declared.Tested.{Tested}
+use Rattle.bodies.specs.declared.Tested.the-variants.{Faulty}
+use Rattle.bodies.specs.Faults.{causeOf, testedBy, verdictOf}
 use Rattle.bodies.specs.declared.ItemSort.{ItemSort}
 use Rattle.bodies.specs.declared.ItemSort.the-variants.{As, Unsorted}
 use Rattle.sorts.specs.declared.FieldStep.{FieldStep}
@@ -34,14 +38,13 @@ withHeads X H = record { keywords = X .keywords; outsides = X .outsides; head = 
 abbrev pub withSorts : Context → List ℕ → Context
 withSorts X L = record { keywords = X .keywords; outsides = X .outsides; head = X .head; heads = X .heads; sorts = L }
 
--- the refusal of the root n, or 0: it is defined, has no parameters and gives a Term
-unfoldable pub rootAt : List ℕ → List ℕ → ℕ → ℕ
+-- what is wrong with the root n: it is defined, has no parameters and gives a Term
+unfoldable pub rootAt : List ℕ → List ℕ → ℕ → Tested
 rootAt bs H n =
     let h : ℕ = getD H n 0 in
     elim (eqb h 0) [
-      | true ↦ 9
-      | false ↦
-          elim (leb (length (signatureAt bs h)) 1 && eqb (getD (signatureAt bs h) 0 0) term) [ true ↦ 0 | false ↦ 11 ]
+      | true ↦ Faulty Undefined
+      | false ↦ testedBy (leb (length (signatureAt bs h)) 1 && eqb (getD (signatureAt bs h) 0 0) term) WrongSort
     ]
 
 -- ------------------------------------------------------------------ field by field
@@ -56,10 +59,6 @@ abbrev pub stepped : FieldStep → List ℕ → List ℕ → FieldStepped
 stepped (Next k) H L = going (context k H L)
 stepped (Stop v) H L = verdict-found v
 
--- the verdict of a fault at a place
-abbrev pub verdictOf : ℕ → ℕ → Verdict
-verdictOf at fault = elim (eqb fault 0) [ true ↦ Passed | false ↦ Refused (refusal fault at 0 0) ]
-
 abbrev pub afterVerdict : Context → Verdict → FieldStepped
 afterVerdict X Passed = going X
 afterVerdict X (Refused r) = verdict-found (Refused r)
@@ -70,7 +69,7 @@ afterBlock X (collected v H) = afterVerdict (withHeads X H) v
 -- one variable more; there are 16 at most
 abbrev pub afterItem : Context → ℕ → ItemSort → FieldStepped
 afterItem X at (As s) = going (withSorts X (take mostVariables (X .sorts ++ (s ∷ []))))
-afterItem X at (Unsorted fault) = verdict-found (Refused (refusal fault at 0 0))
+afterItem X at (Unsorted fault) = verdict-found (Refused (refusal (causeOf fault) at 0 0))
 
 -- an item at an offset
 abbrev pub itemStep : List ℕ → Context → ℕ → List ℕ → FieldStepped

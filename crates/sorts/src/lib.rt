@@ -2,8 +2,12 @@
 use answers::Refusal;
 use answers::Verdict;
 use answers::refused;
+use bodies::Fault;
 use bodies::ItemSort;
 use bodies::Known;
+use bodies::Tested;
+use bodies::faults::cause_of;
+use bodies::faults::verdict_of;
 use bodies::heads::collect;
 use bodies::heads::head_of;
 use bodies::heads::signature_at;
@@ -15,6 +19,7 @@ use grammar::Front;
 use grammar::codes::ALTERNATIVE_TAG;
 use grammar::codes::BLOCK_TAG;
 use grammar::codes::HEAD_TAG;
+use grammar::codes::HEADER;
 use grammar::codes::ITEM_TAG;
 use grammar::codes::KEYWORD_TAG;
 use grammar::codes::OUTSIDE_TAG;
@@ -33,7 +38,7 @@ ghost use mathlib.Core.Path.{_≡_};
 ghost use lib.ListN.{length};
 ghost use Rattle.grammar.specs.Limits.{most};
 ghost use Rattle.grammar.specs.Lookup.{fieldsAt};
-ghost use Rattle.sorts.specs.ByBytes.{rootAt, unknown, verdictOf, verdictStep, counting, sortsFrom, sortsOf};
+ghost use Rattle.sorts.specs.ByBytes.{rootAt, unknown, verdictStep, counting, sortsFrom, sortsOf};
 ghost use Rattle.sorts.specs.ByBytes.{Countable, ItemChecked, FieldChecked, Room, FieldReady};
 
 // What a field gives: what is known after it, or the verdict.
@@ -42,31 +47,21 @@ pub enum FieldStep {
     Stop(Verdict),
 }
 
-// The refusal of the root, 9 or 11, or 0: it is defined, has no parameters and gives a Term.
-fn check_root(table: &[u8], heads: &[u16], n: u8) -> u8
+// What is wrong with the root: it is defined, has no parameters and gives a Term.
+fn check_root(table: &[u8], heads: &[u16], n: u8) -> Tested
     ensures { λ r. ⌜ r ≡ rootAt (now (table .entry)) (now (heads .entry)) n ⌝ }
 {
     let h = head_of(heads, n);
     if h == 0 {
-        return 9;
+        return Tested::Faulty(Fault::Undefined);
     }
     let signature = signature_at(table, h);
     let term = Sort::TERM.0;
     if (signature.len() <= 1) & (byte(signature, 0) == term) {
-        0
+        Tested::Sound
     } else {
-        11
+        Tested::Faulty(Fault::WrongSort)
     }
-}
-
-// The verdict of a fault at a place; 0 is none.
-fn verdict_of(fault: u8, at: usize) -> Verdict
-    ensures { λ r. ⌜ r ≡ verdictOf at fault ⌝ }
-{
-    if fault == 0 {
-        return Verdict::Passed;
-    }
-    refused(fault, at)
 }
 
 // The check goes on with what is known, or stops.
@@ -126,7 +121,7 @@ fn check_variable(
 {
     let item = check_item(stack, table, heads, sorts, known, v);
     match item {
-        ItemSort::Unsorted(fault) => FieldStep::Stop(refused(fault, at)),
+        ItemSort::Unsorted(fault) => FieldStep::Stop(refused(cause_of(fault), at)),
         ItemSort::As(s) => {
             let n = known.variables;
             let variables = add_sort(sorts, n, s);
@@ -201,7 +196,7 @@ fn check_fields(heads: &mut [u16], sorts: &mut [u8], stack: &mut [u8], table: &[
                 return Verdict::Passed;
             }
             Front::Field(tag, size) => {
-                let from = at + 3;
+                let from = at + HEADER;
                 let to = from + size;
                 let v = &table[from..to];
                 let step = check_field(heads, sorts, stack, table, at, tag, v, to, known);

@@ -28,6 +28,7 @@ check-variable-spec =
     check-item-requires
     (λ c. search needs)
     (λ c κs. search needs)
+    (λ c κs. search needs)
     (λ c. search needs)
     (λ c κs. search needs)
     same-length

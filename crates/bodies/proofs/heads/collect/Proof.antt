@@ -59,13 +59,13 @@ define-requires : tie.Need-define-requires Inv-loop μ-loop
 define-requires c κs = omega (arith, inside (c .before .before))
 
 returns-4 : tie.Need-returns-4 Inv-loop μ-loop
-returns-4 c = search (laws.collecting-fault, stands (field (defined (c .before .before))))
+returns-4 c = search (laws.collecting-fault, stands (field (defined (c .before .before .before .before .before))))
 
 loop-less : tie.Need-loop-less Inv-loop μ-loop
-loop-less c = omega (arith, inside (field (defined (c .before))))
+loop-less c = omega (arith, inside (field (defined (c .before .before))))
 
 loop-again : tie.Need-loop-again Inv-loop μ-loop
-loop-again c = search (laws.collecting-next, stands (field (defined (c .before))))
+loop-again c = search (laws.collecting-next, stands (field (defined (c .before .before))))
 
 -- the function meets its contract
 pub collect-spec : {M : Type 1} → statement M
@@ -88,8 +88,11 @@ collect-spec =
     (λ c. search needs)
     returns-3
     define-requires
+    (λ c. search needs)
+    (λ c κs. search needs)
     (λ c κs. search needs)
     (λ c. search needs)
     returns-4
+    (λ c. search needs)
     loop-less
     loop-again)

@@ -58,10 +58,10 @@ fault-in-requires c κs =
     omega (arith, start (q .before .before) .pre, q .open-params .ensures .small, q .open-params .kept .0, short (q .before .before))
 
 returns-2 : tie.Need-returns-2
-returns-2 c = search (laws.call-unfit, fault (tested (c .before)))
+returns-2 c = search (laws.call-unfit, fault (tested (c .before .before .before)))
 
 returns-3 : tie.Need-returns-3
-returns-3 c = search (laws.call-fit, fault (tested (c .before .before)))
+returns-3 c = search (laws.call-fit, fault (tested (c .before .before .before)))
 
 -- the function meets its contract
 pub check-call-spec : {M : Type 1} → statement M
@@ -75,7 +75,9 @@ check-call-spec =
     (λ c κs. search needs)
     fault-in-requires
     (λ c. search needs)
-    returns-2
+    (λ c. search needs)
     (λ c κs. search needs)
+    (λ c. search needs)
+    returns-2
     (λ c. search needs)
     returns-3)
