@@ -161,39 +161,53 @@ pub record Building (whole : Whole) (turn : Turn) : Type 0 where
   -- what is left of all of them gives what the whole template gives
   pub rest : Same whole (λ I s M. resume I M around (going I M inner (withMade s (turn .made)) (turn .cells)))
 
+-- where the loop stands, and how many arguments the innermost constructor takes
+pub record Looping (whole : Whole) (turn : Turn) (needed : ℕ) : Type 0 where
+  -- where it stands
+  pub building : Building whole turn
+  -- the innermost constructor takes so many
+  pub needed-is : needed ≡ arity (building .inner .code)
+
 -- the outermost constructor is open
 pub building-start : {bytes : List ℕ} {from code : ℕ} (takes : Takes bytes from code) (env : List ℕ) (variables rows made : ℕ) (cells stack : List ℕ)
-    {packed-head : ℕ} → length bytes ≤ length stack
+    {packed-head needed : ℕ} → length bytes ≤ length stack
     → packed-head ≡ code + 256 * 0
-    → Building
+    → needed ≡ arity code
+    → Looping
     (record { v = bytes; from = from; env = env; k = variables; rows = rows; made = made; cells = cells; size = length (set stack 0 packed-head) })
     (record { cells = cells; stack = set stack 0 packed-head; at = from + 1; made = made; pos = 1; top = 1 })
+    needed
 unfolding lefts Filling resume
-building-start {bytes} {from} {code} takes env variables rows made cells stack {packed-head} h ew =
+building-start {bytes} {from} {code} takes env variables rows made cells stack {packed-head} {needed} h ew en =
     record {
-      as-long = refl;
-      stack-long = refl;
-      wide = omega (arith, length-set stack 0 packed-head);
-      past = omega arith;
-      inside = omega (arith, takes .inside);
-      inner = opened code (takes .own);
-      around = [];
-      stands = stands-start stack (omega (arith, takes .inside)) ew (takes .own);
-      many = omega (arith, takes .many);
-      small = takes .small;
-      filling = tt;
-      read = takes .read;
-      rest =
-          λ I s M e g.
-          cc (going-make I M code (takes .own) (withMade s made) cells, takes .is);
+      building = record {
+        as-long = refl;
+        stack-long = refl;
+        wide = omega (arith, length-set stack 0 packed-head);
+        past = omega arith;
+        inside = omega (arith, takes .inside);
+        inner = opened code (takes .own);
+        around = [];
+        stands = stands-start stack (omega (arith, takes .inside)) ew (takes .own);
+        many = omega (arith, takes .many);
+        small = takes .small;
+        filling = tt;
+        read = takes .read;
+        rest =
+            λ I s M e g.
+            cc (going-make I M code (takes .own) (withMade s made) cells, takes .is);
+      };
+      needed-is = en;
     }
 
-some-left : (ts : Templates) → 0 < count ts → (template : Template) × (us : Templates) × (ts ≡ more template us)
+-- templates of which some are left
+pub some-left : (ts : Templates) → 0 < count ts → (template : Template) × (us : Templates) × (ts ≡ more template us)
 unfolding count
 some-left none h = absurd (omega arith)
 some-left (more t us) h = (t, us, refl)
 
-none-left : (ts : Templates) → count ts ≡ 0 → ts ≡ none
+-- templates of which none is
+pub none-left : (ts : Templates) → count ts ≡ 0 → ts ≡ none
 unfolding count
 none-left none h = refl
 none-left (more t us) h = absurd (omega arith)
@@ -205,32 +219,33 @@ building-pos c =
     let t = stands-top (c .stands) in
     (omega (arith, c .stands .pos-is), omega (arith, t), omega (arith, c .stands .fits, c .stack-long))
 
--- the number of the innermost constructor is read, with its code and how many arguments it takes
-pub record Looked (whole : Whole) (turn : Turn) (packed-head code needed : ℕ) : Type 0 where
-  -- where the loop stands
-  pub building : Building whole turn
+-- the number of the innermost constructor is read, with its code
+pub record Looked {whole : Whole} {turn : Turn} (building : Building whole turn) (packed-head code : ℕ) : Type 0 where
   -- the number read is the one below the arguments
   pub number : packed-head ≡ getD (turn .stack) (turn .pos - 1) 0
   -- its low byte is the code
   pub code-is : code ≡ packed-head % 256
-  -- `needed` is how many arguments the code takes
-  pub arity-is : needed ≡ arity code
 
-module _ {whole : Whole} {turn : Turn} {packed-head code needed : ℕ} (looked : Looked whole turn packed-head code needed) where
+module _ {whole : Whole} {turn : Turn} {building : Building whole turn} {packed-head code : ℕ} (looked : Looked building packed-head code) where
+  number-is : packed-head ≡ building .inner .code + 256 * place (building .around)
+  number-is = looked .number ∙ stands-number (building .stands)
+
+  its-code : code ≡ building .inner .code
+  its-code = omega (arith, number-is, looked .code-is, building .small)
+
+  its-place : packed-head / 256 ≡ place (building .around)
+  its-place = omega (arith, number-is, building .small)
+
+  -- the loop goes on with a constructor whose code is read
+  pub looping-read : {needed : ℕ} → needed ≡ arity code → Looping whole turn needed
+  looping-read e = record { building = building; needed-is = e ∙ ap arity its-code }
+
+module _ {whole : Whole} {turn : Turn} {needed : ℕ} (looping : Looping whole turn needed) where
   abbrev c : Building whole turn
-  c = looked .building
-
-  number-is : packed-head ≡ c .inner .code + 256 * place (c .around)
-  number-is = looked .number ∙ stands-number (c .stands)
-
-  its-code : code ≡ c .inner .code
-  its-code = omega (arith, number-is, looked .code-is, c .small)
-
-  its-place : packed-head / 256 ≡ place (c .around)
-  its-place = omega (arith, number-is, c .small)
+  c = looping .building
 
   n-is : needed ≡ count (c .inner .left) + length (c .inner .given)
-  n-is = looked .arity-is ∙ ap arity its-code ∙ sym (c .many)
+  n-is = looping .needed-is ∙ sym (c .many)
 
   -- a template is left to it
   module _ (less : turn .top - turn .pos < needed) where
@@ -277,34 +292,39 @@ module _ {whole : Whole} {turn : Turn} {packed-head code needed : ℕ} (looked :
     pub building-leaf : (head : Head) {made-value next : ℕ} → head ≡ Leaf made-value next
         → ((values : List ℕ) → Holds (whole .env) (whole .k) values → HeadValue (whole .v) (turn .at) values head)
         → Heads (whole .v) (turn .at) head
-        → Building whole
-        (record { cells = turn .cells; stack = set (turn .stack) (turn .top) made-value; at = next; made = turn .made; pos = turn .pos; top = turn .top + 1 })
+        → Looping whole
+        (record { cells = turn .cells; stack = set (turn .stack) (turn .top) made-value; at = next; made = turn .made; pos = turn .pos; top = turn .top + 1 }) needed
     building-leaf head {made-value} {next} er l hd =
         let q : Past (whole .v) (turn .at) next = subst (Heads (whole .v) (turn .at)) er hd in
         record {
-          as-long = c .as-long;
-          stack-long = length-set (turn .stack) (turn .top) made-value ∙ c .stack-long;
-          wide = c .wide;
-          past = omega (arith, c .past, q .less);
-          inside = q .inside;
-          inner = fed (c .inner) made-value (next-left .1);
-          around = c .around;
-          stands = stands-fed (c .stands) building-inside made-value (next-left .1);
-          many = simp length-append (omega (arith, one-counted));
-          small = c .small;
-          filling = c .filling;
-          read = q .read ∙ ap parsed (others-are (whole .v) (turn .at) building-ahead);
-          rest =
-              λ I s M e g.
-              sym (takes-value I M (waits (c .inner) (next-left .1)) (withMade s (turn .made)) (turn .cells) (c .around) made-value)
-              ∙ ap (resume I M later) (sym (subst (HeadValue (whole .v) (turn .at) M) er (l M g) I (withMade s (turn .made)) (turn .cells)))
-              ∙ waiting I s M e g;
+          building = record {
+            as-long = c .as-long;
+            stack-long = length-set (turn .stack) (turn .top) made-value ∙ c .stack-long;
+            wide = c .wide;
+            past = omega (arith, c .past, q .less);
+            inside = q .inside;
+            inner = fed (c .inner) made-value (next-left .1);
+            around = c .around;
+            stands = stands-fed (c .stands) building-inside made-value (next-left .1);
+            many = simp length-append (omega (arith, one-counted));
+            small = c .small;
+            filling = c .filling;
+            read = q .read ∙ ap parsed (others-are (whole .v) (turn .at) building-ahead);
+            rest =
+                λ I s M e g.
+                sym (takes-value I M (waits (c .inner) (next-left .1)) (withMade s (turn .made)) (turn .cells) (c .around) made-value)
+                ∙ ap (resume I M later) (sym (subst (HeadValue (whole .v) (turn .at) M) er (l M g) I (withMade s (turn .made)) (turn .cells)))
+                ∙ waiting I s M e g;
+          };
+          needed-is = looping .needed-is;
         }
 
     -- it is a constructor
     pub building-node : (head : Head) {byte : ℕ} → head ≡ Node byte → Heads (whole .v) (turn .at) head → {packed-head′ : ℕ}
         → packed-head′ ≡ byte + 256 * turn .pos
-        → Building whole
+        → {needed′ : ℕ}
+        → needed′ ≡ arity byte
+        → Looping whole
         (record {
           cells = turn .cells;
           stack = set (turn .stack) (turn .top) packed-head′;
@@ -313,25 +333,29 @@ module _ {whole : Whole} {turn : Turn} {packed-head code needed : ℕ} (looked :
           pos = turn .top + 1;
           top = turn .top + 1;
         })
+        needed′
     unfolding lefts Filling
-    building-node head {byte} er hd {packed-head′} ew′ =
+    building-node head {byte} er hd {packed-head′} ew′ en =
         let q : Takes (whole .v) (turn .at) byte = subst (Heads (whole .v) (turn .at)) er hd in
         record {
-          as-long = c .as-long;
-          stack-long = length-set (turn .stack) (turn .top) packed-head′ ∙ c .stack-long;
-          wide = c .wide;
-          past = omega (arith, c .past);
-          inside = omega (arith, q .inside);
-          inner = opened byte (q .own);
-          around = later;
-          stands = stands-opened (c .stands) building-inside ew′ (next-left .1) (q .own);
-          many = omega (arith, q .many);
-          small = q .small;
-          filling = (one-counted, c .small, c .filling);
-          read = cc (q .read, others-are (whole .v) (turn .at) building-ahead);
-          rest =
-              λ I s M e g.
-              cc (going-make I M byte (q .own) (withMade s (turn .made)) (turn .cells), q .is, waiting I s M e g);
+          building = record {
+            as-long = c .as-long;
+            stack-long = length-set (turn .stack) (turn .top) packed-head′ ∙ c .stack-long;
+            wide = c .wide;
+            past = omega (arith, c .past);
+            inside = omega (arith, q .inside);
+            inner = opened byte (q .own);
+            around = later;
+            stands = stands-opened (c .stands) building-inside ew′ (next-left .1) (q .own);
+            many = omega (arith, q .many);
+            small = q .small;
+            filling = (one-counted, c .small, c .filling);
+            read = cc (q .read, others-are (whole .v) (turn .at) building-ahead);
+            rest =
+                λ I s M e g.
+                cc (going-make I M byte (q .own) (withMade s (turn .made)) (turn .cells), q .is, waiting I s M e g);
+          };
+          needed-is = en;
         }
 
   -- none is left to it
@@ -361,10 +385,12 @@ module _ {whole : Whole} {turn : Turn} {packed-head code needed : ℕ} (looked :
 
 -- its row is made
 pub record Closing (whole : Whole) (turn : Turn) (code needed out : ℕ) (cells : List ℕ) : Type 0 where
+  -- where the loop stands
+  pub looping : Looping whole turn needed
   -- the number of the constructor that is closed
   pub w : ℕ
   -- it is read
-  pub looked : Looked whole turn w code needed
+  pub looked : Looked (looping .building) w code
   -- it has all its arguments
   pub stop : needed ≤ turn .top - turn .pos
   -- there is a row for it
@@ -378,7 +404,7 @@ pub record Closing (whole : Whole) (turn : Turn) (code needed out : ℕ) (cells 
 
 module _ {whole : Whole} {turn : Turn} {code needed out : ℕ} {cells : List ℕ} (closing : Closing whole turn code needed out cells) where
   abbrev b : Building whole turn
-  b = closing .looked .building
+  b = closing .looping .building
 
   out-place : out ≡ place (b .around)
   out-place = closing .out-is ∙ its-place (closing .looked)
@@ -388,14 +414,14 @@ module _ {whole : Whole} {turn : Turn} {code needed out : ℕ} {cells : List ℕ
       cc (
         closing .stored,
         its-code (closing .looked),
-        given-is (closing .looked) (closing .stop),
+        given-is (closing .looping) (closing .stop),
         cell-row I (b .inner .code) (b .inner .given) (withMade s (turn .made)) (turn .cells) (omega (arith, e, closing .row)),
-        cell-goes (closing .looked) (closing .stop) I s M e g,
+        cell-goes (closing .looping) (closing .stop) I s M e g,
       )
 
   read-on : templatesOf (drop (turn .at) (whole .v)) ≡ parsed (lefts (b .around) (othersAt (whole .v) (whole .from)))
   unfolding join
-  read-on = cc (b .read, inner-none (closing .looked) (closing .stop))
+  read-on = cc (b .read, inner-none (closing .looping) (closing .stop))
 
   closing-long : length cells ≡ length (whole .cells)
   closing-long = closing .same ∙ b .as-long

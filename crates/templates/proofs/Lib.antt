@@ -2,4 +2,5 @@ pub mod VariableLaws
 pub mod TemplateLaws
 pub mod StackLaws
 pub mod BuildLaws
+pub mod FlatLaws
 pub mod ArgumentLaws

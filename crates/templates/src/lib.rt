@@ -27,6 +27,7 @@ ghost use Rattle.expansion.specs.Run.{done};
 ghost use Rattle.expansion.specs.Expansion.{Input, build, buildAll};
 ghost use Rattle.templates.specs.Built.{RoomsFit, Holds, withValue, withMade, Ahead, Evaluates, Behind, Lists, Few, KeptBehind};
 ghost use Rattle.templates.specs.Heads.{HeadValue, Heads, Takes};
+ghost use Rattle.templates.specs.Flat.{RowsFit, StoresFlat};
 
 // What a template gives: its value, the offset behind it and the cells then made; or no row is left for a cell.
 pub enum Built {
@@ -153,9 +154,55 @@ fn store_cell(cells: &mut [u32], row: usize, code: u8, stack: &[u32], pos: usize
     store_row(cells, row, code, args);
 }
 
+// What is done with a constructor none of whose arguments is one: its row is stored, and this is the offset behind it; or nothing is,
+// since one of them is a constructor or no row is left.
+enum Flat {
+    Stored(usize),
+    Left,
+}
+
+// The row of a constructor whose arguments are all values. They are read one behind the other, without a stack.
+fn store_flat(
+    cells: &mut [u32],
+    v: &[u8],
+    from: usize,
+    code: u8,
+    env: &[u32; MOST_VARIABLES],
+    k: usize,
+    rows: usize,
+    made: usize,
+) -> Flat
+    requires { ⌜ Takes (now v) from code ⌝ }
+    requires { ⌜ RowsFit rows (now cells) ⌝ }
+    ensures { λ r. ⌜ StoresFlat (now (v .entry)) from (now (env .entry)) k rows made (now (cells .entry)) r (now (cells .exit)) ⌝ }
+{
+    if rows <= made {
+        return Flat::Left;
+    }
+    let n = arity_of(code);
+    let mut args = [0u32; 3];
+    let mut at = from + 1;
+    let mut i: usize = 0;
+    while i < n {
+        let head = head_at(v, at, env, k);
+        match head {
+            Head::Leaf(x, next) => {
+                args[i] = x;
+                at = next;
+                i += 1;
+            }
+            Head::Node(_) => {
+                return Flat::Left;
+            }
+        }
+    }
+    store_row(cells, made, code, args);
+    Flat::Stored(at)
+}
+
 // The template of a constructor at an offset. The stack holds the open constructors, each with its arguments so far behind it; `pos` is
-// where those of the innermost one begin, and `top` where they end.
-fn build_node(
+// where those of the innermost one begin, `top` where they end, and n how many it takes.
+fn build_nested(
     v: &[u8],
     from: usize,
     code: u8,
@@ -176,10 +223,8 @@ fn build_node(
     let mut count = made;
     let mut pos: usize = 1;
     let mut top: usize = 1;
+    let mut n = arity_of(code);
     loop {
-        let w = stack[pos - 1];
-        let inner = code_of(w);
-        let n = arity_of(inner);
         if top - pos < n {
             let head = head_at(v, at, env, k);
             match head {
@@ -193,13 +238,15 @@ fn build_node(
                     top += 1;
                     pos = top;
                     at += 1;
+                    n = arity_of(b);
                 }
             }
         } else {
             if rows <= count {
                 return Built::Full;
             }
-            store_cell(cells, count, inner, stack, pos, n);
+            let w = stack[pos - 1];
+            store_cell(cells, count, code_of(w), stack, pos, n);
             let around = around_of(w);
             if around == 0 {
                 return Built::Made(count as u32, at, count + 1);
@@ -208,7 +255,32 @@ fn build_node(
             count += 1;
             top = pos;
             pos = around;
+            n = arity_of(code_of(stack[pos - 1]));
         }
+    }
+}
+
+// The template of a constructor at an offset: most have values for arguments, and need no stack.
+fn build_node(
+    v: &[u8],
+    from: usize,
+    code: u8,
+    env: &[u32; MOST_VARIABLES],
+    k: usize,
+    rows: usize,
+    made: usize,
+    cells: &mut [u32],
+    stack: &mut [u32],
+) -> Built
+    requires { ⌜ Takes (now v) from code ⌝ }
+    requires { ⌜ RoomsFit (now v) rows (now cells) (now stack) ⌝ }
+    ensures { λ r. ⌜ Evaluates (now (v .entry)) from (now (env .entry)) k rows made (now (cells .entry)) r (now (cells .exit)) ⌝ }
+    ensures { λ r. ⌜ Behind (now (v .entry)) from r ⌝ }
+{
+    let flat = store_flat(cells, v, from, code, env, k, rows, made);
+    match flat {
+        Flat::Stored(next) => Built::Made(made as u32, next, made + 1),
+        Flat::Left => build_nested(v, from, code, env, k, rows, made, cells, stack),
     }
 }
 

@@ -1,0 +1,258 @@
+-- `build_nested`: a loop over the constructors that are open. What is left of them gives what the template gives. The measure is the number of
+-- bytes left, and under it the place of the innermost constructor's arguments.
+use Prim.Native.Nat.{_+_, _-_, _*_, _≤_}
+use mathlib.Core.Path.{_≡_, refl, _∙_}
+use native.Mathlib.Omega.{arith}
+use lib.ListN.{length, getD, set, length-set}
+use borrow.Author.Needs.{needs}
+use Rattle.grammar.specs.Limits.{most}
+use Rattle.templates.proofs.BuildLaws as laws
+use Rattle.templates.proofs.build_nested.Statement.{statement}
+use Rattle.templates.proofs.build_nested.Tie as tie
+
+abbrev Inv-loop : tie.InvT-loop
+Inv-loop v from code env k rows made cells₀ stack₀ at₀ count₀ pos₀ top₀ n₀ cells stack at count pos top n =
+    laws.Looping
+    (record { v = v; from = from; env = env; k = k; rows = rows; made = made; cells = cells₀; size = length stack₀ })
+    (record { cells = cells; stack = stack; at = at; made = count; pos = pos; top = top })
+    n
+
+abbrev μ-loop : tie.MeasureT-loop
+μ-loop v from code env k rows made cells₀ stack₀ at₀ count₀ pos₀ top₀ n₀ cells stack at count pos top n =
+    (most .bytes + 2) * (length v - at) + pos
+
+-- a turn of the loop
+module _ (point : tie.At-loop Inv-loop μ-loop) where
+  abbrev entry : tie.Start Inv-loop μ-loop
+  entry = point .before .before .before .before .before .before
+
+  abbrev whole : laws.Whole
+  whole =
+      record {
+        v = entry .args .v .now;
+        from = entry .args .from;
+        env = entry .args .env .now;
+        k = entry .args .k;
+        rows = entry .args .rows;
+        made = entry .args .made;
+        cells = entry .args .cells .now;
+        size = length (set (entry .args .stack .now) 0 (point .before .before .opening .result));
+      }
+
+  abbrev turn : laws.Turn
+  turn =
+      record {
+        cells = point .loop .cells;
+        stack = point .loop .stack;
+        at = point .loop .at;
+        made = point .loop .count;
+        pos = point .loop .pos;
+        top = point .loop .top;
+      }
+
+  abbrev building : laws.Building whole turn
+  building = point .loop .inv .building
+
+  -- the innermost constructor has its place in the stack
+  placed : (1 ≤ turn .pos) × (turn .pos ≤ turn .top) × (turn .top ≤ whole .size)
+  placed = laws.building-pos building
+
+  -- the bytes are few, and so are the numbers in the stack
+  small : (turn .top ≤ turn .at) × (turn .at ≤ length (whole .v)) × (length (whole .v) ≤ most .bytes)
+  small = (omega (arith, building .past), building .inside, entry .pre .1 .small)
+
+  -- the stack is as long as it was
+  as-long : length (turn .stack) ≡ length (entry .args .stack .now)
+  as-long = building .stack-long ∙ length-set (entry .args .stack .now) 0 (point .before .before .opening .result)
+
+-- an argument of the innermost constructor is read: a leaf, or a constructor
+abbrev leaf : tie.After-known-told Inv-loop μ-loop → tie.After-head-at Inv-loop μ-loop
+leaf p = p .before .before .before
+
+abbrev node : tie.After-opening2 Inv-loop μ-loop → tie.After-head-at Inv-loop μ-loop
+node p = p .before .before .before .before
+
+abbrev read : tie.After-head-at Inv-loop μ-loop → tie.At-loop Inv-loop μ-loop
+read p = p .before .before
+
+-- there is a row for the innermost constructor
+abbrev closes : tie.Else2 Inv-loop μ-loop → tie.At-loop Inv-loop μ-loop
+closes p = p .before .before
+
+-- after its row is made
+module _ (point : tie.After-around-of Inv-loop μ-loop) where
+  abbrev stored : tie.After-store-cell Inv-loop μ-loop
+  stored = point .before .before .before
+
+  abbrev coded : tie.After-code-of Inv-loop μ-loop
+  coded = stored .before .before
+
+  abbrev roomy : tie.Else2 Inv-loop μ-loop
+  roomy = coded .before .before .before
+
+  abbrev here : tie.At-loop Inv-loop μ-loop
+  here = closes roomy
+
+  abbrev closing :
+      laws.Closing (whole here) (turn here) (coded .code-of .result) (here .loop .n) (point .around-of .result)
+      (stored .store-cell .last .0)
+  closing =
+      record {
+        looping = here .loop .inv;
+        w = getD (turn here .stack) (turn here .pos - 1) 0;
+        looked = record { number = refl; code-is = coded .code-of .ensures };
+        stop = roomy .before .if1 .left;
+        row = roomy .if2 .left;
+        stored = stored .store-cell .ensures;
+        same = stored .store-cell .kept .0;
+        out-is = point .around-of .ensures;
+      }
+
+loop-holds : tie.Need-loop-holds Inv-loop μ-loop
+loop-holds c = search laws.building-start
+
+sub-if1 : tie.Need-sub-if1 Inv-loop μ-loop
+sub-if1 c = omega (arith, placed c)
+
+head-at-requires : tie.Need-head-at-requires Inv-loop μ-loop
+head-at-requires c κs = laws.building-ahead (c .before .loop .inv) (c .if1 .taken)
+
+slice-write-stack-2 : tie.Need-slice-write-stack-2 Inv-loop μ-loop
+slice-write-stack-2 c = search (laws.building-inside, read (leaf c) .loop .inv)
+
+loop-less : tie.Need-loop-less Inv-loop μ-loop
+loop-less c =
+    let past = laws.leaf-past (leaf c .head-at .result) (c .before .head .given .1) (leaf c .head-at .ensures .1) in
+    omega arith
+
+loop-again : tie.Need-loop-again Inv-loop μ-loop
+loop-again c = search (laws.building-leaf, read (leaf c) .loop .inv)
+
+opening-requires-2 : tie.Need-opening-requires-2 Inv-loop μ-loop
+opening-requires-2 c κs = let p = read (c .before .before .before) in omega (arith, placed p, small p)
+
+slice-write-stack-3 : tie.Need-slice-write-stack-3 Inv-loop μ-loop
+slice-write-stack-3 c = search (laws.building-inside, read (node c) .loop .inv)
+
+loop-less-2 : tie.Need-loop-less-2 Inv-loop μ-loop
+loop-less-2 c =
+    let p = node (c .before) in
+    let taken = laws.node-takes (p .head-at .result) (c .before .before .before .head2 .given .1) (p .head-at .ensures .1) in
+    omega (arith, small (read p))
+
+loop-again-2 : tie.Need-loop-again-2 Inv-loop μ-loop
+loop-again-2 c = search (laws.building-node, read (node (c .before)) .loop .inv)
+
+same-length-2 : tie.Need-same-length-2 Inv-loop μ-loop
+same-length-2 c = as-long (c .before .before)
+
+returns : tie.Need-returns Inv-loop μ-loop
+returns c = (laws.building-full (c .before .before .loop .inv) (c .before .if1 .left) (c .if2 .taken), tt)
+
+sub-w : tie.Need-sub-w Inv-loop μ-loop
+sub-w c = omega (arith, placed (closes c))
+
+mul-w : tie.Need-mul-w Inv-loop μ-loop
+mul-w c = let p = closes c in omega (arith, placed p, small p)
+
+slice-read-w : tie.Need-slice-read-w Inv-loop μ-loop
+slice-read-w c = let p = closes (c .before) in omega (arith, placed p, building p .stack-long)
+
+store-cell-requires : tie.Need-store-cell-requires Inv-loop μ-loop
+store-cell-requires c κs =
+    let roomy = c .before .before .before .before in
+    let p = closes roomy in (
+      (omega (arith, entry p .pre .1 .few), omega (arith, entry p .pre .1 .rows-long, building p .as-long)),
+      laws.building-fits (p .loop .inv) (roomy .before .if1 .left),
+    )
+
+same-length-4 : tie.Need-same-length-4 Inv-loop μ-loop
+same-length-4 c = as-long (here (c .before))
+
+returns-2 : tie.Need-returns-2 Inv-loop μ-loop
+returns-2 c =
+    let d = closing (c .before) in
+    (laws.closing-made d (c .if3 .taken), laws.closing-behind d (c .if3 .taken))
+
+sub-stack : tie.Need-sub-stack Inv-loop μ-loop
+sub-stack c = omega (arith, placed (here (c .before)))
+
+mul-stack-3 : tie.Need-mul-stack-3 Inv-loop μ-loop
+mul-stack-3 c = let p = here (c .before) in omega (arith, placed p, small p)
+
+slice-write-stack-4 : tie.Need-slice-write-stack-4 Inv-loop μ-loop
+slice-write-stack-4 c = let p = here (c .before) in omega (arith, placed p, building p .stack-long)
+
+mul-code-of : tie.Need-mul-code-of Inv-loop μ-loop
+mul-code-of c = let p = here (c .before) in omega (arith, laws.closing-next (closing (c .before)) (c .if3 .left) .0, placed p, small p)
+
+slice-read-code-of : tie.Need-slice-read-code-of Inv-loop μ-loop
+slice-read-code-of c =
+    let d = c .before .before in
+    let next = laws.closing-next (closing d) (c .before .if3 .left) .1 in
+    omega (arith, laws.building-pos next, next .stack-long)
+
+loop-less-3 : tie.Need-loop-less-3 Inv-loop μ-loop
+loop-less-3 c = let open-place = c .before .before .before in omega (arith, laws.closing-next (closing (open-place .before)) (open-place .if3 .left) .0)
+
+loop-again-3 : tie.Need-loop-again-3 Inv-loop μ-loop
+loop-again-3 c =
+    let open-place = c .before .before .before in
+    laws.looping-read {building = laws.closing-next (closing (open-place .before)) (open-place .if3 .left) .1} (record { number = refl; code-is = c .before .code-of2 .ensures })
+    (c .arity-of3 .ensures)
+
+-- the function meets its contract
+pub build-nested-spec : {M : Type 1} → statement M
+build-nested-spec =
+    tie.close
+    (tie.spec
+    Inv-loop
+    μ-loop
+    (λ c κs. search needs)
+    (λ c. search needs)
+    (λ c. search needs)
+    (λ c κs. search needs)
+    loop-holds
+    sub-if1
+    head-at-requires
+    (λ c. search needs)
+    (λ c. search needs)
+    slice-write-stack-2
+    (λ c. search needs)
+    loop-less
+    loop-again
+    (λ c. search needs)
+    opening-requires-2
+    (λ c. search needs)
+    slice-write-stack-3
+    (λ c. search needs)
+    (λ c. search needs)
+    (λ c κs. search needs)
+    loop-less-2
+    loop-again-2
+    (λ c. search needs)
+    same-length-2
+    returns
+    sub-w
+    mul-w
+    slice-read-w
+    (λ c κs. search needs)
+    store-cell-requires
+    (λ c κs. search needs)
+    (λ c. search needs)
+    (λ c. search needs)
+    (λ c. search needs)
+    same-length-4
+    returns-2
+    (λ c. search needs)
+    sub-stack
+    mul-stack-3
+    slice-write-stack-4
+    (λ c. search needs)
+    (λ c. search needs)
+    mul-code-of
+    slice-read-code-of
+    (λ c κs. search needs)
+    (λ c κs. search needs)
+    loop-less-3
+    loop-again-3)
