@@ -14,7 +14,7 @@ use productions::room::start;
 use scanner::room::kind_at;
 use steps::Activation;
 use steps::taking::misfit;
-ghost use Prim.Native.Nat.{ℕ, _<_, _≤_};
+ghost use Prim.Native.Nat.{ℕ, _≤_};
 ghost use mathlib.Core.Path.{_≡_};
 ghost use mathlib.Core.List.{List};
 ghost use Rattle.expansion.specs.Expansion.{callBegun, initialState};
@@ -43,37 +43,8 @@ fn with_call(s: State) -> State
     }
 }
 
-// A call that may be begun, of a nonterminal with so many arguments: tested 17.
-fn enter(
-    room: &[u64; ROOM],
-    memory: &mut [u8; MEMORY],
-    tokens: &[u32],
-    n: usize,
-    nonterminal: u8,
-    given: usize,
-    s: State,
-) -> Begun
-    requires { ⌜ MayBegin (now room) (now memory) (now tokens) n ⌝ }
-    requires { ⌜ s .calls < mostCalls ⌝ }
-    ensures { λ r. ⌜ ((bs : List ℕ) (rows depth : ℕ) → Held bs (now (room .entry)) → Remembers bs (now (memory .entry)) → 0 < depth →
-        Starts (lentInput bs (now (tokens .entry)) n rows) bs depth nonterminal given s r (now (memory .exit))) ⌝ }
-{
-    let at = s.at;
-    let kind = kind_at(tokens, n, at);
-    let place = choose(room, memory, nonterminal, kind);
-    if place < NO_PLACE {
-        let call = Activation {
-            production: place,
-            began: at,
-            count: given,
-            next: start(room, place),
-        };
-        return Begun::Entered(call, with_call(s));
-    }
-    Begun::Refused(misfit(at, kinds_of(room, nonterminal)))
-}
-
-// The beginning of a call of a nonterminal with so many arguments, while `depth` more calls may be open: tested 19, 20, 17.
+// The beginning of a call of a nonterminal with so many arguments, while `depth` more calls may be open: tested 19, 20, 17. It has one caller, the loop
+// over calls, so that the back end lays it into that loop; the root's call is begun by a function of its own.
 pub fn begin(
     room: &[u64; ROOM],
     memory: &mut [u8; MEMORY],
@@ -96,7 +67,18 @@ pub fn begin(
     if MOST_CALLS <= calls {
         return Begun::Refused(refuse(TOO_MANY_CALLS, at as u64, 0, 0));
     }
-    enter(room, memory, tokens, n, nonterminal, given, s)
+    let kind = kind_at(tokens, n, at);
+    let place = choose(room, memory, nonterminal, kind);
+    if place < NO_PLACE {
+        let call = Activation {
+            production: place,
+            began: at,
+            count: given,
+            next: start(room, place),
+        };
+        return Begun::Entered(call, with_call(s));
+    }
+    Begun::Refused(misfit(at, kinds_of(room, nonterminal)))
 }
 
 // The beginning of the root's call, which has no arguments: none is open and none was begun, so that only 17 is tested.
@@ -117,5 +99,16 @@ pub fn begin_root(
         calls: 0,
         made: 0,
     };
-    enter(room, memory, tokens, n, root, 0, s)
+    let kind = kind_at(tokens, n, 0);
+    let place = choose(room, memory, root, kind);
+    if place < NO_PLACE {
+        let call = Activation {
+            production: place,
+            began: 0,
+            count: 0,
+            next: start(room, place),
+        };
+        return Begun::Entered(call, with_call(s));
+    }
+    Begun::Refused(misfit(0, kinds_of(room, root)))
 }

@@ -1,5 +1,7 @@
--- `begin`: tested 19, 20; then it is entered.
+-- `begin`: tested 19, 20, 17.
+use mathlib.Core.Path.{_∙_}
 use borrow.Author.Needs.{needs}
+use Rattle.choices.proofs.ChoiceLaws.{kinds-are}
 use Rattle.turns.proofs.BeginLaws as laws
 use Rattle.turns.proofs.begins.begin.Statement.{statement}
 use Rattle.turns.proofs.begins.begin.Tie as tie
@@ -14,8 +16,19 @@ returns-2 c =
 
 returns-3 : tie.Need-returns-3
 returns-3 c =
-    let else2 = c .before .before in
-    λ bs rows h m. c .enter .ensures bs rows _ h m (laws.positive _ (else2 .before .if1 .left))
+    let choose-place = c .before .before .before in
+    let kind-place = choose-place .before .before in
+    λ bs rows h m.
+    laws.starts-at h _ _ rows _ _ _ _ (kind-place .before .before .if1 .left) (kind-place .before .if2 .left) (kind-place .kind-at .ensures)
+    (choose-place .choose .ensures bs h m) (c .before .before .if3 .taken) (c .before .start .ensures) (c .with-call .ensures)
+
+returns-4 : tie.Need-returns-4
+returns-4 c =
+    let choose-place = c .before .before .before in
+    let kind-place = choose-place .before .before in
+    λ bs rows h m.
+    laws.starts-nowhere h _ _ rows _ _ _ _ (kind-place .before .before .if1 .left) (kind-place .before .if2 .left) (kind-place .kind-at .ensures)
+    (choose-place .choose .ensures bs h m) (c .before .before .if3 .left) (c .before .kinds-of .ensures ∙ kinds-are h _) (c .misfit .ensures)
 
 -- the function meets its contract
 pub begin-spec : {M : Type 1} → statement M
@@ -27,4 +40,10 @@ begin-spec =
     (λ c κs. search needs)
     returns-2
     (λ c κs. search needs)
-    returns-3)
+    (λ c κs. search needs)
+    (λ c κs. search needs)
+    (λ c κs. search needs)
+    returns-3
+    (λ c κs. search needs)
+    (λ c κs. search needs)
+    returns-4)
