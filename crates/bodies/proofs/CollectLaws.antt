@@ -1,21 +1,15 @@
 -- Laws of the walk over a block that collects its heads: what is left gives what the whole gives.
-use Prim.Native.Nat.{ℕ, _+_}
-use mathlib.Core.Path.{_≡_, refl, sym, ap, _∙_}
+use Prim.Native.Nat.{ℕ, _≤_}
+use mathlib.Core.Path.{_≡_, refl, sym, _∙_}
 use mathlib.Core.Bool.{Bool, true, false}
 use mathlib.Core.List.{List}
-use lib.Dec.{eqb}
-use lib.ListN.{length, drop}
-use borrow.Author.Tests.{eq-eqb, ne-eqb}
+use lib.ListN.{length}
 use Rattle.answers.specs.declared.Verdict.{Verdict}
 use Rattle.answers.specs.declared.Verdict.the-variants.{Passed, Refused}
 use Rattle.answers.specs.Refusals.{refusal}
-use Rattle.spellings.proofs.BytesLaws.{by-test}
-use Rattle.grammar.specs.declared.Front.{Front}
-use Rattle.grammar.specs.declared.Front.the-variants.{Nothing, Short, Field}
-use Rattle.grammar.specs.Fields.{RawFields, next}
-use Rattle.grammar.specs.Lookup.{frontOf, fieldsAt}
-pub use Rattle.grammar.proofs.LookupLaws.{front-inside}
-use Rattle.grammar.proofs.LookupLaws.{opened, fields-at}
+use Rattle.grammar.specs.declared.FieldSpan.{FieldSpan}
+use Rattle.grammar.specs.Lookup.{fieldAt, fieldsAt}
+use Rattle.grammar.proofs.LookupLaws.{Walk, walk-field, walk-end}
 use Rattle.bodies.specs.ByFields.{endsBlock}
 use Rattle.bodies.specs.declared.Fault.{Fault}
 use Rattle.bodies.specs.declared.Tested.{Tested}
@@ -35,35 +29,32 @@ pub record Collecting (bs : List ℕ) (block from : ℕ) (heads₀ : List ℕ) (
 pub collecting-start : {bs : List ℕ} {block from : ℕ} {heads₀ : List ℕ} → Collecting bs block from heads₀ from heads₀
 collecting-start = record { as-many = refl; rest = refl }
 
+collect-walk : (bs : List ℕ) (block : ℕ) (heads : List ℕ) → Walk (λ fs. collectFrom fs bs block heads) (collected Passed heads)
+unfolding collectFrom
+collect-walk bs block heads = record { at-end = λ at. refl; at-cut = λ at. refl; at-none = λ at to. refl }
+
 module _ {bs : List ℕ} {block from : ℕ} {heads₀ : List ℕ} {at : ℕ} {heads : List ℕ} (collecting : Collecting bs block from heads₀ at heads) where
-  left : {front : Front} → front ≡ frontOf (drop at bs) → collectFrom (opened bs at front) bs block heads ≡ collectFrom (fieldsAt bs from) bs block heads₀
-  left e = cc (fields-at bs at e, collecting .rest)
-
   -- at the end
-  pub collecting-nothing : Nothing ≡ frontOf (drop at bs) → collected Passed heads ≡ collectFrom (fieldsAt bs from) bs block heads₀
-  unfolding collectFrom
-  collecting-nothing e = left e
+  pub collecting-end : length bs ≤ at → collected Passed heads ≡ collectFrom (fieldsAt bs from) bs block heads₀
+  collecting-end h = sym (walk-end (collect-walk bs block heads) bs at h) ∙ collecting .rest
 
-  -- at a field that runs past the end
-  pub collecting-short : Short ≡ frontOf (drop at bs) → collected Passed heads ≡ collectFrom (fieldsAt bs from) bs block heads₀
-  unfolding collectFrom
-  collecting-short e = left e
-
-  module _ {tag size : ℕ} (equal : Field tag size ≡ frontOf (drop at bs)) where
+  module _ {field : FieldSpan} (equal : field ≡ fieldAt bs at) where
     -- the field, by whether it ends the block
-    field-is : (ends : Bool) → endsBlock tag ≡ ends
+    field-is : (ends : Bool) → endsBlock (field .tag) ≡ ends
         → choose (collected Passed heads)
-        (collectAfter (faultAt tag bs at block heads) at heads (collectFrom (fieldsAt bs (at + 3 + size)) bs block (headsWith tag bs at heads)))
+        (collectAfter (faultAt (field .tag) bs at block heads) at heads
+        (collectFrom (fieldsAt bs (field .to)) bs block (headsWith (field .tag) bs at heads)))
         ends
         ≡ collectFrom (fieldsAt bs from) bs block heads₀
     unfolding collectFrom
-    field-is ends e = cc (left equal)
+    field-is ends e = cc (walk-field (collect-walk bs block heads) bs at equal, collecting .rest)
 
     -- at the next block or the root
-    pub collecting-ends : endsBlock tag ≡ true → collected Passed heads ≡ collectFrom (fieldsAt bs from) bs block heads₀
+    pub collecting-ends : endsBlock (field .tag) ≡ true → collected Passed heads ≡ collectFrom (fieldsAt bs from) bs block heads₀
     collecting-ends e = field-is true e
 
-    module _ {tested : Tested} {heads′ : List ℕ} (agrees : endsBlock tag ≡ false) (defined : Defined bs at tag block heads tested heads′) where
+    module _ {tested : Tested} {heads′ : List ℕ} (agrees : endsBlock (field .tag) ≡ false)
+        (defined : Defined bs at (field .tag) block heads tested heads′) where
       -- at a head that is refused
       pub collecting-fault :
           {fault : Fault} {number : ℕ} {verdict : Verdict} → tested ≡ Faulty fault → number ≡ causeOf fault → verdict ≡ Refused (refusal number at 0 0)
@@ -71,6 +62,6 @@ module _ {bs : List ℕ} {block from : ℕ} {heads₀ : List ℕ} {at : ℕ} {he
       collecting-fault f n q = cc (field-is false agrees, defined .tested-is, defined .heads-are)
 
       -- one field more
-      pub collecting-next : length heads′ ≡ length heads → tested ≡ Sound → Collecting bs block from heads₀ (at + 3 + size) heads′
+      pub collecting-next : length heads′ ≡ length heads → tested ≡ Sound → Collecting bs block from heads₀ (field .to) heads′
       collecting-next l z =
           record { as-many = l ∙ collecting .as-many; rest = cc (field-is false agrees, defined .tested-is, defined .heads-are) }

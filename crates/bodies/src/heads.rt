@@ -4,14 +4,13 @@ use crate::Tested;
 use crate::faults::cause_of;
 use answers::Verdict;
 use answers::refused;
-use grammar::Front;
 use grammar::codes::BLOCK_TAG;
 use grammar::codes::EXTEND;
 use grammar::codes::HEAD_TAG;
 use grammar::codes::HEADER;
 use grammar::codes::ROOT_TAG;
 use grammar::codes::UPDATE;
-use grammar::front_at;
+use grammar::field_at;
 use grammar::limits::MOST_PARAMETERS;
 use grammar::reader::byte;
 use grammar::reader::part;
@@ -114,29 +113,21 @@ pub fn collect(heads: &mut [u16], table: &[u8], block: usize, from: usize) -> Ve
     ensures { λ r. ⌜ collected r (now (heads .exit)) ≡ collectAt (now (table .entry)) block from (now (heads .entry)) ⌝ }
 {
     let mut at = from;
-    loop {
-        let front = front_at(table, at);
-        match front {
-            Front::Nothing => {
-                return Verdict::Passed;
+    while at < table.len() {
+        let field = field_at(table, at);
+        let tag = field.tag;
+        if (tag == BLOCK_TAG) | (tag == ROOT_TAG) {
+            return Verdict::Passed;
+        }
+        let tested = define(heads, table, at, tag, block);
+        match tested {
+            Tested::Faulty(fault) => {
+                return refused(cause_of(fault), at);
             }
-            Front::Short => {
-                return Verdict::Passed;
-            }
-            Front::Field(tag, size) => {
-                let to = at + HEADER + size;
-                if (tag == BLOCK_TAG) | (tag == ROOT_TAG) {
-                    return Verdict::Passed;
-                }
-                let tested = define(heads, table, at, tag, block);
-                match tested {
-                    Tested::Faulty(fault) => {
-                        return refused(cause_of(fault), at);
-                    }
-                    Tested::Sound => {}
-                }
-                at = to;
+            Tested::Sound => {
+                at = field.to;
             }
         }
     }
+    Verdict::Passed
 }

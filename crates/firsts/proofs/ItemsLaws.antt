@@ -3,9 +3,9 @@ use Prim.Native.Nat.{ℕ, _-_, _<_, _≤_}
 use mathlib.Core.Path.{_≡_, refl, sym, ap, _∙_}
 use mathlib.Core.Bool.{Bool, true, false, _&&_}
 use mathlib.Core.List.{List, []}
-use lib.ListN.{length, drop}
+use lib.ListN.{length}
 use Rattle.grammar.specs.Table.{keyword, ide, number, Item, terminal, local, call}
-use Rattle.grammar.specs.Lookup.{frontOf, fieldsAt}
+use Rattle.grammar.specs.Lookup.{fieldAt, fieldsAt}
 use Rattle.productions.specs.Index.{itemsOf}
 use Rattle.productions.specs.declared.Symbol.{Symbol}
 use Rattle.productions.specs.declared.SymbolStep.the-variants.{Done, Past}
@@ -68,7 +68,7 @@ pub family-is : {family other : Family} → family ≡ other → (item : Item) �
 family-is e item = rw e refl
 
 -- whether the code's test passes the item that stands here
-passes : (bs : List ℕ) (at nulls : ℕ) {symbol : Symbol} {after : ℕ} (equal : Past symbol after ≡ symbolStep bs at (frontOf (drop at bs))) {test : Bool}
+passes : (bs : List ℕ) (at nulls : ℕ) {symbol : Symbol} {after : ℕ} (equal : Past symbol after ≡ symbolStep bs (fieldAt bs at)) {test : Bool}
     → test ≡ isNullable nulls (withSymbol symbol)
     → test ≡ isNullable nulls (stepped bs at equal .item)
 passes bs at nulls equal eb =
@@ -88,14 +88,14 @@ module _ {bs : List ℕ} {nulls start at : ℕ} (all-passing : AllNullable bs nu
   all-none e = sym (ap (allNullable nulls) e) ∙ all-passing .rest
 
   -- no item is left
-  pub all-done : Done ≡ symbolStep bs at (frontOf (drop at bs)) → true ≡ allNullable nulls (itemsOf (fieldsAt bs start))
+  pub all-done : Done ≡ symbolStep bs (fieldAt bs at) → true ≡ allNullable nulls (itemsOf (fieldsAt bs start))
   all-done e = all-none (stepped bs at e)
 
   -- nor at the end
   pub all-end : length bs ≤ at → true ≡ allNullable nulls (itemsOf (fieldsAt bs start))
   all-end h = all-none (items-end bs at h)
 
-  module _ {symbol : Symbol} {after : ℕ} (equal : Past symbol after ≡ symbolStep bs at (frontOf (drop at bs))) {test : Bool}
+  module _ {symbol : Symbol} {after : ℕ} (equal : Past symbol after ≡ symbolStep bs (fieldAt bs at)) {test : Bool}
       (eb : test ≡ isNullable nulls (withSymbol symbol)) where
     all-one : (test && allNullable nulls (itemsOf (fieldsAt bs after))) ≡ allNullable nulls (itemsOf (fieldsAt bs start))
     unfolding allNullable
@@ -123,14 +123,14 @@ module _ {bs : List ℕ} {own : Item → ℕ} {nulls : ℕ} {sets : List ℕ} {s
   gather-none e = rw e at (gathering .rest)
 
   -- no item is left
-  pub gather-done : Done ≡ symbolStep bs at (frontOf (drop at bs)) → found ≡ gather own nulls sets (itemsOf (fieldsAt bs start)) 0
+  pub gather-done : Done ≡ symbolStep bs (fieldAt bs at) → found ≡ gather own nulls sets (itemsOf (fieldsAt bs start)) 0
   gather-done e = gather-none (stepped bs at e)
 
   -- nor at the end
   pub gather-end : length bs ≤ at → found ≡ gather own nulls sets (itemsOf (fieldsAt bs start)) 0
   gather-end h = gather-none (items-end bs at h)
 
-  module _ {symbol : Symbol} {after : ℕ} (equal : Past symbol after ≡ symbolStep bs at (frontOf (drop at bs))) {more : ℕ}
+  module _ {symbol : Symbol} {after : ℕ} (equal : Past symbol after ≡ symbolStep bs (fieldAt bs at)) {more : ℕ}
       (by : BySymbol own) (em : more ≡ joined own sets (withSymbol symbol) found) {test : Bool} (eb : test ≡ isNullable nulls (withSymbol symbol)) where
     finds : more ≡ joined own sets (stepped bs at equal .item) found
     finds =
@@ -172,12 +172,12 @@ module _ {bs : List ℕ} {nulls : ℕ} {kinds calls : List ℕ} {start read call
   together ek el eb er = er ∙ rw (ek, el, eb) refl
 
   -- no item is left
-  pub walk-done : Done ≡ symbolStep bs at (frontOf (drop at bs)) → {given-gathered : Gathered}
+  pub walk-done : Done ≡ symbolStep bs (fieldAt bs at) → {given-gathered : Gathered}
       → given-gathered ≡ record { kinds = read; calls = called; nullable = true } → given-gathered ≡ whole
   walk-done e = together (gather-done (walking .reading) e) (gather-done (walking .calling) e) (all-done (walking .passing) e)
 
   -- behind an item less is left
-  pub walk-less : {symbol : Symbol} {after : ℕ} → Past symbol after ≡ symbolStep bs at (frontOf (drop at bs)) → length bs - after < length bs - at
+  pub walk-less : {symbol : Symbol} {after : ℕ} → Past symbol after ≡ symbolStep bs (fieldAt bs at) → length bs - after < length bs - at
   walk-less = step-less bs at
 
   -- nor at the end
@@ -185,7 +185,7 @@ module _ {bs : List ℕ} {nulls : ℕ} {kinds calls : List ℕ} {start read call
       → given-gathered ≡ whole
   walk-end h = together (gather-end (walking .reading) h) (gather-end (walking .calling) h) (all-end (walking .passing) h)
 
-  module _ {symbol : Symbol} {after : ℕ} (equal : Past symbol after ≡ symbolStep bs at (frontOf (drop at bs))) {kinds-read calls-read : ℕ}
+  module _ {symbol : Symbol} {after : ℕ} (equal : Past symbol after ≡ symbolStep bs (fieldAt bs at)) {kinds-read calls-read : ℕ}
       (ek : kinds-read ≡ joined openingOf kinds (withSymbol symbol) read)
       (el : calls-read ≡ joined callOf calls (withSymbol symbol) called) {test : Bool} (eb : test ≡ isNullable nulls (withSymbol symbol)) where
     -- past an item that may read nothing

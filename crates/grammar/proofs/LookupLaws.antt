@@ -7,18 +7,20 @@ use native.Mathlib.Nat.{add-assoc, add-zero}
 use native.Mathlib.Omega.{arith}
 use lib.Dec.{eqb, leb, ltb, leb·suc-suc}
 use lib.ListN.{length, getD, take, drop, length-drop, length-take, drop-of-length-le}
-use lib.Seq.{getD-drop, drop-drop}
+use lib.Seq.{getD-drop, drop-drop, take-nil}
 use borrow.Author.Tests.{lt-ltb, ltb-true, eq-eqb, ne-eqb, le-leb, lt-leb, leb-true, eqb-true, eqb-false}
 use Rattle.spellings.specs.Bytes.{same, indexOf}
 use Rattle.spellings.proofs.BytesLaws.{index-found}
 use Rattle.grammar.specs.declared.Front.{Front}
 use Rattle.grammar.specs.declared.Front.the-variants.{Nothing, Short, Field}
+use Rattle.grammar.specs.declared.FieldSpan.{FieldSpan}
 use Rattle.grammar.specs.declared.Found.{Found}
 use Rattle.grammar.specs.declared.Found.the-variants.{At, Absent}
 use Rattle.grammar.specs.Fields.{RawFields, end, cut, next, sizeOf, fieldsFrom, fieldsOf}
 use Rattle.grammar.specs.Limits.{most}
-use Rattle.grammar.specs.Lookup.{leading, afterLeading, lexiconOf, frontOf, fieldsAt}
+use Rattle.grammar.specs.Lookup.{leading, afterLeading, lexiconOf, frontOf, spanBy, fieldAt, valueIn, fieldsAt}
 use Rattle.grammar.specs.Found.{foundIn}
+use Rattle.grammar.proofs.ReaderLaws.{part-within}
 
 -- ------------------------------------------------------------------ what stands at an offset
 
@@ -162,6 +164,72 @@ pub fields-of : (table : List ℕ) → fieldsOf table ≡ fieldsAt table 0
 unfolding fieldsOf fieldsAt
 fields-of table = refl
 
+-- ------------------------------------------------------------------ the field at an offset
+
+-- by what stands there
+pub field-is : (table : List ℕ) (at : ℕ) {front : Front} → front ≡ frontOf (drop at table) → spanBy table at front ≡ fieldAt table at
+unfolding fieldAt
+field-is table at e = rw e refl
+
+-- A field lies in its table, and its end behind the offset at which it is read.
+pub record Lies (table : List ℕ) (at : ℕ) (field : FieldSpan) : Type 0 where
+  -- its value begins before it ends
+  pub ordered : field .from ≤ field .to
+  -- it ends within the table
+  pub inside : field .to ≤ length table
+  -- and further than it was read, if that is within
+  pub further : at < length table → at < field .to
+  -- a field that is there is its header and its value
+  pub whole : (field .tag ≡ 0 → ⊥) → field .to ≡ at + 3 + length (valueIn table field)
+
+lies-by : (table : List ℕ) (at : ℕ) (front : Front) → Inside table at front → Lies table at (spanBy table at front)
+lies-by table at Nothing i = record { ordered = omega arith; inside = omega arith; further = λ h. omega arith; whole = λ n. absurd (n refl) }
+lies-by table at Short i = record { ordered = omega arith; inside = omega arith; further = λ h. omega arith; whole = λ n. absurd (n refl) }
+lies-by table at (Field t n) i =
+    record {
+      ordered = omega arith;
+      inside = omega arith;
+      further = λ h. omega arith;
+      whole = λ k. simp (part-within table (at + 3) n, length-take, length-drop) (omega arith);
+    }
+
+-- so does what is read at any offset
+pub field-lies : (table : List ℕ) (at : ℕ) {field : FieldSpan} → field ≡ fieldAt table at → Lies table at field
+unfolding fieldAt
+field-lies table at e = rw e (lies-by table at (frontOf (drop at table)) (front-inside table at refl))
+
+-- A walk over fields that gives the same at the end, at a field that is cut and at a last field of tag 0 without a value.
+pub record Walk {A : Type 0} (walk : RawFields → A) (last : A) : Type 0 where
+  pub at-end : (at : ℕ) → walk (end at) ≡ last
+  pub at-cut : (at : ℕ) → walk (cut at) ≡ last
+  pub at-none : (at to : ℕ) → walk (next at 0 [] (end to)) ≡ last
+
+module _ {A : Type 0} {walk : RawFields → A} {last : A} (given-walk : Walk walk last) (table : List ℕ) (at : ℕ) where
+  nothing-there : walk (next at 0 (take (length table - length table) (drop (length table) table)) (fieldsAt table (length table))) ≡ last
+  nothing-there =
+      rw (
+        drop-of-length-le table {i = length table} (omega arith),
+        take-nil,
+        fields-at table (length table) (sym (front-nothing table (length table) (omega arith))),
+      )
+      (given-walk .at-none at (length table))
+
+  walk-by : (front : Front) → walk (opened table at front)
+      ≡ walk (next at (spanBy table at front .tag) (valueIn table (spanBy table at front)) (fieldsAt table (spanBy table at front .to)))
+  walk-by Nothing = given-walk .at-end at ∙ sym nothing-there
+  walk-by Short = given-walk .at-cut at ∙ sym nothing-there
+  walk-by (Field t n) = cc (part-within table (at + 3) n)
+
+  -- From an offset on it gives what the field that is read there and those behind it give, whatever stands there.
+  pub walk-field : {field : FieldSpan} → field ≡ fieldAt table at
+      → walk (fieldsAt table at) ≡ walk (next at (field .tag) (valueIn table field) (fieldsAt table (field .to)))
+  unfolding fieldAt
+  walk-field e = rw e (ap walk (fields-at table at refl) ∙ walk-by (frontOf (drop at table)))
+
+  -- at the end nothing more
+  pub walk-end : length table ≤ at → walk (fieldsAt table at) ≡ last
+  walk-end h = ap walk (fields-at table at (sym (front-nothing table at h))) ∙ given-walk .at-end at
+
 -- ------------------------------------------------------------------ the search for a spelling
 
 -- a place in a list that follows i spellings
@@ -230,25 +298,41 @@ module _ (table : List ℕ) (at tag : ℕ) where
 
 -- ------------------------------------------------------------------ the loops
 
+-- what is read there has another tag
+stops-by : (table : List ℕ) (at tag : ℕ) (front : Front) → (spanBy table at front .tag ≡ tag → ⊥) → Stops tag front
+stops-by table at tag Nothing h = tt
+stops-by table at tag Short h = tt
+stops-by table at tag (Field t n) h = h
+
 -- the fields of the tag before `at` are passed
 pub record Passing (table : List ℕ) (tag at : ℕ) : Type 0 where
   -- what stands behind the leading fields is the same from here
   pub rest : afterLeading tag (fieldsAt table at) ≡ afterLeading tag (fieldsAt table 0)
 
 module _ {table : List ℕ} {tag at : ℕ} (passing : Passing table tag at) where
-  -- at another field, or at none, the leading fields are passed
-  pub passing-out : (front : Front) → front ≡ frontOf (drop at table) → Stops tag front
-      → fieldsAt table at ≡ afterLeading tag (fieldsAt table 0)
-  passing-out front e h =
+  passing-front : {front : Front} → front ≡ frontOf (drop at table) → Stops tag front → fieldsAt table at ≡ afterLeading tag (fieldsAt table 0)
+  passing-front {front} e h =
       fields-at table at e ∙ sym (after-stop table at tag front h) ∙ sym (ap (afterLeading tag) (fields-at table at e)) ∙ passing .rest
 
+  -- at another field, or at none, the leading fields are passed
+  pub passing-out : {field : FieldSpan} → field ≡ fieldAt table at → (field .tag ≡ tag → ⊥) → fieldsAt table at ≡ afterLeading tag (fieldsAt table 0)
+  unfolding fieldAt
+  passing-out e h = passing-front refl (stops-by table at tag (frontOf (drop at table)) (rw e at h))
+
+  -- and at the end
+  pub passing-end : length table ≤ at → fieldsAt table at ≡ afterLeading tag (fieldsAt table 0)
+  passing-end h = passing-front (sym (front-nothing table at h)) tt
+
+  next-by : 0 < tag → (front : Front) → front ≡ frontOf (drop at table) → spanBy table at front .tag ≡ tag
+      → Passing table tag (spanBy table at front .to)
+  next-by h Nothing e f = absurd (omega arith)
+  next-by h Short e f = absurd (omega arith)
+  next-by h (Field t n) e f = record { rest = cc (after-goes table at tag t _ _ f, fields-at table at e, passing .rest) }
+
   -- one leading field is passed
-  pub passing-next : {found size : ℕ} → Field found size ≡ frontOf (drop at table) → found ≡ tag → Passing table tag (at + (3 + size))
-  passing-next {found} {size} e h =
-      record {
-        rest =
-            cc (add-assoc at 3 size, after-goes table at tag found _ _ h, fields-at table at e, passing .rest);
-      }
+  pub passing-next : {field : FieldSpan} → 0 < tag → field ≡ fieldAt table at → field .tag ≡ tag → Passing table tag (field .to)
+  unfolding fieldAt
+  passing-next h e f = rw e (next-by h (frontOf (drop at table)) refl (rw e at f))
 
 -- ------------------------------------------------------------------ the lexicon of a table
 

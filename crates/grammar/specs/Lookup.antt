@@ -1,12 +1,13 @@
 -- A table's fields from an offset on, and the keywords and outside names that stand at its front, for any bytes. These definitions mirror code:
 -- nobody needs them to believe `expand`.
-use Prim.Native.Nat.{ℕ, _+_}
+use Prim.Native.Nat.{ℕ, _+_, _-_}
 use mathlib.Core.Bool.{true, false}
 use mathlib.Core.List.{List, [], _∷_}
 use lib.Dec.{eqb, leb}
 use lib.ListN.{length, getD, drop, take}
 use Rattle.grammar.specs.declared.Front.{Front}
 use Rattle.grammar.specs.declared.Front.the-variants.{Nothing, Short, Field}
+use Rattle.grammar.specs.declared.FieldSpan.{FieldSpan}
 use Rattle.grammar.specs.Limits.{most}
 use Rattle.grammar.specs.Table.{Lexicon}
 use Rattle.grammar.specs.Fields.{RawFields, sizeOf, fieldsFrom, fieldsOf, end, cut, next}
@@ -18,6 +19,20 @@ frontOf rest =
       | true ↦ Nothing
       | false ↦ elim (leb (3 + sizeOf rest) (length rest)) [ true ↦ Field (getD rest 0 0) (sizeOf rest) | false ↦ Short ]
     ]
+
+-- a field as it lies in a table: its tag, and where its value begins and ends; where no whole field stands, tag 0 and no value, at the end
+abbrev pub spanBy : List ℕ → ℕ → Front → FieldSpan
+spanBy table at Nothing = record { tag = 0; from = length table; to = length table }
+spanBy table at Short = record { tag = 0; from = length table; to = length table }
+spanBy table at (Field tag size) = record { tag = tag; from = at + 3; to = at + 3 + size }
+
+-- the field at an offset
+unfoldable pub fieldAt : List ℕ → ℕ → FieldSpan
+fieldAt table at = spanBy table at (frontOf (drop at table))
+
+-- its value
+abbrev pub valueIn : List ℕ → FieldSpan → List ℕ
+valueIn table field = take (field .to - field .from) (drop (field .from) table)
 
 -- a table's fields from an offset on; at 0 these are `fieldsOf` the table
 unfoldable pub fieldsAt : List ℕ → ℕ → RawFields

@@ -7,14 +7,13 @@ use native.Mathlib.Nat.{sub-zero, zero-add, add-zero}
 use native.Mathlib.Numerals.{add-one}
 use native.Mathlib.Omega.{arith}
 use lib.Dec.{eqb}
-use lib.ListN.{length, getD, set, take, drop, length-set, length-take, length-drop}
+use lib.ListN.{length, getD, set, length-set}
 use lib.Seq.{getD-set-same, getD-set-other, append-snoc}
 use borrow.Author.Tests.{eq-eqb, ne-eqb}
 use Rattle.grammar.specs.Fields.{RawFields, next}
-use Rattle.grammar.specs.declared.Front.{Front}
-use Rattle.grammar.specs.declared.Front.the-variants.{Nothing, Short, Field}
-use Rattle.grammar.specs.Lookup.{frontOf, fieldsAt}
-use Rattle.grammar.proofs.LookupLaws.{fields-at, fields-of, front-inside, front-nothing, opened}
+use Rattle.grammar.specs.declared.FieldSpan.{FieldSpan}
+use Rattle.grammar.specs.Lookup.{fieldAt, valueIn, fieldsAt}
+use Rattle.grammar.proofs.LookupLaws.{fields-of, field-lies, Walk, walk-field, walk-end}
 use Rattle.decoding.specs.Decode.{modeOf}
 use Rattle.productions.specs.Index.{Place, placesFrom, placesIn, placesBy, placesOf, placesWithout, placesKept, alternativeFields}
 use Rattle.productions.specs.IndexCalls.{IndexRoomFor, Index, FitsIndex}
@@ -247,6 +246,14 @@ module _ (at tag : ℕ) (value : List ℕ) (fs : RawFields) where
   unfolding alternativeFields
   fields-other e = rw (ne-eqb tag 5 e, alternativeFields) refl
 
+places-walk : (nonterminal : ℕ) (places : List Place) → Walk (λ fs. placesBy fs nonterminal places) places
+unfolding placesBy
+places-walk nonterminal places = record { at-end = λ at. refl; at-cut = λ at. refl; at-none = λ at to. refl }
+
+alternatives-walk : Walk alternativeFields 0
+unfolding alternativeFields
+alternatives-walk = record { at-end = λ at. refl; at-cut = λ at. refl; at-none = λ at to. refl }
+
 -- the fields before `at` gave the first `count` entries, and `nonterminal` is the nonterminal of the alternatives to come
 pub record Building (bs : List ℕ) (at nonterminal count : ℕ) (owners starts : List ℕ) : Type 0 where
   -- the table is not too long
@@ -267,100 +274,65 @@ building-start bs owners starts h =
     }
 
 module _ {bs : List ℕ} {at nonterminal count : ℕ} {owners starts : List ℕ} (building : Building bs at nonterminal count owners starts) where
-  -- by what stands at the offset
-  rest-by : {front : Front} → front ≡ frontOf (drop at bs) → placesBy (opened bs at front) nonterminal (placesIn count owners starts) ≡ placesOf bs
-  rest-by e = cc (fields-at bs at e, building .rest)
-
   -- there are few places
   pub building-few : count ≤ 256
   building-few = omega (arith, building .room)
 
   -- no field is left
-  pub building-nothing : Nothing ≡ frontOf (drop at bs) → Index (placesOf bs) 256 count owners starts
-  unfolding placesBy
-  building-nothing e = record { entries = rest-by e; few = building-few }
-
-  -- or a field that is cut
-  pub building-short : Short ≡ frontOf (drop at bs) → Index (placesOf bs) 256 count owners starts
-  unfolding placesBy
-  building-short e = record { entries = rest-by e; few = building-few }
-
-  -- nor at the end
   pub building-end : length bs ≤ at → Index (placesOf bs) 256 count owners starts
-  building-end h = building-nothing (sym (front-nothing bs at h))
+  building-end h =
+      record { entries = sym (walk-end (places-walk nonterminal (placesIn count owners starts)) bs at h) ∙ building .rest; few = building-few }
 
-  module _ {tag size : ℕ} (equal : Field tag size ≡ frontOf (drop at bs)) where
-    -- a field is inside the table
-    pub building-inside : at + (3 + size) ≤ length bs
-    building-inside = front-inside bs at equal
+  module _ {field : FieldSpan} (equal : field ≡ fieldAt bs at) where
+    value : List ℕ
+    value = valueIn bs field
 
-    -- less is left behind a field
-    pub building-less : length bs - (at + 3 + size) < length bs - at
-    building-less = omega (arith, building-inside)
+    behind : RawFields
+    behind = fieldsAt bs (field .to)
 
-    count-here : alternativeFields (fieldsAt bs at) ≡ alternativeFields (opened bs at (Field tag size))
-    count-here = ap alternativeFields (fields-at bs at equal)
+    rest-here : placesBy (next at (field .tag) value behind) nonterminal (placesIn count owners starts) ≡ placesOf bs
+    unfolding value behind
+    rest-here = sym (walk-field (places-walk nonterminal (placesIn count owners starts)) bs at equal) ∙ building .rest
+
+    count-here : alternativeFields (fieldsAt bs at) ≡ alternativeFields (next at (field .tag) value behind)
+    unfolding value behind
+    count-here = walk-field alternatives-walk bs at equal
 
     -- an alternative has room
-    pub building-room : tag ≡ 5 → count < 256
-    building-room t = omega (arith, building .room, count-here, fields-alternative at tag (take size (drop (at + 3) bs)) (fieldsAt bs (at + 3 + size)) t)
-
-    -- the value as the code has it
-    value-is : take (at + 3 + size - (at + 3)) (drop (at + 3) bs) ≡ take size (drop (at + 3) bs)
-    value-is =
-        let z : at + 3 + size - (at + 3) ≡ size = omega arith in
-        rw z refl
-
-    size-is : length (take size (drop (at + 3) bs)) ≡ size
-    size-is = simp (length-take, length-drop) (omega (arith, building-inside))
+    pub building-room : field .tag ≡ 5 → count < 256
+    building-room t = omega (arith, building .room, count-here, fields-alternative at (field .tag) value behind t)
 
     -- behind the head of a definition
-    pub building-head : tag ≡ 4 → {many : ℕ} → many ≡ getD (take (at + 3 + size - (at + 3)) (drop (at + 3) bs)) 0 0
-        → {kept-count : ℕ} {owners′ starts′ : List ℕ}
-        → Index
-        (placesKept (modeOf (getD (take (at + 3 + size - (at + 3)) (drop (at + 3) bs)) 1 0))
-        (getD (take (at + 3 + size - (at + 3)) (drop (at + 3) bs)) 0 0)
-        (placesIn count owners starts))
-        count
-        kept-count
-        owners′
-        starts′
-        → Building bs (at + 3 + size) many kept-count owners′ starts′
+    pub building-head : field .tag ≡ 4 → {many : ℕ} → many ≡ getD (valueIn bs field) 0 0 → {kept-count : ℕ} {owners′ starts′ : List ℕ}
+        → Index (placesKept (modeOf (getD (valueIn bs field) 1 0)) (getD (valueIn bs field) 0 0) (placesIn count owners starts)) count kept-count owners′ starts′
+        → Building bs (field .to) many kept-count owners′ starts′
+    unfolding value behind
     building-head t em f =
-        let v : List ℕ = take size (drop (at + 3) bs) in
         record {
           short = building .short;
-          room = omega (arith, building .room, count-here, fields-other at tag v (fieldsAt bs (at + 3 + size)) (λ q. omega arith), f .few);
-          rest =
-              rw (f .entries, em, value-is)
-              (sym (places-head at tag v (fieldsAt bs (at + 3 + size)) t nonterminal (placesIn count owners starts)) ∙ rest-by equal);
+          room = omega (arith, building .room, count-here, fields-other at (field .tag) value behind (λ q. omega arith), f .few);
+          rest = rw (f .entries, em) (sym (places-head at (field .tag) value behind t nonterminal (placesIn count owners starts)) ∙ rest-here);
         }
 
     -- behind the begin of an alternative
-    pub building-alternative : tag ≡ 5 → {owners′ starts′ : List ℕ}
-        → placesIn (count + 1) owners′ starts′ ≡ placesIn count owners starts ++ (record { nonterminal = nonterminal; start = at + 3 + size } ∷ [])
-        → Building bs (at + 3 + size) nonterminal (count + 1) owners′ starts′
+    pub building-alternative : field .tag ≡ 5 → {owners′ starts′ : List ℕ}
+        → placesIn (count + 1) owners′ starts′ ≡ placesIn count owners starts ++ (record { nonterminal = nonterminal; start = field .to } ∷ [])
+        → Building bs (field .to) nonterminal (count + 1) owners′ starts′
+    unfolding value behind
     building-alternative t f =
-        let v : List ℕ = take size (drop (at + 3) bs) in
+        let ends : field .to ≡ at + 3 + length value = field-lies bs at equal .whole (λ z. omega arith) in
         record {
           short = building .short;
-          room = omega (arith, building .room, count-here, fields-alternative at tag v (fieldsAt bs (at + 3 + size)) t);
-          rest =
-              ap (placesBy (fieldsAt bs (at + 3 + size)) nonterminal) f
-              ∙ ap
-              (λ (l : ℕ). placesBy (fieldsAt bs (at + 3 + size)) nonterminal
-              (placesIn count owners starts ++ (record { nonterminal = nonterminal; start = at + 3 + l } ∷ [])))
-              (sym size-is)
-              ∙ sym (places-alternative at tag v (fieldsAt bs (at + 3 + size)) t nonterminal (placesIn count owners starts))
-              ∙ rest-by equal;
+          room = omega (arith, building .room, count-here, fields-alternative at (field .tag) value behind t);
+          rest = cc (f, places-alternative at (field .tag) value behind t nonterminal (placesIn count owners starts), rest-here);
         }
 
     -- other fields change nothing
-    pub building-other : (tag ≡ 4 → ⊥) → (tag ≡ 5 → ⊥) → Building bs (at + 3 + size) nonterminal count owners starts
+    pub building-other : (field .tag ≡ 4 → ⊥) → (field .tag ≡ 5 → ⊥) → Building bs (field .to) nonterminal count owners starts
+    unfolding behind
     building-other t u =
-        let v : List ℕ = take size (drop (at + 3) bs) in
         record {
           short = building .short;
-          room = omega (arith, building .room, count-here, fields-other at tag v (fieldsAt bs (at + 3 + size)) u);
-          rest = sym (places-other at tag v (fieldsAt bs (at + 3 + size)) t u nonterminal (placesIn count owners starts)) ∙ rest-by equal;
+          room = omega (arith, building .room, count-here, fields-other at (field .tag) value behind u);
+          rest = sym (places-other at (field .tag) value behind t u nonterminal (placesIn count owners starts)) ∙ rest-here;
         }

@@ -5,13 +5,12 @@ use mathlib.Core.Bool.{Bool, true, false}
 use mathlib.Core.List.{List, [], _∷_}
 use native.Mathlib.Omega.{arith}
 use lib.Dec.{eqb}
-use borrow.Author.Tests.{eq-eqb, ne-eqb}
-use lib.ListN.{length, getD, take, drop, List·getD-map}
+use borrow.Author.Tests.{eq-eqb, ne-eqb, eqb-true}
+use lib.ListN.{length, getD, drop, List·getD-map}
 use Rattle.grammar.specs.Table.{keyword, ide, number, kindOf, Item, terminal, local, call}
-use Rattle.grammar.specs.declared.Front.{Front}
-use Rattle.grammar.specs.declared.Front.the-variants.{Nothing, Short, Field}
-use Rattle.grammar.specs.Lookup.{frontOf, fieldsAt}
-use Rattle.grammar.proofs.LookupLaws.{fields-at, front-inside, front-nothing}
+use Rattle.grammar.specs.declared.FieldSpan.{FieldSpan}
+use Rattle.grammar.specs.Lookup.{fieldAt, valueIn, fieldsAt}
+use Rattle.grammar.proofs.LookupLaws.{field-lies, Walk, walk-field, walk-end}
 use Rattle.decoding.specs.Prefix.{templatesOf, found}
 use Rattle.decoding.specs.Decode.{itemOf}
 use Rattle.productions.specs.declared.Terminal as Code
@@ -20,7 +19,7 @@ use Rattle.productions.specs.declared.Symbol.{Symbol}
 use Rattle.productions.specs.declared.Symbol.the-variants.{Read, Local, Call}
 use Rattle.productions.specs.declared.SymbolStep.{SymbolStep}
 use Rattle.productions.specs.declared.SymbolStep.the-variants.{Done, Past}
-use Rattle.productions.specs.Symbols.{terminalIn, symbolOf, fieldStep, symbolStep}
+use Rattle.productions.specs.Symbols.{terminalIn, symbolOf, symbolStep}
 use Rattle.productions.specs.Index.{itemsOf}
 
 -- ------------------------------------------------------------------ the symbol of an item
@@ -84,46 +83,45 @@ abbrev pub Stepped : List ℕ → ℕ → SymbolStep → Type 0
 Stepped bs at Done = itemsOf (fieldsAt bs at) ≡ []
 Stepped bs at (Past s after) = ItemAt bs at s after
 
-module _ (bs : List ℕ) (at : ℕ) where
-  stepped-field : (tag size : ℕ) → Field tag size ≡ frontOf (drop at bs) → (test : Bool) → eqb tag 6 ≡ test → Stepped bs at (fieldStep bs at size test)
-  unfolding itemsOf
-  stepped-field tag size e true f =
-      record {
-        item = itemOf (take size (drop (at + 3) bs));
-        symbol = refl;
-        items = ap itemsOf (fields-at bs at e) ∙ rw (f, itemsOf) refl;
-        less = omega arith;
-        inside = omega (arith, front-inside bs at e);
-      }
-  stepped-field tag size e false f = ap itemsOf (fields-at bs at e) ∙ rw (f, itemsOf) refl
+-- the items at the front end where no item stands
+items-walk : Walk itemsOf []
+unfolding itemsOf
+items-walk = record { at-end = λ at. refl; at-cut = λ at. refl; at-none = λ at to. refl }
 
-  stepped-by : (front : Front) → front ≡ frontOf (drop at bs) → Stepped bs at (symbolStep bs at front)
+module _ (bs : List ℕ) (at : ℕ) where
+  stepped-by : (field : FieldSpan) → field ≡ fieldAt bs at → (test : Bool) → eqb (field .tag) 6 ≡ test
+      → Stepped bs at (elim test [ true ↦ Past (symbolOf (itemOf (valueIn bs field))) (field .to) | false ↦ Done ])
   unfolding itemsOf
-  stepped-by Nothing e = ap itemsOf (fields-at bs at e)
-  stepped-by Short e = ap itemsOf (fields-at bs at e)
-  stepped-by (Field t n) e = stepped-field t n e _ refl
+  stepped-by field e true f =
+      let lies = field-lies bs at e in
+      let six : field .tag ≡ 6 = eqb-true (field .tag) 6 f in
+      record {
+        item = itemOf (valueIn bs field);
+        symbol = refl;
+        items = walk-field items-walk bs at e ∙ rw (f, itemsOf) refl;
+        less = omega (arith, lies .whole (λ z. omega arith));
+        inside = lies .inside;
+      }
+  stepped-by field e false f = walk-field items-walk bs at e ∙ rw (f, itemsOf) refl
 
   -- and so does the step of the code
-  pub stepped : {symbol-step : SymbolStep} → symbol-step ≡ symbolStep bs at (frontOf (drop at bs)) → Stepped bs at symbol-step
-  stepped e = rw e (stepped-by _ refl)
+  pub stepped : {symbol-step : SymbolStep} → symbol-step ≡ symbolStep bs (fieldAt bs at) → Stepped bs at symbol-step
+  stepped e = rw e (stepped-by (fieldAt bs at) refl _ refl)
 
   -- behind an item less is left
-  pub step-less : {symbol : Symbol} {after : ℕ} → Past symbol after ≡ symbolStep bs at (frontOf (drop at bs)) → length bs - after < length bs - at
+  pub step-less : {symbol : Symbol} {after : ℕ} → Past symbol after ≡ symbolStep bs (fieldAt bs at) → length bs - after < length bs - at
   step-less e = omega (arith, stepped e .less, stepped e .inside)
 
-  -- the code's answers
-  pub step-done : {tag size : ℕ} → Field tag size ≡ frontOf (drop at bs) → (tag ≡ 6 → ⊥) → Done ≡ symbolStep bs at (frontOf (drop at bs))
-  step-done {tag} {size} e h = ap (fieldStep bs at size) (sym (ne-eqb tag 6 h)) ∙ ap (symbolStep bs at) e
+  module _ {field : FieldSpan} (equal : field ≡ fieldAt bs at) where
+    -- the code's answers
+    pub step-done : (field .tag ≡ 6 → ⊥) → Done ≡ symbolStep bs (fieldAt bs at)
+    step-done h = cc (ne-eqb (field .tag) 6 h)
 
-  -- a field of tag 6 is an item
-  pub step-past : {tag size : ℕ} → Field tag size ≡ frontOf (drop at bs) → tag ≡ 6 → {symbol : Symbol}
-      → symbol ≡ symbolOf (itemOf (take (at + 3 + size - (at + 3)) (drop (at + 3) bs)))
-      → Past symbol (at + 3 + size) ≡ symbolStep bs at (frontOf (drop at bs))
-  step-past {tag} {size} e h es =
-      let z : at + 3 + size - (at + 3) ≡ size = omega arith in
-      rw (es, z, ← e, eq-eqb tag 6 h) refl
+    -- a field of tag 6 is an item
+    pub step-past : field .tag ≡ 6 → {symbol : Symbol} → symbol ≡ symbolOf (itemOf (valueIn bs field))
+        → Past symbol (field .to) ≡ symbolStep bs (fieldAt bs at)
+    step-past h e = cc (eq-eqb (field .tag) 6 h)
 
   -- nothing stands at the end
   pub items-end : length bs ≤ at → itemsOf (fieldsAt bs at) ≡ []
-  unfolding itemsOf
-  items-end h = ap itemsOf (fields-at bs at (sym (front-nothing bs at h)))
+  items-end h = walk-end items-walk bs at h

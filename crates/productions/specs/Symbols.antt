@@ -1,12 +1,11 @@
 -- What the code reads of an item: all but the arguments of a call. These definitions mirror code: nobody needs them to believe `expand`.
-use Prim.Native.Nat.{ℕ, _+_}
-use mathlib.Core.Bool.{Bool, true, false}
+use Prim.Native.Nat.{ℕ}
+use mathlib.Core.Bool.{true, false}
 use mathlib.Core.List.{List}
 use lib.Dec.{eqb}
-use lib.ListN.{take, drop}
 use Rattle.grammar.specs.Table.{none, Terminal, keyword, ide, number, Item, terminal, local, call}
-use Rattle.grammar.specs.declared.Front.{Front}
-use Rattle.grammar.specs.declared.Front.the-variants.{Nothing, Short, Field}
+use Rattle.grammar.specs.declared.FieldSpan.{FieldSpan}
+use Rattle.grammar.specs.Lookup.{valueIn}
 use Rattle.decoding.specs.Decode.{itemOf}
 use Rattle.productions.specs.declared.Terminal as Code
 use Rattle.productions.specs.declared.Terminal.the-variants.{Keyword, Ide, Number}
@@ -39,13 +38,6 @@ withSymbol (Read t) = terminal (terminalIn t)
 withSymbol Local = local
 withSymbol (Call n) = call n none
 
--- a field with a value of n bytes, at an offset, is an item
-abbrev pub fieldStep : List ℕ → ℕ → ℕ → Bool → SymbolStep
-fieldStep bs at n true = Past (symbolOf (itemOf (take n (drop (at + 3) bs)))) (at + 3 + n)
-fieldStep bs at n false = Done
-
--- what stands at an offset: an item with the offset behind it, or none
-abbrev pub symbolStep : List ℕ → ℕ → Front → SymbolStep
-symbolStep bs at Nothing = Done
-symbolStep bs at Short = Done
-symbolStep bs at (Field t n) = fieldStep bs at n (eqb t 6)
+-- what the code reads of a field: an item with the offset behind it, or none
+abbrev pub symbolStep : List ℕ → FieldSpan → SymbolStep
+symbolStep bs field = elim (eqb (field .tag) 6) [ true ↦ Past (symbolOf (itemOf (valueIn bs field))) (field .to) | false ↦ Done ]

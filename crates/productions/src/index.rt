@@ -1,10 +1,8 @@
 // The index of a grammar in a table: the nonterminal of each production, and the offset of its first item.
-use grammar::Front;
 use grammar::codes::ALTERNATIVE_TAG;
 use grammar::codes::HEAD_TAG;
-use grammar::codes::HEADER;
 use grammar::codes::UPDATE;
-use grammar::front_at;
+use grammar::field_at;
 use grammar::limits::EACH_ALTERNATIVE;
 use grammar::reader::byte;
 use spellings::wide_short;
@@ -87,27 +85,18 @@ pub fn build_index(
     let mut n: u8 = 0;
     let mut k: usize = 0;
     while at < table.len() {
-        let front = front_at(table, at);
-        match front {
-            Front::Nothing => {
-                return k;
-            }
-            Front::Short => {
-                return k;
-            }
-            Front::Field(tag, size) => {
-                let from = at + HEADER;
-                let to = from + size;
-                if tag == HEAD_TAG {
-                    n = byte(&table[from..to], 0);
-                    k = redefine(&table[from..to], owners, starts, k);
-                } else if tag == ALTERNATIVE_TAG {
-                    push(owners, starts, k, n, to as u16);
-                    k += 1;
-                }
-                at = to;
-            }
+        let field = field_at(table, at);
+        let tag = field.tag;
+        let from = field.from;
+        let to = field.to;
+        if tag == HEAD_TAG {
+            n = byte(&table[from..to], 0);
+            k = redefine(&table[from..to], owners, starts, k);
+        } else if tag == ALTERNATIVE_TAG {
+            push(owners, starts, k, n, to as u16);
+            k += 1;
         }
+        at = to;
     }
     k
 }

@@ -2,22 +2,19 @@
 use crate::Symbol;
 use crate::SymbolStep;
 use crate::Terminal;
-use grammar::Front;
 use grammar::codes::CALL_ITEM;
-use grammar::codes::HEADER;
 use grammar::codes::IDE_ITEM;
 use grammar::codes::ITEM_TAG;
 use grammar::codes::KEYWORD_ITEM;
 use grammar::codes::LOCAL_ITEM;
-use grammar::front_at;
+use grammar::field_at;
 use grammar::reader::byte;
 use kinds::KEYWORD_KIND;
 use kinds::NUMBER_KIND;
 use kinds::WORD_KIND;
 ghost use mathlib.Core.Path.{_≡_};
-ghost use lib.ListN.{drop};
 ghost use Rattle.grammar.specs.Table.{kindOf};
-ghost use Rattle.grammar.specs.Lookup.{frontOf};
+ghost use Rattle.grammar.specs.Lookup.{fieldAt};
 ghost use Rattle.decoding.specs.Decode.{itemOf};
 ghost use Rattle.productions.specs.Symbols.{terminalIn, symbolOf, symbolStep};
 
@@ -38,22 +35,15 @@ pub fn symbol(v: &[u8]) -> Symbol
 
 // What stands at an offset.
 pub fn item_at(table: &[u8], at: usize) -> SymbolStep
-    ensures { λ r. ⌜ r ≡ symbolStep (now (table .entry)) at (frontOf (drop at (now (table .entry)))) ⌝ }
+    ensures { λ r. ⌜ r ≡ symbolStep (now (table .entry)) (fieldAt (now (table .entry)) at) ⌝ }
 {
-    let front = front_at(table, at);
-    match front {
-        Front::Nothing => SymbolStep::Done,
-        Front::Short => SymbolStep::Done,
-        Front::Field(tag, size) => {
-            if tag != ITEM_TAG {
-                return SymbolStep::Done;
-            }
-            let from = at + HEADER;
-            let to = from + size;
-            let s = symbol(&table[from..to]);
-            SymbolStep::Past(s, to)
-        }
+    let field = field_at(table, at);
+    if field.tag != ITEM_TAG {
+        return SymbolStep::Done;
     }
+    let from = field.from;
+    let to = field.to;
+    SymbolStep::Past(symbol(&table[from..to]), to)
 }
 
 // The kind of token that a terminal reads.

@@ -11,11 +11,10 @@ use Rattle.answers.specs.declared.Verdict.{Verdict}
 use Rattle.answers.specs.declared.Verdict.the-variants.{Passed, Refused}
 use Rattle.answers.specs.Refusals.{refusal}
 use Rattle.grammar.specs.Sorts.{term}
-use Rattle.grammar.specs.declared.Front.{Front}
-use Rattle.grammar.specs.declared.Front.the-variants.{Nothing, Short, Field}
+use Rattle.grammar.specs.declared.FieldSpan.{FieldSpan}
 use Rattle.grammar.specs.Fields.{fieldsOf}
-use Rattle.grammar.specs.Lookup.{frontOf, fieldsAt}
-use Rattle.grammar.proofs.LookupLaws.{opened, fields-at, fields-of}
+use Rattle.grammar.specs.Lookup.{fieldAt, valueIn, fieldsAt}
+use Rattle.grammar.proofs.LookupLaws.{fields-of, field-lies, Walk, walk-field, walk-end}
 use Rattle.grammar.specs.Limits.{most}
 use Rattle.bodies.specs.declared.Known.{Known}
 use Rattle.bodies.specs.declared.ItemSort.{ItemSort}
@@ -265,30 +264,20 @@ sorting-start =
     record { heads = refl; sorts = refl; full = refl; keywords = omega arith; outsides = omega arith; rest = refl }
 
 module _ {bs heads₀ L₀ stack₀ heads L stack : List ℕ} {at : ℕ} {known : Known} (sorting : Sorting bs heads₀ L₀ stack₀ heads L stack at known) where
-  left : {front : Front} → front ≡ frontOf (drop at bs) → sortsFrom (opened bs at front) bs (context known heads L) ≡ sortsFrom (fieldsAt bs 0) bs
-      (unknown heads₀)
-  left e = cc (fields-at bs at e, sorting .rest)
+  walks : Walk (λ fs. sortsFrom fs bs (context known heads L)) Passed
+  unfolding sortsFrom stepAt
+  walks = record { at-end = λ at. refl; at-cut = λ at. refl; at-none = λ at to. refl }
 
   -- at the end
-  pub sorting-nothing : Nothing ≡ frontOf (drop at bs) → Passed ≡ sortsFrom (fieldsAt bs 0) bs (unknown heads₀)
-  unfolding sortsFrom
-  sorting-nothing e = left e
+  pub sorting-end : length bs ≤ at → Passed ≡ sortsFrom (fieldsAt bs 0) bs (unknown heads₀)
+  sorting-end h = sym (walk-end walks bs at h) ∙ sorting .rest
 
-  -- at a field that runs past the end
-  pub sorting-short : Short ≡ frontOf (drop at bs) → Passed ≡ sortsFrom (fieldsAt bs 0) bs (unknown heads₀)
-  unfolding sortsFrom
-  sorting-short e = left e
-
-  module _ {tag size : ℕ} {value : List ℕ} {step : FieldStep} {heads′ L′ : List ℕ} (equal : Field tag size ≡ frontOf (drop at bs))
-      (agrees : value ≡ take size (drop (at + 3) bs)) (field-checked : FieldChecked bs at tag value (at + 3 + size) known heads L step heads′ L′) where
-    at-field : goOn (stepped step heads′ L′) (λ X. sortsFrom (fieldsAt bs (at + 3 + size)) bs X) ≡ sortsFrom (fieldsAt bs 0) bs (unknown heads₀)
-    unfolding sortsFrom
-    at-field =
-        cc (field-checked .steps, agrees, left equal)
-
-    step-gives : {field-step : FieldStep} → step ≡ field-step → goOn (stepped field-step heads′ L′) (λ X. sortsFrom (fieldsAt bs (at + 3 + size)) bs X)
+  module _ {field : FieldSpan} {step : FieldStep} {heads′ L′ : List ℕ} (equal : field ≡ fieldAt bs at)
+      (field-checked : FieldChecked bs at (field .tag) (valueIn bs field) (field .to) known heads L step heads′ L′) where
+    step-gives : {field-step : FieldStep} → step ≡ field-step → goOn (stepped field-step heads′ L′) (λ X. sortsFrom (fieldsAt bs (field .to)) bs X)
         ≡ sortsFrom (fieldsAt bs 0) bs (unknown heads₀)
-    step-gives h = cc at-field
+    unfolding sortsFrom
+    step-gives h = cc (field-checked .steps, walk-field walks bs at equal, sorting .rest)
 
     -- a field stops the check
     pub sorting-stop : {verdict : Verdict} → step ≡ Stop verdict → verdict ≡ sortsFrom (fieldsAt bs 0) bs (unknown heads₀)
@@ -296,10 +285,11 @@ module _ {bs heads₀ L₀ stack₀ heads L stack : List ℕ} {at : ℕ} {known 
 
     -- the check goes on behind it
     pub sorting-next :
-        {known′ : Known} {stack′ : List ℕ} → step ≡ Next known′ → length heads′ ≡ length heads → length L′ ≡ length L → length stack′ ≡ length stack
-        → Sorting bs heads₀ L₀ stack₀ heads′ L′ stack′ (at + 3 + size) known′
-    sorting-next {known′} h a b c =
+        {known′ : Known} {stack′ : List ℕ} → at < length bs → step ≡ Next known′ → length heads′ ≡ length heads → length L′ ≡ length L
+        → length stack′ ≡ length stack → Sorting bs heads₀ L₀ stack₀ heads′ L′ stack′ (field .to) known′
+    sorting-next {known′} w h a b c =
         let more : (known′ .keywords ≤ known .keywords + 1) × (known′ .outsides ≤ known .outsides + 1) = subst (Counts known) h (field-checked .counts) in
+        let further : at < field .to = field-lies bs at equal .further w in
         record {
           heads = a ∙ sorting .heads;
           sorts = b ∙ sorting .sorts;

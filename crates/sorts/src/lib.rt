@@ -15,17 +15,15 @@ use bodies::items::add_sort;
 use bodies::items::check_item;
 use bodies::items::check_result;
 use bodies::items::load_params;
-use grammar::Front;
 use grammar::codes::ALTERNATIVE_TAG;
 use grammar::codes::BLOCK_TAG;
 use grammar::codes::HEAD_TAG;
-use grammar::codes::HEADER;
 use grammar::codes::ITEM_TAG;
 use grammar::codes::KEYWORD_TAG;
 use grammar::codes::OUTSIDE_TAG;
 use grammar::codes::RESULT_TAG;
 use grammar::codes::ROOT_TAG;
-use grammar::front_at;
+use grammar::field_at;
 use grammar::limits::EACH_NONTERMINAL;
 use grammar::limits::LONGEST_TABLE;
 use grammar::limits::MIDDLE_TABLE;
@@ -186,32 +184,23 @@ fn check_fields(heads: &mut [u16], sorts: &mut [u8], stack: &mut [u8], table: &[
         head: 0,
         variables: 0,
     };
-    loop {
-        let front = front_at(table, at);
-        match front {
-            Front::Nothing => {
-                return Verdict::Passed;
+    while at < table.len() {
+        let field = field_at(table, at);
+        let from = field.from;
+        let to = field.to;
+        let v = &table[from..to];
+        let step = check_field(heads, sorts, stack, table, at, field.tag, v, to, known);
+        match step {
+            FieldStep::Stop(v) => {
+                return v;
             }
-            Front::Short => {
-                return Verdict::Passed;
-            }
-            Front::Field(tag, size) => {
-                let from = at + HEADER;
-                let to = from + size;
-                let v = &table[from..to];
-                let step = check_field(heads, sorts, stack, table, at, tag, v, to, known);
-                match step {
-                    FieldStep::Stop(v) => {
-                        return v;
-                    }
-                    FieldStep::Next(k) => {
-                        known = k;
-                        at = to;
-                    }
-                }
+            FieldStep::Next(k) => {
+                known = k;
+                at = to;
             }
         }
     }
+    Verdict::Passed
 }
 
 // The places that the templates of a table open: at most two for each of its bytes, and some more.

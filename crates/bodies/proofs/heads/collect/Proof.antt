@@ -1,12 +1,10 @@
 -- `collect`: the fields left give what all of them give.
 use borrow.Author.Needs.{needs}
-use Prim.Native.Nat.{_+_, _-_, _≤_}
-use mathlib.Core.Path.{_≡_, sym, _∙_}
-use lib.ListN.{length, drop}
-use Rattle.grammar.specs.declared.Front.the-variants.{Field}
-use Rattle.grammar.specs.Lookup.{frontOf}
-use Rattle.bodies.proofs.CollectLaws as laws
+use Prim.Native.Nat.{_-_}
+use lib.ListN.{length}
 use native.Mathlib.Omega.{arith}
+use Rattle.grammar.proofs.LookupLaws.{field-lies}
+use Rattle.bodies.proofs.CollectLaws as laws
 use Rattle.bodies.proofs.heads.collect.Statement.{statement}
 use Rattle.bodies.proofs.heads.collect.Tie as tie
 
@@ -16,22 +14,8 @@ Inv-loop heads₀ table block from at₀ heads at = laws.Collecting table block 
 abbrev μ-loop : tie.MeasureT-loop
 μ-loop heads₀ table block from at₀ heads at = length table - at
 
--- a whole field stands here
-module _ (point : tie.After-known-told Inv-loop μ-loop) where
-  abbrev turn : tie.At-loop Inv-loop μ-loop
-  turn = point .before .before .before .before
-
-  abbrev start : tie.Start Inv-loop μ-loop
-  start = turn .before .before .before
-
-  stands : Field (point .before .front .given .0 .0) (point .before .front .given .0 .1 .0) ≡ frontOf (drop (turn .loop .at) (start .args .table .now))
-  stands = sym (point .before .front .given .1) ∙ point .before .before .before .front-at .ensures
-
-  inside : turn .loop .at + (3 + point .before .front .given .0 .1 .0) ≤ length (start .args .table .now)
-  inside = laws.front-inside (start .args .table .now) (turn .loop .at) stands
-
--- it is defined
-abbrev field : tie.After-define Inv-loop μ-loop → tie.After-known-told Inv-loop μ-loop
+-- the field that is read, where its head is defined
+abbrev field : tie.After-define Inv-loop μ-loop → tie.After-field-at Inv-loop μ-loop
 field p = p .before .before .before
 
 abbrev defined : tie.After-slice-known2 Inv-loop μ-loop → tie.After-define Inv-loop μ-loop
@@ -41,31 +25,25 @@ loop-holds : tie.Need-loop-holds Inv-loop μ-loop
 loop-holds c = laws.collecting-start
 
 returns : tie.Need-returns Inv-loop μ-loop
-returns c = search (laws.collecting-nothing, sym (c .enum-told .given .1) ∙ c .before .before .front-at .ensures)
-
-returns-2 : tie.Need-returns-2 Inv-loop μ-loop
-returns-2 c = search (laws.collecting-short, sym (c .enum-told2 .given .1) ∙ c .before .before .front-at .ensures)
-
-add-to : tie.Need-add-to Inv-loop μ-loop
-add-to c = omega (arith, inside c)
-
-add-to-2 : tie.Need-add-to-2 Inv-loop μ-loop
-add-to-2 c = omega (arith, inside c)
-
-returns-3 : tie.Need-returns-3 Inv-loop μ-loop
-returns-3 c = search (laws.collecting-ends, stands (c .before))
+returns c = search laws.collecting-ends
 
 define-requires : tie.Need-define-requires Inv-loop μ-loop
-define-requires c κs = omega (arith, inside (c .before .before))
+define-requires c κs = omega arith
 
-returns-4 : tie.Need-returns-4 Inv-loop μ-loop
-returns-4 c = search (laws.collecting-fault, stands (field (defined (c .before .before .before .before .before))))
+returns-2 : tie.Need-returns-2 Inv-loop μ-loop
+returns-2 c = search laws.collecting-fault
 
 loop-less : tie.Need-loop-less Inv-loop μ-loop
-loop-less c = omega (arith, inside (field (defined (c .before .before))))
+loop-less c =
+    let p = field (defined (c .before .before)) in
+    let lies = field-lies _ _ (p .field-at .ensures) in
+    omega (arith, lies .further (p .before .loop-test .taken), lies .inside)
 
 loop-again : tie.Need-loop-again Inv-loop μ-loop
-loop-again c = search (laws.collecting-next, stands (field (defined (c .before .before))))
+loop-again c = search laws.collecting-next
+
+returns-3 : tie.Need-returns-3 Inv-loop μ-loop
+returns-3 c = search laws.collecting-end
 
 -- the function meets its contract
 pub collect-spec : {M : Type 1} → statement M
@@ -77,22 +55,15 @@ collect-spec =
     loop-holds
     (λ c κs. search needs)
     (λ c. search needs)
-    (λ c. search needs)
     returns
-    (λ c. search needs)
-    (λ c. search needs)
-    returns-2
-    (λ c. search needs)
-    add-to
-    add-to-2
-    (λ c. search needs)
-    returns-3
     define-requires
     (λ c. search needs)
     (λ c κs. search needs)
     (λ c κs. search needs)
     (λ c. search needs)
-    returns-4
+    returns-2
     (λ c. search needs)
     loop-less
-    loop-again)
+    loop-again
+    (λ c. search needs)
+    returns-3)

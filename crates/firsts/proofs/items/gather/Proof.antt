@@ -2,8 +2,8 @@
 use Prim.Native.Nat.{ℕ, _-_}
 use mathlib.Core.Path.{_≡_, _∙_, sym}
 use mathlib.Core.List.{List}
-use lib.ListN.{length, drop}
-use Rattle.grammar.specs.Lookup.{frontOf}
+use lib.ListN.{length}
+use Rattle.grammar.specs.Lookup.{fieldAt}
 use Rattle.productions.specs.declared.SymbolStep.the-variants.{Past}
 use Rattle.productions.specs.Symbols.{symbolStep}
 use Rattle.firsts.proofs.ItemsLaws as laws
@@ -25,8 +25,7 @@ module _ (point : tie.After-known-told Inv-loop μ-loop) where
   abbrev table : List ℕ
   table = looped .before .before .before .before .args .table .now
 
-  item : Past (point .before .step .given .0 .0) (point .before .step .given .0 .1 .0) ≡ symbolStep table (looped .loop .at)
-      (frontOf (drop (looped .loop .at) table))
+  item : Past (point .before .step .given .0 .0) (point .before .step .given .0 .1 .0) ≡ symbolStep table (fieldAt table (looped .loop .at))
   item = sym (point .before .step .given .1) ∙ point .before .before .before .item-at .ensures
 
 loop-holds : tie.Need-loop-holds Inv-loop μ-loop
