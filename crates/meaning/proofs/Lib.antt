@@ -4,3 +4,6 @@ pub mod Judging
 pub mod Stages
 pub mod Exactly
 pub mod Hygiene
+pub mod EachLaws
+pub mod Lent
+pub mod EachPlaces

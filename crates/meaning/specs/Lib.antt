@@ -1,4 +1,5 @@
 pub mod Expand
+pub mod Each
 pub mod Origins
 pub mod Meaning
 pub mod Naming
