@@ -4,7 +4,7 @@
    hosts/c/test.c), and what the caller has to see to:
 
    - A pointer is valid for the length given with it. With length 0 it may be anything, NULL too.
-   - `cells` and `text`, which are written, overlap neither each other nor `table` nor `formula`. `table` and `formula` may overlap.
+   - `cells`, `text` and `answers`, which are written, overlap neither each other nor what is only read. What is only read may overlap.
    - The thread has stack enough: VEGZUMP_STACK at the worst, VEGZUMP_STACK_ORDINARY for formulas of ordinary size (tests/stack measures both).
 
    Any bytes of any length are a right input. The calls have no global state, allocate nothing, read no file and never block or fail otherwise than
@@ -77,6 +77,20 @@ vegzump_answer vegzump_check(const uint8_t *table, size_t table_len);
    without a closing 0. All that lies past what is written is as it was. */
 vegzump_answer vegzump_expand(const uint8_t *table, size_t table_len, const uint8_t *formula, size_t formula_len,
                               uint32_t *cells, size_t cells_len, uint8_t *text, size_t text_len);
+
+/* Expands many formulas under one table, which is checked once. Each formula answers and writes what vegzump_expand gives with what it is lent here; a short
+   one takes half of its time or less.
+
+   Formula i is the bytes of `formulas` from ends[i - 1], or 0 for the first, to ends[i], as far as there are any: none if it does not end behind the one before.
+   As many are expanded as have an end and four places in `answers`, and the call returns how many. answers_len counts 64-bit numbers; the four of an answer are
+   number, a, b and c of a vegzump_answer, and they lie in order.
+
+   `cells` is lent to each formula, as the one before left it. `text` is lent to each from behind the texts of those accepted before it: the text of an accepted
+   formula begins where the lengths c of those before it add up to. A text that is longer than what is left is refused (24) and takes no room; give
+   such a formula a call of its own, or begin the next call with it. All that lies past what is written is as it was. */
+size_t vegzump_expand_each(const uint8_t *table, size_t table_len, const uint8_t *formulas, size_t formulas_len,
+                           const size_t *ends, size_t ends_len, uint64_t *answers, size_t answers_len,
+                           uint32_t *cells, size_t cells_len, uint8_t *text, size_t text_len);
 
 #ifdef __cplusplus
 }

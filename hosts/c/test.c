@@ -1,5 +1,5 @@
-/* The archive from C: the conformance cases (cases.bin), lengths round every limit, nothing at all, several threads. Each part that is passed lies in
-   a heap block of exactly its size, so that a memory checker sees any byte read or written outside.
+/* The archive from C: the conformance cases (cases.bin), lengths round every limit, nothing at all, many formulas in one call beside one by one, several
+   threads. Each part that is passed lies in a heap block of exactly its size, so that a memory checker sees any byte read or written outside.
 
    Usage: test CASES [THREADS]. The last line is `CASES cases, N failures`. */
 #include "vegzump.h"
@@ -232,6 +232,91 @@ static void rooms(void) {
     free(cells), free(text), free(table);
 }
 
+/* ---- many formulas in one call, beside one by one ---- */
+
+typedef struct {
+    uint64_t state;
+} draws;
+
+static size_t draw(draws *d, size_t below) {
+    d->state = d->state * 6364136223846793005u + 1442695040888963407u;
+    return (size_t)(d->state >> 33) % below;
+}
+
+/* Words of formulas of the house, and bytes that may not stand in one. */
+static size_t drawn_formula(draws *d, uint8_t *formula) {
+    static const char *const parts[] = {"p", "q", "age", "fun", "(", ")", ".", "{", "}", "=", "7", "fun(p)", " ", "p", "q.age", "\x80", "p(q)", "true", "*"};
+    size_t size = 0;
+    for (size_t left = draw(d, 9); left; left--) {
+        const char *part = parts[draw(d, sizeof parts / sizeof *parts - (draw(d, 8) != 0) * 3)];
+        memcpy(formula + size, part, strlen(part));
+        size += strlen(part);
+    }
+    return size;
+}
+
+/* An end that may lie before the one before, or behind the buffer. */
+static size_t drawn_end(draws *d, size_t own, size_t all) {
+    switch (draw(d, 12)) {
+    case 0: return draw(d, all + 1);
+    case 1: return all + draw(d, 3);
+    case 2: return draw(d, 2) ? SIZE_MAX - draw(d, 2) : 0;
+    default: return own;
+    }
+}
+
+static void one_round(draws *d, long round, const uint8_t *table, size_t table_len) {
+    uint8_t bytes[16 * 64];
+    size_t all = 0, count = draw(d, 16), own[16], spare = draw(d, 5) ? 4 * count : draw(d, 70);
+    for (size_t i = 0; i < count; i++) all += drawn_formula(d, bytes + all), own[i] = all;
+    uint8_t *formulas = block(all, 0);
+    if (all) memcpy(formulas, bytes, all);
+    size_t *ends = block(count * sizeof *ends, 0);
+    for (size_t i = 0; i < count; i++) ends[i] = drawn_end(d, own[i], all);
+    size_t cells_len = draw(d, 3) ? 400 : draw(d, 60), text_len = draw(d, 3) ? 4000 : draw(d, 300);
+    uint64_t *answers = block(8 * spare, 0xBB), *answers_owed = block(8 * spare, 0xBB);
+    uint32_t *cells = block(4 * cells_len, 0xAA), *cells_owed = block(4 * cells_len, 0xAA);
+    uint8_t *text = block(text_len, 0xEE), *text_owed = block(text_len, 0xEE);
+
+    size_t expanded = count < spare / 4 ? count : spare / 4, from = 0, at = 0;
+    for (size_t i = 0; i < expanded; from = ends[i], i++) {
+        size_t last = ends[i] < all ? ends[i] : all, first = from < last ? from : last;
+        vegzump_answer r = vegzump_expand(table, table_len, formulas + first, last - first, cells_owed, cells_len, text_owed + at, text_len - at);
+        answers_owed[4 * i] = r.number, answers_owed[4 * i + 1] = r.a, answers_owed[4 * i + 2] = r.b, answers_owed[4 * i + 3] = r.c;
+        if (!r.number) at += r.c;
+    }
+    size_t found = vegzump_expand_each(table, table_len, formulas, all, ends, count, answers, spare, cells, cells_len, text, text_len);
+    if (found != expanded) fail("count of round", round);
+    if (spare && memcmp(answers, answers_owed, 8 * spare)) fail("answers of round", round);
+    if (cells_len && memcmp(cells, cells_owed, 4 * cells_len)) fail("cells of round", round);
+    if (text_len && memcmp(text, text_owed, text_len)) fail("text of round", round);
+    free(formulas), free(ends), free(answers), free(answers_owed), free(cells), free(cells_owed), free(text), free(text_owed);
+}
+
+/* The tables of cases that are not too long, those that do not pass too. */
+static void many_formulas(void) {
+    draws d = {1};
+    reader r = {0};
+    for (long n = 0; r.at < cases_size; n++) {
+        size_t table_len, skipped;
+        uint8_t *table = part(&r, &table_len);
+        free(part(&r, &skipped));
+        number(&r, 8), number(&r, 4), number(&r, 8), number(&r, 8), number(&r, 8);
+        size_t made = number(&r, 4);
+        r.at += 4 * made;
+        free(part(&r, &skipped));
+        if (table_len < 1000)
+            for (long round = 0; round < 8; round++) one_round(&d, 8 * n + round, table, table_len);
+        free(table);
+    }
+    uint8_t table[200];
+    uint64_t answers[4];
+    size_t table_len = table_of_words(table), end = 0;
+    if (vegzump_expand_each(table, table_len, NULL, 0, NULL, 0, NULL, 0, NULL, 0, NULL, 0)) fail("no formulas", 0);
+    if (vegzump_expand_each(table, table_len, NULL, 0, &end, 1, NULL, 0, NULL, 0, NULL, 0)) fail("no room for answers", 0);
+    if (vegzump_expand_each(NULL, 0, NULL, 0, &end, 1, answers, 4, NULL, 0, NULL, 0) != 1 || answers[0] != 4) fail("no table", 0);
+}
+
 static void nothing_at_all(void) {
     uint8_t one = 0, table[200];
     uint32_t cells[4];
@@ -248,6 +333,7 @@ static void *all(void *count) {
     table_lengths();
     formula_lengths();
     rooms();
+    many_formulas();
     nothing_at_all();
     return NULL;
 }

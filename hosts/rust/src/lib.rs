@@ -64,6 +64,28 @@ mod sys {
             text: *mut u8,
             text_len: usize,
         ) -> Answer;
+        pub fn vegzump_expand_each(
+            table: *const u8,
+            table_len: usize,
+            formulas: *const u8,
+            formulas_len: usize,
+            ends: *const usize,
+            ends_len: usize,
+            answers: *mut u64,
+            answers_len: usize,
+            cells: *mut u32,
+            cells_len: usize,
+            text: *mut u8,
+            text_len: usize,
+        ) -> usize;
+    }
+}
+
+/// An expansion's number and values as an answer.
+fn answer(number: u8, [a, b, c]: [u64; 3]) -> Answer<Accepted> {
+    match number {
+        0 => Ok(Accepted { cells: a as usize, constructors: b as usize, text: c as usize }),
+        number => Err(Refusal::of(number, a, b, c)),
     }
 }
 
@@ -95,10 +117,80 @@ pub fn expand(table: &[u8], formula: &[u8], cells: &mut [u32], text: &mut [u8]) 
             text.len(),
         )
     };
-    match found.number {
-        0 => Ok(Accepted { cells: found.a as usize, constructors: found.b as usize, text: found.c as usize }),
-        number => Err(Refusal::of(number, found.a, found.b, found.c)),
+    answer(found.number, [found.a, found.b, found.c])
+}
+
+/// Expands many formulas under one table, which is checked once. Each answers and writes what [`expand`] gives with what it is lent here.
+///
+/// Formula `i` is the bytes of `formulas` from `ends[i - 1]`, or 0 for the first, to `ends[i]`, as far as there are any. All are lent `cells`, each as the one
+/// before left them, and each the part of `text` behind the texts of those accepted before it, which lie one behind the other from the front. A text longer
+/// than what is left is refused and takes no room. There are as many answers as ends.
+pub fn expand_each(table: &[u8], formulas: &[u8], ends: &[usize], cells: &mut [u32], text: &mut [u8]) -> Vec<Answer<Accepted>> {
+    let mut answers = vec![[0u64; 4]; ends.len()];
+    // SAFETY: each slice is valid for its length, and those that are written are borrowed alone; an array of four numbers is four numbers.
+    let count = unsafe {
+        sys::vegzump_expand_each(
+            table.as_ptr(),
+            table.len(),
+            formulas.as_ptr(),
+            formulas.len(),
+            ends.as_ptr(),
+            ends.len(),
+            answers.as_mut_ptr().cast(),
+            4 * answers.len(),
+            cells.as_mut_ptr(),
+            cells.len(),
+            text.as_mut_ptr(),
+            text.len(),
+        )
+    };
+    answers[..count].iter().map(|&[number, a, b, c]| answer(number as u8, [a, b, c])).collect()
+}
+
+/// As many formulas as one call of the archive is handed.
+const AT_ONCE: usize = 256;
+
+/// The texts of many formulas under one table, in their order, with as much room as each needs: [`Refusal::TextTooLong`] is never among them, and
+/// [`Refusal::NoRow`] only past [`ROWS`]. The table is checked once for many of them.
+///
+/// ```no_run
+/// let table = std::fs::read("phrases.tab").unwrap();
+/// for answer in vegzump::expand_texts(&table, ["x*y", "fun(p)p(b)"]) {
+///     match answer {
+///         Ok(text) => println!("{text}"),
+///         Err(refusal) => println!("refused: {refusal}"),
+///     }
+/// }
+/// ```
+pub fn expand_texts<F: AsRef<[u8]>>(table: &[u8], formulas: impl IntoIterator<Item = F>) -> Vec<Answer<String>> {
+    let (mut bytes, mut ends) = (Vec::new(), Vec::new());
+    for formula in formulas {
+        bytes.extend_from_slice(formula.as_ref());
+        ends.push(bytes.len());
     }
+    let (mut cells, mut text) = (vec![0; ROWS * ROW_CELLS], vec![0; 1 << 16]);
+    let mut texts = Vec::with_capacity(ends.len());
+    while texts.len() < ends.len() {
+        let from = if texts.is_empty() { 0 } else { ends[texts.len() - 1] };
+        let ahead: Vec<usize> = ends[texts.len()..].iter().take(AT_ONCE).map(|end| end - from).collect();
+        let mut at = 0;
+        for answer in expand_each(table, &bytes[from..], &ahead, &mut cells, &mut text) {
+            match answer {
+                Ok(accepted) => {
+                    let own = text[at..at + accepted.text].to_vec();
+                    texts.push(Ok(String::from_utf8(own).expect("words, digits and parentheses are ASCII")));
+                    at += accepted.text;
+                }
+                // The formula is the first of the next call, with more room.
+                Err(Refusal::TextTooLong { needed }) => {
+                    text.resize((needed as usize).max(2 * text.len()), 0);
+                    break;
+                }
+                Err(refusal) => texts.push(Err(refusal)),
+            }
+        }
+    }
+    texts
 }
 
 /// A whole expansion in memory of its own.

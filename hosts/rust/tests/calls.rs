@@ -1,7 +1,7 @@
-//! The archive from Rust: the conformance cases, lengths round every limit, nothing at all, several threads.
+//! The archive from Rust: the conformance cases, lengths round every limit, nothing at all, many formulas in one call beside one by one, several threads.
 
 use std::{env, fs, thread};
-use vegzump::{check, expand, expand_whole, Refusal, FORMULA_BYTES, ROWS, ROW_CELLS, STACK, TABLE_BYTES};
+use vegzump::{check, expand, expand_each, expand_texts, expand_whole, Answer, Refusal, FORMULA_BYTES, ROWS, ROW_CELLS, STACK, TABLE_BYTES};
 
 /// Runs on a thread with the stack that the header states; what else runs there has a megabyte.
 fn with_stack<T: Send + 'static>(test: impl FnOnce() -> T + Send + 'static) -> thread::JoinHandle<T> {
@@ -215,6 +215,75 @@ fn rows_and_text_too_small() {
     })
     .join()
     .unwrap();
+}
+
+/// The tables and formulas of the cases, those whose table stands behind each other together.
+fn cases_by_table() -> Vec<(Vec<u8>, Vec<Vec<u8>>)> {
+    let bytes = fs::read(cases_path()).unwrap();
+    let mut reader = Reader(&bytes);
+    let mut tables: Vec<(Vec<u8>, Vec<Vec<u8>>)> = Vec::new();
+    while !reader.0.is_empty() {
+        let (table, formula) = (reader.part().to_vec(), reader.part().to_vec());
+        reader.bytes(36);
+        let made = reader.number(4) as usize;
+        reader.bytes(4 * made);
+        reader.part();
+        match tables.iter_mut().find(|(other, _)| *other == table) {
+            Some((_, formulas)) => formulas.push(formula),
+            None => tables.push((table, vec![formula])),
+        }
+    }
+    tables
+}
+
+/// One call for many formulas answers, and leaves cells and text, as one call for each does.
+#[test]
+fn many_formulas() {
+    with_stack(|| {
+        for (table, formulas) in cases_by_table() {
+            let (bytes, mut ends) = (formulas.concat(), Vec::new());
+            formulas.iter().fold(0, |end, formula| {
+                ends.push(end + formula.len());
+                end + formula.len()
+            });
+            for text_lent in [0, 100, 1 << 16] {
+                let (mut cells, mut text) = (vec![0xaaaa_aaaa; 2_000], vec![0xee; text_lent]);
+                let (mut cells_owed, mut text_owed) = (cells.clone(), text.clone());
+                let mut at = 0;
+                let owed: Vec<Answer<_>> = formulas
+                    .iter()
+                    .map(|formula| {
+                        let answer = expand(&table, formula, &mut cells_owed, &mut text_owed[at..]);
+                        at += answer.as_ref().map_or(0, |accepted| accepted.text);
+                        answer
+                    })
+                    .collect();
+                assert_eq!(expand_each(&table, &bytes, &ends, &mut cells, &mut text), owed);
+                assert!(cells == cells_owed && text == text_owed);
+            }
+            let texts = expand_texts(&table, &formulas);
+            let owed: Vec<_> = formulas.iter().map(|formula| expand_whole(&table, formula).map(|whole| whole.text)).collect();
+            assert_eq!(texts, owed);
+        }
+    })
+    .join()
+    .unwrap();
+}
+
+/// Ends that go backward or lie behind the buffer, and texts that do not fit behind those before.
+#[test]
+fn ends_of_any_kind() {
+    let table = table_of_words();
+    let expanded = |ends: &[usize], text: usize| {
+        let mut room = vec![b'.'; text];
+        let answers = expand_each(&table, b"abcdefgh 8", ends, &mut [0; 4], &mut room);
+        (answers.iter().map(|answer| answer.as_ref().map_or(24, |_| 0)).collect::<Vec<_>>(), String::from_utf8(room).unwrap())
+    };
+    let (none, long) = (usize::MAX, "mkTermVar(T)");
+    assert_eq!(expanded(&[], 3), (vec![], "...".into()));
+    assert_eq!(expanded(&[0], 13), (vec![0], format!("{long}.")));
+    assert_eq!(expanded(&[0, 0, 0], 25), (vec![0, 0, 24], format!("{long}{long}.")));
+    assert_eq!(expanded(&[none, 0, none - 1, none], 48), (vec![24, 0, 24, 0], format!("{long}{long}{}", ".".repeat(24))));
 }
 
 #[test]
