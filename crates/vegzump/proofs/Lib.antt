@@ -1,3 +1,4 @@
 pub mod Refusing
 pub mod EachLoop
 pub mod Demands
+pub mod ManyFormulas
