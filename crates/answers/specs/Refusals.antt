@@ -2,10 +2,8 @@
 -- Document 01, "Causes, by number".
 use Prim.Native.Nat.{ℕ}
 use Rattle.answers.specs.declared.Refusal.{Refusal}
-use Rattle.answers.specs.declared.Verdict.{Verdict}
-use Rattle.answers.specs.declared.Verdict.the-variants.{Passed, Refused}
-use Rattle.answers.specs.declared.Answer.{Answer}
-use Rattle.answers.specs.declared.Answer.the-variants.{Accepted, Refusing}
+use Rattle.answers.specs.declared.Verdict.{Verdict, the-variants.Passed, the-variants.Refused}
+use Rattle.answers.specs.declared.Answer.{Answer, the-variants.Accepted, the-variants.Refusing}
 
 -- refusal `number` with the values a, b and c
 abbrev pub refusal : ℕ → ℕ → ℕ → ℕ → Refusal

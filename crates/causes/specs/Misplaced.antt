@@ -4,9 +4,8 @@
 use Prim.Native.Nat.{ℕ, _+_, _*_, _≤_, _<_}
 use mathlib.Core.Path.{_≡_}
 use mathlib.Core.Bool.{true, false}
-use mathlib.Core.List.{List, [], _∷_, _++_}
-use lib.Dec.{eqb}
-use lib.ListN.{length, getD}
+use mathlib.Core.List.{List, [], _∷_}
+use lib.{Dec.eqb, ListN.length, ListN.getD}
 use Rattle.answers.specs.declared.Refusal.{Refusal}
 use Rattle.answers.specs.Refusals.{refusal}
 use Rattle.spellings.specs.Bytes.{oneIf, isWord, isKeyword}
@@ -125,8 +124,7 @@ pub data Fails (at : ℕ) (before : List Field) (f : Field) : Refusal → Type 0
 
 -- the place `at` is reached: the fields before it all pass, and `rest` are the bytes from there on
 pub data Reaches (bs : List ℕ) : ℕ → List Field → List ℕ → Type 0 where
-  at-start : length bs ≤ most .bytes
-      → Reaches bs 0 [] bs
+  at-start : length bs ≤ most .bytes → Reaches bs 0 [] bs
   past-field : {at : ℕ} {before : List Field} {f : Field} {rest : List ℕ}
       → Reaches bs at before (fieldThen f rest)
       → Passes before f
@@ -134,17 +132,10 @@ pub data Reaches (bs : List ℕ) : ℕ → List Field → List ℕ → Type 0 wh
 
 -- "Place: the offset of a field's tag, or the table's length if something is missing at its end"
 pub data Misplaced (bs : List ℕ) : Refusal → Type 0 where
-  too-long : most .bytes < length bs
-      → Misplaced bs (refusal 1 0 0 0)
-  runs-past : {at : ℕ} {before : List Field} {rest : List ℕ}
-      → Reaches bs at before rest
-      → RunsPast rest
-      → Misplaced bs (refusal 2 at 0 0)
+  too-long : most .bytes < length bs → Misplaced bs (refusal 1 0 0 0)
+  runs-past : {at : ℕ} {before : List Field} {rest : List ℕ} → Reaches bs at before rest → RunsPast rest → Misplaced bs (refusal 2 at 0 0)
   fails : {at : ℕ} {before : List Field} {f : Field} {r : Refusal} (rest : List ℕ)
       → Reaches bs at before (fieldThen f rest)
       → Fails at before f r
       → Misplaced bs r
-  no-root : {at : ℕ} {before : List Field}
-      → Reaches bs at before []
-      → ¬ (lastTag before ≡ 0x08)
-      → Misplaced bs (refusal 4 at 0 0)
+  no-root : {at : ℕ} {before : List Field} → Reaches bs at before [] → ¬ (lastTag before ≡ 0x08) → Misplaced bs (refusal 4 at 0 0)

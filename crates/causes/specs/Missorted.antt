@@ -59,38 +59,26 @@ pub data Fails (at : ℕ) : Part → Refusal → Type 0 where
       → ¬ (d .mode ≡ add)
       → Newest own (d .nonterminal) S
       → Fails at (head E own d) (refusal 8 at 0 0)
-  no-earlier : {E own : Env} {d : Definition}
-      → ¬ (d .mode ≡ add)
-      → Undeclared E (d .nonterminal)
-      → Fails at (head E own d) (refusal 8 at 0 0)
+  no-earlier : {E own : Env} {d : Definition} → ¬ (d .mode ≡ add) → Undeclared E (d .nonterminal) → Fails at (head E own d) (refusal 8 at 0 0)
   other-signature : {E own : Env} {d : Definition} {S : Signature}
       → ¬ (d .mode ≡ add)
       → Newest E (d .nonterminal) S
       → ¬ (S ≡ d .signature)
       → Fails at (head E own d) (refusal 8 at 0 0)
   -- "sort or argument count wrong": all is defined, and no judgement gives the item a sort, or the result one that fits
-  undefined-item : {G : Scope} {L : List ℕ} {i : Item}
-      → UndefinedItem G (length L) i
-      → Fails at (item G L i) (refusal 9 at 0 0)
+  undefined-item : {G : Scope} {L : List ℕ} {i : Item} → UndefinedItem G (length L) i → Fails at (item G L i) (refusal 9 at 0 0)
   unsorted-item : {G : Scope} {L : List ℕ} {i : Item}
       → ¬ UndefinedItem G (length L) i
       → ((A : ℕ) → ¬ ItemSorted G L i A)
       → Fails at (item G L i) (refusal 11 at 0 0)
-  undefined-result : {G : Scope} {L : List ℕ} {B : ℕ} {t : Template}
-      → Undefined (G .outsides) (length L) t
-      → Fails at (result G L B t) (refusal 9 at 0 0)
+  undefined-result : {G : Scope} {L : List ℕ} {B : ℕ} {t : Template} → Undefined (G .outsides) (length L) t → Fails at (result G L B t) (refusal 9 at 0 0)
   unsorted-result : {G : Scope} {L : List ℕ} {B : ℕ} {t : Template}
       → ¬ Undefined (G .outsides) (length L) t
       → ((A : ℕ) → Sorted (G .outsides) L t A → ¬ Fits A B)
       → Fails at (result G L B t) (refusal 11 at 0 0)
   -- "root with parameters or not Term"
-  undefined-root : {E : Env} {n : ℕ}
-      → Undeclared E n
-      → Fails at (root E n) (refusal 9 at 0 0)
-  unfit-root : {E : Env} {n : ℕ} {S : Signature}
-      → Newest E n S
-      → ¬ (S ≡ gives [] term)
-      → Fails at (root E n) (refusal 11 at 0 0)
+  undefined-root : {E : Env} {n : ℕ} → Undeclared E n → Fails at (root E n) (refusal 9 at 0 0)
+  unfit-root : {E : Env} {n : ℕ} {S : Signature} → Newest E n S → ¬ (S ≡ gives [] term) → Fails at (root E n) (refusal 11 at 0 0)
 
 -- ------------------------------------------------------------------ part by part
 
@@ -104,10 +92,7 @@ pub record At {A : Type 0} (xs : List A) : Type 0 where
 -- the sorts of the variables after some items of an alternative
 pub data Numbered (G : Scope) : List ℕ → List Item → List ℕ → Type 0 where
   no-item : {L : List ℕ} → Numbered G L [] L
-  one-more : {L L′ : List ℕ} {i : Item} {is : List Item} {A : ℕ}
-      → ItemSorted G L i A
-      → Numbered G (L ++ (A ∷ [])) is L′
-      → Numbered G L (i ∷ is) L′
+  one-more : {L L′ : List ℕ} {i : Item} {is : List Item} {A : ℕ} → ItemSorted G L i A → Numbered G (L ++ (A ∷ [])) is L′ → Numbered G L (i ∷ is) L′
 
 -- what is tested after some items of an alternative: the next item; behind all of them the result, where the sort B is asked
 pub data Next (G : Scope) (L : List ℕ) (B : ℕ) (a : Alternative) : List Item → Part → Type 0 where
@@ -151,12 +136,7 @@ module _ (t : Table) where
         → Numbered (within (own ++ E)) (d .this .signature .params) is L
         → Next (within (own ++ E)) L (d .this .signature .result) (a .this) is p
         → Reaches (bodyPlace b d a is) p
-    at-root : {E : Env}
-        → Derived (t .blocks) E
-        → Reaches (placeBehind (t .blocks) []) (root E (t .root))
+    at-root : {E : Env} → Derived (t .blocks) E → Reaches (placeBehind (t .blocks) []) (root E (t .root))
 
   pub data Missorted : Refusal → Type 0 where
-    fails : {at : ℕ} {p : Part} {r : Refusal}
-        → Reaches at p
-        → Fails at p r
-        → Missorted r
+    fails : {at : ℕ} {p : Part} {r : Refusal} → Reaches at p → Fails at p r → Missorted r

@@ -2,10 +2,7 @@
 use Prim.Native.Nat.{ℕ, zero, suc, _+_}
 use mathlib.Core.Bool.{Bool, true, false, _&&_, _||_}
 use mathlib.Core.List.{List, [], _∷_}
-use lib.Dec.{eqb, ltb}
-use lib.ListN.{getD}
-use lib.Bits.{bitOr, bitAnd}
-use lib.Count.{trailingZeros}
+use lib.{Dec.eqb, Dec.ltb, ListN.getD, Bits.bitOr, Bits.bitAnd, Count.trailingZeros}
 use Rattle.answers.specs.Refusals.{refusal}
 use Rattle.answers.specs.Checked.{Checked, ok, bad, _>>_}
 use Rattle.kinds.specs.Kinds.{hasKind}

@@ -2,10 +2,10 @@
 use Prim.Native.Nat.{ℕ}
 use mathlib.Core.List.{List, [], _∷_}
 use lib.ListN.{getD, drop}
-use Rattle.answers.specs.Checked.{Checked, ok, bad, _>>=_, _>>_}
+use Rattle.answers.specs.Checked.{Checked, ok, _>>_}
 use Rattle.grammar.specs.Sorts.{gives}
-use Rattle.grammar.specs.Table.{Template, Templates, variable, none, keyword, ide, number, Item, terminal, local, call, Alternative}
-use Rattle.grammar.specs.Table.{Mode, add, extend, update, Definition, Table}
+use Rattle.grammar.specs.Table.{Template, variable, keyword, ide, number, Item, terminal, local, call, Alternative, Mode, add, extend, update}
+use Rattle.grammar.specs.Table.{Definition, Table}
 use Rattle.grammar.specs.Fields.{RawFields, end, cut, next, fieldsOf}
 use Rattle.decoding.specs.Prefix.{templatesOf, found, headTemplate}
 use Rattle.decoding.specs.Layout.{layout}
@@ -45,13 +45,7 @@ itemOf v =
 
 -- the definition whose head is the value of a field 04
 unfoldable pub definitionOf : List ℕ → List Alternative → Definition
-definitionOf v rest =
-    record {
-      nonterminal = getD v 0 0;
-      mode = modeOf (getD v 1 0);
-      signature = gives (drop 3 v) (getD v 2 0);
-      alternatives = rest;
-    }
+definitionOf v rest = record { nonterminal = getD v 0 0; mode = modeOf (getD v 1 0); signature = gives (drop 3 v) (getD v 2 0); alternatives = rest }
 
 -- ------------------------------------------------------------------ fields, from the last to the first
 

@@ -3,10 +3,7 @@
 use Prim.Native.Nat.{ℕ, zero, suc, _+_, _*_}
 use mathlib.Core.Bool.{Bool, true, false, _&&_}
 use mathlib.Core.List.{List, [], _∷_, _++_, map}
-use lib.Dec.{eqb, ltb}
-use lib.ListN.{length, getD}
-use lib.Seq.{sets}
-use lib.Count.{ones}
+use lib.{Dec.eqb, Dec.ltb, ListN.length, ListN.getD, Seq.sets, Count.ones}
 use Rattle.answers.specs.Refusals.{refusal}
 use Rattle.kinds.specs.Kinds.{hasKind, only}
 use Rattle.grammar.specs.Sorts.{label}
@@ -38,13 +35,7 @@ pub record Grammar : Type 0 where
 
 abbrev pub ruleOf : ℕ → List ℕ → Production → Rule
 ruleOf nulls firsts p =
-    record {
-      nonterminal = p .nonterminal;
-      items = p .items;
-      result = p .result;
-      first = firstOf nulls firsts p;
-      nullable = allNullable nulls (p .items);
-    }
+    record { nonterminal = p .nonterminal; items = p .items; result = p .result; first = firstOf nulls firsts p; nullable = allNullable nulls (p .items) }
 
 abbrev pub readyBy : List Production → ℕ → List ℕ → Grammar
 readyBy g nulls firsts = record { rules = map (ruleOf nulls firsts) g; firsts = firsts }
@@ -109,10 +100,7 @@ unfoldable mutual
 
 -- a fresh name: they count through the whole formula
 abbrev pub freshMade : Run ℕ
-freshMade s cells =
-    done (freshName (s .fresh))
-    (record { at = s .at; fresh = s .fresh + 1; calls = s .calls; made = s .made })
-    cells
+freshMade s cells = done (freshName (s .fresh)) (record { at = s .at; fresh = s .fresh + 1; calls = s .calls; made = s .made }) cells
 
 -- a word read at a sort: a label is its spelling number, a Var or Binder a name
 abbrev pub wordValue : ℕ → ℕ → ℕ
@@ -145,13 +133,11 @@ pub data Choice : Type 0 where
 -- the first rule of n that passes the test, else what is given
 unfoldable pub firstRule : (Rule → Bool) → ℕ → List Rule → Choice → Choice
 firstRule test n [] other = other
-firstRule test n (r ∷ rs) other =
-    elim (eqb (r .nonterminal) n && test r) [ true ↦ chosen r | false ↦ firstRule test n rs other ]
+firstRule test n (r ∷ rs) other = elim (eqb (r .nonterminal) n && test r) [ true ↦ chosen r | false ↦ firstRule test n rs other ]
 
 -- Choice: the rule whose first set holds the next token, else the nullable one
 abbrev pub choice : Grammar → ℕ → ℕ → Choice
-choice g n kind =
-    firstRule (λ r. hasKind (r .first) kind) n (g .rules) (firstRule (λ r. r .nullable) n (g .rules) unfit)
+choice g n kind = firstRule (λ r. hasKind (r .first) kind) n (g .rules) (firstRule (λ r. r .nullable) n (g .rules) unfit)
 
 abbrev pub callBegun : State → State
 callBegun s = record { at = s .at; fresh = s .fresh; calls = s .calls + 1; made = s .made }
@@ -165,8 +151,7 @@ runCall (suc open′) I n vs s cells =
       | true ↦
           elim (choice (I .grammar) n (nextToken I s .kind)) [
             | unfit ↦ misfit (getD (I .grammar .firsts) n 0) s cells
-            | chosen r ↦
-                after (runItems (runCall open′ I) I (r .items) vs (callBegun s) cells) (λ M. build (r .result) I M)
+            | chosen r ↦ after (runItems (runCall open′ I) I (r .items) vs (callBegun s) cells) (λ M. build (r .result) I M)
           ]
     ]
 

@@ -19,7 +19,4 @@ pub data Typed : Value → ℕ → Type 0 where
 -- M ⊨ L: the values of the variables have their sorts
 pub data Matches : List Value → List ℕ → Type 0 where
   matches-none : Matches [] []
-  matches-more : {v : Value} {B : ℕ} {M : List Value} {L : List ℕ}
-      → Typed v B
-      → Matches M L
-      → Matches (v ∷ M) (B ∷ L)
+  matches-more : {v : Value} {B : ℕ} {M : List Value} {L : List ℕ} → Typed v B → Matches M L → Matches (v ∷ M) (B ∷ L)

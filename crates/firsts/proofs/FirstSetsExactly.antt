@@ -17,8 +17,9 @@ use Rattle.kinds.specs.Kinds.{hasKind, only}
 use Rattle.kinds.proofs.KindsLaws.{has-none, has-join, has-only, has-own}
 use Rattle.grammar.specs.Table.{keyword, ide, number, kindOf, Item, terminal, local, call}
 use Rattle.productions.specs.Normal.{Production}
-use Rattle.firsts.specs.FirstSets.{patternOf, overAll, isNullable, nullables, openingOf, callOf, through, joined, gather, firstStep, setsOf}
-use Rattle.firsts.specs.Rules.{ReadsAt, reads-at, Of, First, first-own, first-call, first-past, FirstOf, Reads, reads, Calls, calls}
+use Rattle.firsts.specs.FirstSets.{overAll, isNullable, nullables, openingOf, callOf, through, joined, gather, firstStep, setsOf}
+use Rattle.firsts.specs.Patterns.{patternOf, ReadsAt, reads-at}
+use Rattle.firsts.specs.Rules.{Of, First, first-own, first-call, first-past, FirstOf, Reads, reads, Calls, calls}
 use Rattle.firsts.proofs.Rounds.{Numbers, same-at, nothing, Within, Each, admit, least, least-within, least-closed, least-seen, over-seen}
 use Rattle.firsts.proofs.Rounds.{or-left, or-right, or-split}
 use Rattle.firsts.proofs.NullablesExactly.{null-item-exactly}

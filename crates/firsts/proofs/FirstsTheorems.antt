@@ -8,8 +8,9 @@ use mathlib.Core.List.{List}
 use lib.ListN.{getD}
 use Rattle.kinds.specs.Kinds.{hasKind}
 use Rattle.productions.specs.Normal.{Production}
-use Rattle.firsts.specs.FirstSets.{allNullable, openingOf, callOf, patternOf, patternSets, patternsOf, nullables, firstSets, leftCalls, firstOf}
-use Rattle.firsts.specs.Rules.{ReadsAt, NullItems, Nullable, First, Reads, Calls, Opens, LeftReaches}
+use Rattle.firsts.specs.FirstSets.{allNullable, openingOf, callOf, nullables, firstSets, leftCalls, firstOf}
+use Rattle.firsts.specs.Patterns.{patternOf, patternSets, patternsOf, ReadsAt}
+use Rattle.firsts.specs.Rules.{NullItems, Nullable, First, Reads, Calls, Opens, LeftReaches}
 use Rattle.firsts.proofs.NullablesExactly as nulls
 use Rattle.firsts.proofs.FirstSetsExactly.{sets-exactly, items-exactly, reads-exactly, calls-exactly, reads-at-exactly}
 

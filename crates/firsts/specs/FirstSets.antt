@@ -3,11 +3,10 @@
 use Prim.Native.Nat.{ℕ, zero, suc}
 use mathlib.Core.Bool.{Bool, true, false, _&&_}
 use mathlib.Core.List.{List, [], _∷_}
-use lib.ListN.{getD, set, replicate}
-use lib.Bits.{bitOr}
+use lib.{ListN.getD, ListN.set, ListN.replicate, Bits.bitOr}
 use Rattle.kinds.specs.Kinds.{hasKind, only}
 use Rattle.grammar.specs.Limits.{most}
-use Rattle.grammar.specs.Table.{keyword, ide, number, kindOf, Item, terminal, local, call}
+use Rattle.grammar.specs.Table.{kindOf, Item, terminal, local, call}
 use Rattle.productions.specs.Normal.{Production}
 
 -- k rounds of f
@@ -84,17 +83,3 @@ leftCalls nulls g = setsOf callOf nulls g
 -- the first set of one production
 abbrev pub firstOf : ℕ → List ℕ → Production → ℕ
 firstOf nulls firsts p = gather openingOf nulls firsts (p .items) 0
-
--- what reads a `$` variable first, by its sort: bit B an ide of sort B
-abbrev pub patternOf : Item → ℕ
-patternOf (terminal (keyword k)) = 0
-patternOf (terminal (ide s)) = only s
-patternOf (terminal number) = 0
-patternOf local = 0
-patternOf (call n ts) = 0
-
-abbrev pub patternSets : ℕ → List Production → List ℕ
-patternSets nulls g = setsOf patternOf nulls g
-
-abbrev pub patternsOf : ℕ → List ℕ → Production → ℕ
-patternsOf nulls sets p = gather patternOf nulls sets (p .items) 0

@@ -1,5 +1,6 @@
 pub mod FirstSets
 pub mod Rules
+pub mod Patterns
 pub mod Room
 pub mod SetCalls
 pub mod Needs

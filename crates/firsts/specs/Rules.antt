@@ -5,7 +5,7 @@ use mathlib.Core.Path.{_≡_}
 use mathlib.Core.List.{List, [], _∷_}
 use Rattle.kinds.specs.Kinds.{noKind}
 use Rattle.grammar.specs.Limits.{most}
-use Rattle.grammar.specs.Table.{Templates, Terminal, ide, kindOf, Item, terminal, local, call}
+use Rattle.grammar.specs.Table.{Templates, Terminal, kindOf, Item, terminal, local, call}
 use Rattle.decoding.specs.Within.{Among}
 use Rattle.productions.specs.Normal.{Production}
 
@@ -49,10 +49,6 @@ pub record FirstOf (g : List Production) (own : Item → ℕ → Type 0) (n b : 
 -- the kind that an item reads
 pub data Reads : Item → ℕ → Type 0 where
   reads : {t : Terminal} → IsKind (kindOf t) → Reads (terminal t) (kindOf t)
-
--- the sort that an ide reads at
-pub data ReadsAt : Item → ℕ → Type 0 where
-  reads-at : {s : ℕ} → IsKind s → ReadsAt (terminal (ide s)) s
 
 -- the nonterminal that an item calls
 pub data Calls : Item → ℕ → Type 0 where

@@ -2,8 +2,7 @@
 use Prim.Native.Nat.{ℕ, zero, suc, _+_, _*_}
 use mathlib.Core.Bool.{true, false}
 use mathlib.Core.List.{List}
-use lib.Dec.{eqb, leb}
-use lib.ListN.{length, getD, take, drop}
+use lib.{Dec.eqb, Dec.leb, ListN.length, ListN.getD, ListN.take, ListN.drop}
 
 -- What stands from an offset on: nothing (the offset is the table's length), a field that runs past the end, or a field (its
 -- offset, tag and value) and what follows it.

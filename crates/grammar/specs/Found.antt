@@ -2,11 +2,9 @@
 use Prim.Native.Nat.{ℕ}
 use mathlib.Core.Bool.{true, false}
 use mathlib.Core.List.{List}
-use lib.Dec.{ltb}
-use lib.ListN.{length}
+use lib.{Dec.ltb, ListN.length}
 use Rattle.spellings.specs.Bytes.{indexOf}
-use Rattle.grammar.specs.declared.Found.{Found}
-use Rattle.grammar.specs.declared.Found.the-variants.{At, Absent}
+use Rattle.grammar.specs.declared.Found.{Found, the-variants.At, the-variants.Absent}
 
 -- where a spelling stands first in a list, if it is there
 unfoldable pub foundIn : List ℕ → List (List ℕ) → Found

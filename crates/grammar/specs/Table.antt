@@ -73,6 +73,3 @@ Table = TableOf Template
 pub record Lexicon : Type 0 where
   pub keywords : List (List ℕ)
   pub outsides : List (List ℕ)
-
-abbrev pub lexiconOfTable : Table → Lexicon
-lexiconOfTable t = record { keywords = t .keywords; outsides = t .outsides }

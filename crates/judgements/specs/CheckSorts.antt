@@ -4,8 +4,7 @@
 use Prim.Native.Nat.{ℕ, _+_}
 use mathlib.Core.Bool.{Bool, true, false, not, _&&_}
 use mathlib.Core.List.{List, [], _∷_, _++_}
-use lib.Dec.{eqb, ltb}
-use lib.ListN.{length, getD}
+use lib.{Dec.eqb, Dec.ltb, ListN.length, ListN.getD}
 use Rattle.answers.specs.Checked.{Checked, ok, _>>=_, _>>_, need}
 use Rattle.spellings.specs.Bytes.{same}
 use Rattle.grammar.specs.Sorts.{Signature, gives, unit, var, binder, label, term, num, constructor}

@@ -4,8 +4,7 @@ use mathlib.Core.Path.{_≡_}
 use mathlib.Core.List.{List, [], _++_, map}
 use lib.ListN.{length, getD, drop}
 use Rattle.answers.specs.declared.Refusal.{Refusal}
-use Rattle.answers.specs.declared.Answer.{Answer}
-use Rattle.answers.specs.declared.Answer.the-variants.{Accepted, Refusing}
+use Rattle.answers.specs.declared.Answer.{Answer, the-variants.Accepted, the-variants.Refusing}
 use Rattle.kinds.specs.Kinds.{wordKind}
 use Rattle.decoding.specs.Within.{Each, Among}
 use Rattle.tokens.specs.declared.Token.{Token}
@@ -48,9 +47,7 @@ pub record Hygienic (syntax : Syntax) (formula : List ℕ) (u : Term Name) (out 
 -- Under the syntax of a passed table: an answer, with the text at exit, is a refusal 14 to 24 in its case and the text as lent, or an acceptance of the term
 -- and a hygienic text of it in front of what was lent.
 pub data Ends (syntax : Syntax) (formula cells text : List ℕ) : Answer → List ℕ → Type 0 where
-  refuses : {r : Refusal}
-      → Cause syntax formula cells text r
-      → Ends syntax formula cells text (Refusing r) text
+  refuses : {r : Refusal} → Cause syntax formula cells text r → Ends syntax formula cells text (Refusing r) text
   prints : {a b : ℕ} {u : Term Name} {out : List ℕ}
       → Accepts syntax formula cells text u a b (length out)
       → Hygienic syntax formula u out

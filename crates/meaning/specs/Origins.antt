@@ -9,13 +9,8 @@ use Rattle.terms.specs.Binding.{Owner, unbound, boundAt, RefersTo, Binder, Occu
 -- the innermost binder around that a variable's origin calls for (`RefersTo`: a formula's name calls for a formula binder of its spelling as
 -- written, a fresh name for a binder made with it), or none if there is none
 pub data Innermost (v : Name) : List Binder → Owner → Type 0 where
-  this-one : {b : Binder} {around : List Binder}
-      → RefersTo v (b .name)
-      → Innermost v (b ∷ around) (boundAt (b .place))
-  further-out : {b : Binder} {around : List Binder} {o : Owner}
-      → (RefersTo v (b .name) → ⊥)
-      → Innermost v around o
-      → Innermost v (b ∷ around) o
+  this-one : {b : Binder} {around : List Binder} → RefersTo v (b .name) → Innermost v (b ∷ around) (boundAt (b .place))
+  further-out : {b : Binder} {around : List Binder} {o : Owner} → ¬ RefersTo v (b .name) → Innermost v around o → Innermost v (b ∷ around) o
   nowhere : Innermost v [] unbound
 
 -- a variable at a place, with its binder
@@ -26,9 +21,7 @@ at p v o = record { place = p; name = v; owner = o }
 -- the left
 mutual
   pub data Occurs : List Binder → ℕ → Term Name → List Occurrence → Type 0 where
-    in-variable : {around : List Binder} {p : ℕ} {v : Name} {o : Owner}
-        → Innermost v around o
-        → Occurs around p (variable v) (at p v o ∷ [])
+    in-variable : {around : List Binder} {p : ℕ} {v : Name} {o : Owner} → Innermost v around o → Occurs around p (variable v) (at p v o ∷ [])
     in-function : {around : List Binder} {p : ℕ} {b : Name} {t : Term Name} {os : List Occurrence}
         → Occurs (record { name = b; place = p } ∷ around) (suc p) t os
         → Occurs around p (function b t) os
@@ -36,12 +29,8 @@ mutual
         → Occurs around (suc p) t os
         → Occurs around (suc p + size t) u qs
         → Occurs around p (apply t u) (os ++ qs)
-    in-rcd : {around : List Binder} {p : ℕ} {f : Fields Name} {os : List Occurrence}
-        → OccursFields around (suc p) f os
-        → Occurs around p (rcd f) os
-    in-dot : {around : List Binder} {p : ℕ} {t : Term Name} {l : List ℕ} {os : List Occurrence}
-        → Occurs around (suc p) t os
-        → Occurs around p (dot t l) os
+    in-rcd : {around : List Binder} {p : ℕ} {f : Fields Name} {os : List Occurrence} → OccursFields around (suc p) f os → Occurs around p (rcd f) os
+    in-dot : {around : List Binder} {p : ℕ} {t : Term Name} {l : List ℕ} {os : List Occurrence} → Occurs around (suc p) t os → Occurs around p (dot t l) os
     in-number : {around : List Binder} {p n : ℕ} → Occurs around p (number n) []
 
   pub data OccursFields : List Binder → ℕ → Fields Name → List Occurrence → Type 0 where
@@ -58,16 +47,11 @@ pub data Loose : Occurrence → Type 0 where
 
 -- the first of them, and none
 pub data FirstLoose : List Occurrence → ℕ → Type 0 where
-  this-first : {o : Occurrence} {os : List Occurrence}
-      → Loose o
-      → FirstLoose (o ∷ os) (o .place)
-  later : {o : Occurrence} {os : List Occurrence} {p : ℕ}
-      → (Loose o → ⊥)
-      → FirstLoose os p
-      → FirstLoose (o ∷ os) p
+  this-first : {o : Occurrence} {os : List Occurrence} → Loose o → FirstLoose (o ∷ os) (o .place)
+  later : {o : Occurrence} {os : List Occurrence} {p : ℕ} → ¬ Loose o → FirstLoose os p → FirstLoose (o ∷ os) p
 
 abbrev pub NoneLoose : List Occurrence → Type 0
-NoneLoose os = Each (λ o. Loose o → ⊥) os
+NoneLoose os = Each (λ o. ¬ Loose o) os
 
 -- ------------------------------------------------------------------ what demand 3 asks of a variable
 

@@ -92,13 +92,13 @@ module _ (table : Table) (passing : Passing table) where
   -- Whatever a call of the root derives is a term (001, Corollary 1).
   pub root-derives-term : {spell : ℕ → List ℕ} {M : List Value} {s s′ : List Token} {i i′ : ℕ}
       → Derives (grammarOf table) spell [] s i (call (table .root) none ∷ []) s′ i′ M
-      → (other : Term Name) × (M ≡ term other ∷ [])
+      → (meant : Term Name) × (M ≡ term meant ∷ [])
   root-derives-term (by-call {v = v} give-none k d g by-end) =
       let F = table-fits table (passing .within) (passing .meets .sorted) in
       let matched : Matches [] (passing .meets .sorted .signature .params) = rw (passing .meets .sorted .without) matches-none in
       go v (subst (Typed v) (passing .meets .sorted .of-term) (items-typed F d matched (body-of F (taken-of k) (passing .meets .sorted .defined)) g))
     where
-      go : (value : Value) → Typed value Sorts.term → (other : Term Name) × (_≡_ {A = List Value} (value ∷ []) (term other ∷ []))
+      go : (value : Value) → Typed value Sorts.term → (meant : Term Name) × (_≡_ {A = List Value} (value ∷ []) (term meant ∷ []))
       go (term u) typed-term = (u, refl)
 
   -- A well sorted call, under variables of their sorts, has values for its arguments and a production of its nonterminal: it is never `wrong`.
@@ -116,11 +116,11 @@ module _ (table : Table) (passing : Passing table) where
     ParsesAs u = Parses (grammarOf table) (lexemes .spell) (table .root) (lexemes .tokens) u
 
     -- A formula has one reading at most: two derivations from the root give the same term.
-    pub derived-once : {other second : Term Name} → ParsesAs other → ParsesAs second → other ≡ second
+    pub derived-once : {first second : Term Name} → ParsesAs first → ParsesAs second → first ≡ second
     derived-once P Q = parses-one firsts-passed P Q
 
     -- Each place of a derived term holds what its sort asks for (01, "Whose name is whose").
-    pub derived-is-placed : {other : Term Name} (parses-as : ParsesAs other) → Placed (givenIn (parses-as .derived)) (lexemes .spell) other
+    pub derived-is-placed : {meant : Term Name} (parses-as : ParsesAs meant) → Placed (givenIn (parses-as .derived)) (lexemes .spell) meant
     derived-is-placed parses-as = parses-placed parses-as
 
     abbrev setting : ℕ → Setting (grammarOf table)
@@ -141,13 +141,13 @@ module _ (table : Table) (passing : Passing table) where
         }
 
     -- What was given in its derivation is a token of the formula or one of the table's outside names.
-    pub derived-is-supplied : {other : Term Name} (parses-as : ParsesAs other)
+    pub derived-is-supplied : {meant : Term Name} (parses-as : ParsesAs meant)
         → Each (Supplied (lexemes .tokens) (length (table .outsides))) (givenIn (parses-as .derived))
     derived-is-supplied parses-as = parses-supplied (setting 0) parses-as
 
     -- So a derived term has only words for names and labels, if those of the formula and of the table are words.
-    pub derived-is-worded : ((other : Token) → Among (lexemes .tokens) other → other .kind ≡ wordKind → isWord (lexemes .spell (other .value)) ≡ true)
-        → ((nonterminal : ℕ) → nonterminal < length (table .outsides) → isWord (lexemes .spell nonterminal) ≡ true)
+    pub derived-is-worded : ((token : Token) → Among (lexemes .tokens) token → token .kind ≡ wordKind → isWord (lexemes .spell (token .value)) ≡ true)
+        → ((number : ℕ) → number < length (table .outsides) → isWord (lexemes .spell number) ≡ true)
         → {derived : Term Name} → ParsesAs derived → isWorded derived ≡ true
     derived-is-worded words outsides P = placed-worded (lexemes .spell) (derived-is-supplied P) words outsides (derived-is-placed P)
 
@@ -164,12 +164,12 @@ module _ (table : Table) (passing : Passing table) where
       accepted-is-derived = run-sound (setting rows) cells room
 
       -- A term is accepted exactly if it is derived within the limits.
-      pub accepted-exactly : (other : Term Name)
-          → ((row : ℕ) × (state : State) × (cells′ : List ℕ) × Answers (done row state cells′) × (termAt (state .made) (lexemes .spell) cells′ row ≡ other))
-          ↔ ((parses-as : ParsesAs other) × Affords rows 0 0 0 (parses-as .derived))
-      accepted-exactly other = (
+      pub accepted-exactly : (meant : Term Name)
+          → ((row : ℕ) × (state : State) × (cells′ : List ℕ) × Answers (done row state cells′) × (termAt (state .made) (lexemes .spell) cells′ row ≡ meant))
+          ↔ ((parses-as : ParsesAs meant) × Affords rows 0 0 0 (parses-as .derived))
+      accepted-exactly meant = (
         λ a.
-            let P : ParsesAs other = subst ParsesAs (a .4) (accepted-is-derived (a .0) (a .1) (a .2) (a .3)) in
+            let P : ParsesAs meant = subst ParsesAs (a .4) (accepted-is-derived (a .0) (a .1) (a .2) (a .3)) in
             (P, accepts (setting rows) P cells room (a .0) (a .1) (a .2) (a .3) .affords),
         λ d.
             let b = accepted (setting rows) (d .0) cells room (d .1) in
@@ -177,8 +177,8 @@ module _ (table : Table) (passing : Passing table) where
       )
 
       -- Accepted beside a derivation, the cells show the term derived, and the state has counted the derivation's cells.
-      pub accepted-as-derived : {other : Term Name} (parses-as : ParsesAs other) (row : ℕ) (state : State) (cells′ : List ℕ) → Answers (done row state cells′)
-          → (termAt (state .made) (lexemes .spell) cells′ row ≡ other) × (state .made ≡ rowsIn (parses-as .derived))
+      pub accepted-as-derived : {meant : Term Name} (parses-as : ParsesAs meant) (row : ℕ) (state : State) (cells′ : List ℕ) → Answers (done row state cells′)
+          → (termAt (state .made) (lexemes .spell) cells′ row ≡ meant) × (state .made ≡ rowsIn (parses-as .derived))
       accepted-as-derived parses-as row state cells′ e = let a = accepts (setting rows) parses-as cells room row state cells′ e in (a .term-is, a .made-are)
 
       -- The term of an accepted expansion lies in the rows that it made, which are no more than there are.

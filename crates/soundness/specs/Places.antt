@@ -25,7 +25,8 @@ pub data Given : Type 0 where
   outside-name : ℕ → Given
   outside-label : ℕ → Given
 
--- a word or a number is a token of the formula, of its kind; an outside name is one of the table's, of which there are so many
+-- a word or a number is a token of the formula, of its kind; an outside name is one of the table's, of which there are so many; a fresh name is any
+-- number here: that no two locals give the same is Figure 3's `by-local`, which counts on
 pub data Supplied (tokens : List Token) (outsides : ℕ) : Given → Type 0 where
   supplied-word : {B : ℕ} {t : Token} → Among tokens t → t .kind ≡ wordKind → Supplied tokens outsides (word-at B t)
   supplied-fresh : {i : ℕ} → Supplied tokens outsides (fresh-name i)
@@ -79,7 +80,8 @@ pub data LabelPlace (G : List Given) (spell : ℕ → List ℕ) : List ℕ → T
 pub data NumPlace (G : List Given) : ℕ → Type 0 where
   num-number : {t : Token} → Among G (number-at t) → NumPlace G (t .value)
 
--- a term each place of which holds what its sort asks for
+-- A term each place of which holds what its sort asks for. It is by name: what stands at a place was given by some item or template of the derivation.
+-- Which one gave it here is said by Figure 3, which derives the term.
 mutual
   pub data Placed (G : List Given) (spell : ℕ → List ℕ) : Term Name → Type 0 where
     placed-variable : {x : Name} → VarPlace G spell x → Placed G spell (variable x)

@@ -5,8 +5,7 @@ use mathlib.Core.Path.{_≡_}
 use mathlib.Core.Bool.{true}
 use mathlib.Core.Logic.{_↔_}
 use mathlib.Core.List.{List, [], _∷_}
-use lib.ListN.{length, getD}
-use lib.Count.{ones}
+use lib.{ListN.length, ListN.getD, Count.ones}
 use Rattle.answers.specs.declared.Refusal.{Refusal}
 use Rattle.answers.specs.Refusals.{refusal}
 use Rattle.kinds.specs.Kinds.{hasKind, only}
@@ -42,15 +41,9 @@ module _ (g : List Production) (spell : ℕ → List ℕ) (rows : ℕ) (tokens :
   -- A step fails where o calls are open, c are begun, m cells are made, and the tokens s are left. It leaves the m cells made; a step that
   -- makes more cells than there are rows for fills all rows first.
   pub data Fails (o c m : ℕ) (s : List Token) : Action → Refusal → ℕ → Type 0 where
-    no-token : {k : ℕ}
-        → (Next s k → ⊥)
-        → Fails o c m s (takes k) (refusal 17 (nextIndex tokens s) (only k) (ones (only k))) m
-    no-row : {n : ℕ}
-        → rows < m + n
-        → Fails o c m s (makes n) (refusal 21 (nextIndex tokens s) 0 0) rows
-    too-deep : {n : ℕ}
-        → mostOpen ≤ o
-        → Fails o c m s (begins n) (refusal 19 (nextIndex tokens s) 0 0) m
+    no-token : {k : ℕ} → ¬ Next s k → Fails o c m s (takes k) (refusal 17 (nextIndex tokens s) (only k) (ones (only k))) m
+    no-row : {n : ℕ} → rows < m + n → Fails o c m s (makes n) (refusal 21 (nextIndex tokens s) 0 0) rows
+    too-deep : {n : ℕ} → mostOpen ≤ o → Fails o c m s (begins n) (refusal 19 (nextIndex tokens s) 0 0) m
     too-many-calls : {n : ℕ}
         → o < mostOpen
         → mostCalls ≤ c

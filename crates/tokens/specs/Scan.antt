@@ -3,13 +3,10 @@
 use Prim.Native.Nat.{ℕ, zero, suc, _+_}
 use mathlib.Core.Bool.{Bool, true, false, _&&_}
 use mathlib.Core.List.{List, [], _∷_, _++_}
-use lib.Dec.{eqb, leb, ltb}
-use lib.ListN.{length, getD, take, drop}
+use lib.{Dec.eqb, Dec.leb, Dec.ltb, ListN.length, ListN.getD, ListN.take, ListN.drop}
 use Rattle.tokens.specs.declared.Token.{Token}
-use Rattle.tokens.specs.declared.Step.{Step}
-use Rattle.tokens.specs.declared.Step.the-variants.{Skip, Stop, Emit}
-use Rattle.tokens.specs.declared.Scanned.{Scanned}
-use Rattle.tokens.specs.declared.Scanned.the-variants.{Tokens, Unscanned}
+use Rattle.tokens.specs.declared.Step.{Step, the-variants.Skip, the-variants.Stop, the-variants.Emit}
+use Rattle.tokens.specs.declared.Scanned.{Scanned, the-variants.Tokens, the-variants.Unscanned}
 use Rattle.spellings.specs.Bytes.{isLetter, isDigit, isWordByte, isSeparator, isSymbol, longestRun, longestWord, indexOf, valueOf, isNumber}
 use Rattle.kinds.specs.Kinds.{wordKind, numberKind, keywordKind, noKind}
 use Rattle.answers.specs.Refusals.{refusal}

@@ -2,8 +2,7 @@
 use Prim.Native.Nat.{ℕ, _-_}
 use mathlib.Core.Bool.{true, false}
 use mathlib.Core.List.{List, []}
-use lib.Dec.{ltb}
-use lib.ListN.{getD}
+use lib.{Dec.ltb, ListN.getD}
 use Rattle.tokens.specs.declared.Token.{Token}
 use Rattle.kinds.specs.Kinds.{noKind}
 use Rattle.grammar.specs.Limits.{most}
