@@ -1,6 +1,6 @@
--- The steps of the last step joined: the answer and the buffer are those of `emitted`.
-use Prim.Native.Nat.{ℕ, _-_, _<_, _≤_}
-use mathlib.Core.Path.{_≡_, sym, ap, ap₂, _∙_}
+-- The steps of the last step joined: what is judged of a term, what is written of one that passes, and the rooms for marks.
+use Prim.Native.Nat.{ℕ, _<_, _≤_}
+use mathlib.Core.Path.{_≡_, refl, sym, ap, ap₂, _∙_}
 use mathlib.Core.List.{List}
 use native.Mathlib.Omega.{arith}
 use native.Mathlib.Decide.{decLe}
@@ -8,9 +8,13 @@ use lib.Dec.{ltb}
 use lib.ListN.{length, getD, take, replicate, length-replicate, length-take}
 use lib.Seq.{length-take-le, getD-take}
 use borrow.Author.Tests.{le-leb, lt-leb, ltb-true, ltb-false}
+use Rattle.answers.specs.declared.Refusal.{Refusal}
 use Rattle.answers.specs.declared.Answer.{Answer}
 use Rattle.answers.specs.declared.Answer.the-variants.{Accepted, Refusing}
+use Rattle.answers.specs.declared.Verdict.{Verdict}
+use Rattle.answers.specs.declared.Verdict.the-variants.{Passed, Refused}
 use Rattle.answers.specs.Refusals.{refusal}
+use Rattle.answers.specs.Checked.{Checked, ok, bad, verdict}
 use Rattle.spellings.specs.Buffers.{writtenInto}
 use Rattle.spellings.proofs.BytesLaws.{by-test}
 use Rattle.spellings.proofs.BuffersLaws.{written-fits, written-not}
@@ -18,16 +22,84 @@ use Rattle.grammar.proofs.ReaderLaws.{getD-past}
 use Rattle.terms.specs.Term.{Name, Term, size, largestTerm}
 use Rattle.terms.specs.Rows.{termAt}
 use Rattle.terms.specs.Print.{print}
-use Rattle.terms.specs.Emit.{textOf, fitted, emitted}
+use Rattle.terms.specs.Emit.{textOf, judged, fitted, emitted}
 use Rattle.terms.proofs.EmitLaws.{leaves, fitted-long, fitted-whole, judged-large, judged-loose, judged-passes, emitted-refused, emitted-fitted}
-use Rattle.rows.specs.Sizes.{noSpell, sizeAt, mostBound}
+use Rattle.rows.specs.Sizes.{WholeRows, rowsHeld, noSpell, sizeAt}
 use Rattle.rows.proofs.ListLaws.{zeros}
 use Rattle.rows.proofs.SizeLaws.{size-spell}
 use Rattle.resolver.specs.declared.Resolution.{Resolution}
 use Rattle.resolver.specs.declared.Resolution.the-variants.{Loose, Numbered}
-use Rattle.resolver.specs.Numbers.{walkOf, ResolvedAs}
-use Rattle.printer.specs.Printed.{textBy, Prints}
-use Rattle.emitter.specs.Emittable.{Emittable, Markable, answerBy}
+use Rattle.resolver.specs.Numbers.{walkOf, Resolvable, Resolves}
+use Rattle.writer.specs.Pool.{spelledBy}
+use Rattle.printer.specs.Printed.{textBy, Printable, Prints}
+use Rattle.emitter.specs.Emittable.{termOf, Emittable, Sized, Markable, JudgedAs, Judged, answerBy}
+
+-- ------------------------------------------------------------------ what is judged
+
+never : {A : Type 0} {cause : Refusal} → Refused cause ≡ Passed → A
+never e = let z : _≡_ {A = ℕ} 0 1 = cc in absurd (omega arith)
+
+module _ (cells : List ℕ) (root : ℕ) where
+  sized : (spell : ℕ → List ℕ) → sizeAt cells (rowsHeld cells) root ≡ size (termAt (rowsHeld cells) spell cells root)
+  sized spell = size-spell (rowsHeld cells) noSpell spell cells root
+
+  -- 22
+  pub judge-large : {marks : List ℕ} {constructors : ℕ} {cause : Refusal} → Sized cells root constructors → largestTerm < constructors
+      → cause ≡ refusal 22 (rowsHeld cells) 0 0 → Judged cells root marks marks (Refused cause)
+  judge-large s h e =
+      record {
+        long = refl;
+        small = never;
+        each =
+            λ spell d w.
+            record { answer = rw (judged-large (rowsHeld cells) (termAt (rowsHeld cells) spell cells root) (omega (arith, sized spell)), e) refl; named = never };
+      }
+
+  module _ {marks marks′ : List ℕ} {constructors : ℕ} {resolution : Resolution} (s : Sized cells root constructors) (few : constructors ≤ largestTerm)
+      (resolved : Resolves cells (rowsHeld cells) root marks′ resolution × (length marks′ ≡ length marks))
+    where
+      -- 23
+      pub judge-loose : {place : ℕ} {cause : Refusal} → resolution ≡ Loose place → cause ≡ refusal 23 place 0 0
+          → Judged cells root marks marks′ (Refused cause)
+      judge-loose {place} en e =
+          record {
+            long = resolved .1;
+            small = never;
+            each =
+                λ spell d w.
+                let walked = resolved .0 spell d w .answer ∙ ap (λ r. walkOf r (size (termAt (rowsHeld cells) spell cells root))) en in
+                record { answer = rw (judged-loose (rowsHeld cells) (termAt (rowsHeld cells) spell cells root) (omega (arith, sized spell)) walked, e) refl; named = never };
+          }
+
+      -- else the term passes, and its new names are numbered
+      pub judge-passes : resolution ≡ Numbered → Judged cells root marks marks′ Passed
+      judge-passes en =
+          record {
+            long = resolved .1;
+            small = λ e. omega arith;
+            each =
+                λ spell d w.
+                let walked = resolved .0 spell d w .answer ∙ ap (λ r. walkOf r (size (termAt (rowsHeld cells) spell cells root))) en in
+                record {
+                  answer = rw (judged-passes (rowsHeld cells) (termAt (rowsHeld cells) spell cells root) (omega (arith, sized spell)) walked) refl;
+                  named = λ e. resolved .0 spell d w .named en;
+                };
+          }
+
+-- resolution is given what it asks
+pub resolvable : {cells : List ℕ} {root size : ℕ} {marks : List ℕ} → Markable cells root size marks → size ≤ largestTerm
+    → Resolvable cells (rowsHeld cells) root marks
+resolvable lent few =
+    let long = lent .marked few in
+    record {
+      whole = lent .whole;
+      rowsLie = omega (arith, lent .whole .whole);
+      counted = long ∙ omega (arith, lent .sized);
+      few = omega arith;
+      blank = lent .blank;
+    }
+
+-- ------------------------------------------------------------------ what is written
 
 module _ (made constructors needed room : ℕ) where
   -- a text longer than its buffer is refused with 24 and its length
@@ -55,40 +127,68 @@ fitted-by made constructors out text = by (decLe (length out) (length text))
         fitted-long made constructors out text h
         ∙ ap₂ leaves (answer-long made constructors (length out) (length text) h) (sym (written-not out text h))
 
-module _ (spell : ℕ → List ℕ) (cells : List ℕ) (made root : ℕ) where
-  abbrev T : Term Name
-  T = termAt made spell cells root
+-- 24 or what the walk prints
+pub written : (made constructors : ℕ) {out text text′ : List ℕ} {needed : ℕ} {answer : Answer} → Prints out text text′ needed
+    → answer ≡ answerBy made constructors needed (length text) → fitted made constructors out text ≡ leaves answer text′
+written made constructors {out} {text} {answer = answer} p e =
+    fitted-by made constructors out text
+    ∙ ap₂ leaves (ap (λ n. answerBy made constructors n (length text)) (sym (p .needed)) ∙ sym e) (sym (p .placed))
 
-  sized : sizeAt cells made root ≡ size T
-  sized = size-spell made noSpell spell cells root
+-- ------------------------------------------------------------------ judged, then written
 
-  -- 22
-  pub emit-large : (text : List ℕ) {answer : Answer} → largestTerm < sizeAt cells made root → answer ≡ Refusing (refusal 22 made 0 0)
-      → emitted textOf made T text ≡ leaves answer text
-  emit-large text h e = emitted-refused textOf made T text (judged-large made T (omega (arith, sized))) ∙ ap (λ a. leaves a text) (sym e)
+verdict-bad : (checked : Checked (Unit {0})) {cause : Refusal} → Refused cause ≡ verdict checked → checked ≡ bad cause
+verdict-bad (ok u) e = never (sym (sym e))
+verdict-bad (bad r) e = cc
 
-  module _ (text : List ℕ) (small : sizeAt cells made root ≤ largestTerm) {numbers : List ℕ} {resolution : Resolution}
-      (resolved : ResolvedAs T numbers resolution)
-    where
-      -- 23
-      pub emit-loose : {place : ℕ} {answer : Answer} → resolution ≡ Loose place → answer ≡ Refusing (refusal 23 place 0 0)
-          → emitted textOf made T text ≡ leaves answer text
-      emit-loose en e =
-          emitted-refused textOf made T text (judged-loose made T (omega (arith, sized)) (resolved .answer ∙ ap (λ w. walkOf w (size T)) en))
-          ∙ ap (λ a. leaves a text) (sym e)
+verdict-ok : (checked : Checked (Unit {0})) → Passed ≡ verdict checked → checked ≡ ok tt
+verdict-ok (ok u) e = refl
+verdict-ok (bad r) e = never (sym e)
 
-      -- 24 or the text: what the walk prints is the text
-      pub emit-text : {text′ : List ℕ} {constructors needed : ℕ} {given-answer : Answer} → resolution ≡ Numbered → constructors ≡ sizeAt cells made root
-          → Prints (textBy spell cells numbers made root) text text′ needed → given-answer ≡ answerBy made constructors needed (length text)
-          → emitted textOf made T text ≡ leaves given-answer text′
-      unfolding textBy
-      emit-text {given-answer = given-answer} en ec p er =
-          let same : textBy spell cells numbers made root ≡ textOf T = ap print (resolved .named en) in
-          let answer : answerBy made (size T) (length (textOf T)) (length text) ≡ given-answer =
-          ap₂ (λ c l. answerBy made c l (length text)) (sym (ec ∙ sized)) (ap length (sym same) ∙ sym (p .needed)) ∙ sym er in
-          emitted-fitted textOf made T text (judged-passes made T (omega (arith, sized)) (resolved .answer ∙ ap (λ w. walkOf w (size T)) en))
-          ∙ fitted-by made (size T) (textOf T) text
-          ∙ ap₂ leaves answer (ap (λ out. writtenInto out text) (sym same) ∙ sym (p .placed))
+module _ {table formula words : List ℕ} {count : ℕ} {cells : List ℕ} {root size : ℕ} {marks marks′ : List ℕ} {given-verdict : Verdict}
+    (given : Emittable table formula words count cells root) (lent : Markable cells root size marks) (judges : Judged cells root marks marks′ given-verdict)
+  where
+    abbrev spell : ℕ → List ℕ
+    spell = spelledBy table formula words count
+
+    abbrev T : Term Name
+    T = termOf table formula words count cells root
+
+    judges-as : JudgedAs (rowsHeld cells) T marks′ given-verdict
+    judges-as = judges .each spell (given .distinct) (given .wellNamed)
+
+    -- what is judged refuses the term
+    pub emit-refused : (text : List ℕ) {cause : Refusal} → given-verdict ≡ Refused cause
+        → emitted textOf (rowsHeld cells) T text ≡ leaves (Refusing cause) text
+    emit-refused text e = emitted-refused textOf (rowsHeld cells) T text (verdict-bad (judged (rowsHeld cells) T) (sym e ∙ judges-as .answer))
+
+    -- a term that passes has a number for each of its constructors,
+    counted : given-verdict ≡ Passed → length marks′ ≡ sizeAt cells (rowsHeld cells) root
+    counted e =
+        let small = judges .small e in
+        judges .long ∙ lent .marked (omega (arith, lent .sized)) ∙ omega (arith, lent .sized)
+
+    -- can be printed,
+    pub emit-printable : given-verdict ≡ Passed → Printable table formula words count cells (rowsHeld cells) root marks′
+    emit-printable e =
+        record {
+          few = given .few;
+          lie = given .lie;
+          outsidesFit = given .outsidesFit;
+          wordsFit = given .wordsFit;
+          marked = omega (arith, counted e);
+          small = omega (arith, counted e, judges .small e);
+        }
+
+    -- and is written
+    pub emit-passed : (text : List ℕ) {text′ : List ℕ} {answer : Answer} → given-verdict ≡ Passed
+        → fitted (rowsHeld cells) (length marks′) (textBy spell cells marks′ (rowsHeld cells) root) text ≡ leaves answer text′
+        → emitted textOf (rowsHeld cells) T text ≡ leaves answer text′
+    unfolding textBy
+    emit-passed text e w =
+        emitted-fitted textOf (rowsHeld cells) T text (verdict-ok (judged (rowsHeld cells) T) (sym e ∙ judges-as .answer))
+        ∙ sym (ap₂ (λ n out. fitted (rowsHeld cells) n out text) (counted e ∙ sized cells root spell) (ap print (judges-as .named e))) ∙ w
+
+-- ------------------------------------------------------------------ rooms for marks
 
 -- the front of a room of zeros
 zeros-front : (count size place : ℕ) → getD {A = ℕ} (take size (replicate count 0)) place 0 ≡ 0
@@ -99,10 +199,17 @@ zeros-front count size place =
     getD-past {A = ℕ} (take size (replicate count 0)) place 0
     (omega (arith, ltb-false place size e, length-take {A = ℕ} size (replicate count 0))))
 
--- A room of as many marks as the term has constructors, at the front of `count-marked` zeros.
-pub markable : {table formula words cells : List ℕ} {count made root left : ℕ} (count-marked : ℕ) → Emittable table formula words count cells made root
-    → left ≡ mostBound - sizeAt cells made root → (left ≡ 0 → ⊥) → mostBound - left ≤ count-marked
-    → Markable table formula words count cells made root (take (mostBound - left) (replicate count-marked 0))
-markable {left = left} count-marked e counted some l =
-    let long = length-take-le {A = ℕ} (mostBound - left) (replicate count-marked 0) (omega (arith, length-replicate {A = ℕ} count-marked 0)) in
-    record { emittable = e; counted = omega (arith, long); few = omega (arith, long); blank = zeros-front count-marked (mostBound - left) }
+module _ {cells : List ℕ} {root size : ℕ} (whole : WholeRows cells) (s : Sized cells root size) where
+  -- A room of as many marks as the term has constructors, at the front of `count` zeros.
+  pub markable : (count : ℕ) → size ≤ count → Markable cells root size (take size (replicate count 0))
+  markable count l =
+      record {
+        whole = whole;
+        sized = s;
+        marked = λ h. length-take-le {A = ℕ} size (replicate count 0) (omega (arith, length-replicate {A = ℕ} count 0));
+        blank = zeros-front count size;
+      }
+
+  -- For a term that is too large there is none.
+  pub unmarked : (count : ℕ) → largestTerm < size → Markable cells root size (take 0 (replicate count 0))
+  unmarked count l = record { whole = whole; sized = s; marked = λ h. absurd (omega arith); blank = zeros-front count 0 }

@@ -1,100 +1,147 @@
-// The last step of an expansion: refusals 22, 23 and 24, or the text of its term.
+// The last step of an expansion: what is judged of its term, refusals 22 and 23, and what is written of a term that passes, refusal 24 or the text.
 use answers::Answer;
+use answers::Verdict;
+use answers::causes::LOOSE_FRESH_VARIABLE;
+use answers::causes::TERM_TOO_LARGE;
+use answers::causes::TEXT_TOO_LONG;
 use answers::refuse;
 use printer::print_text;
 use resolver::Resolution;
 use resolver::resolve;
-use rows::sizes::MOST_BOUND;
-use rows::sizes::size_left;
+use rows::sizes::size_at;
+use terms::COLUMNS;
 use terms::LARGEST_TERM;
+ghost use Prim.Native.Nat.{_<_, _≤_};
 ghost use mathlib.Core.Path.{_≡_};
-ghost use Rattle.answers.specs.Refusals.{refusal};
-ghost use Rattle.terms.specs.Rows.{termAt};
-ghost use Rattle.terms.specs.Emit.{textOf, emitted};
+ghost use lib.ListN.{length};
+ghost use Rattle.terms.specs.Term.{largestTerm};
+ghost use Rattle.terms.specs.Emit.{textOf, fitted, emitted};
+ghost use Rattle.rows.specs.Sizes.{rowsHeld};
 ghost use Rattle.writer.specs.Pool.{spelledBy};
-ghost use Rattle.printer.specs.Printed.{textBy, Printable, Prints};
-ghost use Rattle.emitter.specs.Emittable.{Emittable, Markable, answerBy};
-
-fn refusing(number: u8, a: usize) -> Answer
-    ensures { λ r. ⌜ r ≡ Answer.Refusing (refusal number a 0 0) ⌝ }
-{
-    Answer::Refusing(refuse(number, a as u64, 0, 0))
-}
+ghost use Rattle.printer.specs.Printed.{textBy, Printable};
+ghost use Rattle.emitter.specs.Emittable.{termOf, Emittable, Sized, Markable, Judged, answerBy};
 
 // Constructors for which a shorter room is lent.
 const SMALL_TERM: usize = 256;
+
+// What is judged of the term at a row, whatever is then to be written of it: its size, then its names. `size` is cut off behind the largest term, and `marks`
+// has a place for each constructor of a term that is not larger; where the term passes, it has the number of each new name at its place.
+fn judge(cells: &[u32], root: u32, size: usize, marks: &mut &mut [u16]) -> Verdict
+    requires { ⌜ Markable (now cells) root size (now (now marks)) ⌝ }
+    ensures { λ r. ⌜ Judged (now (cells .entry)) root (now (now (marks .entry))) (now (now (marks .exit))) r ⌝ }
+{
+    let made = cells.len() / COLUMNS;
+    if LARGEST_TERM < size {
+        return Verdict::Refused(refuse(TERM_TOO_LARGE, made as u64, 0, 0));
+    }
+    let resolution = resolve(cells, made, root, marks);
+    match resolution {
+        Resolution::Loose(p) => Verdict::Refused(refuse(LOOSE_FRESH_VARIABLE, p as u64, 0, 0)),
+        Resolution::Numbered => Verdict::Passed,
+    }
+}
 
 // The answer where `needed` bytes are to go into a room.
 fn answered(made: usize, size: usize, needed: usize, room: usize) -> Answer
     ensures { λ r. ⌜ r ≡ answerBy made size needed room ⌝ }
 {
     if room < needed {
-        return refusing(24, needed);
+        return Answer::Refusing(refuse(TEXT_TOO_LONG, needed as u64, 0, 0));
     }
     Answer::Accepted(made, size, needed)
 }
 
-// The text, for a caller that holds the numbers of new names in a room lent to be written.
-fn print_marked(
+// What is written of the term at a row, with the number of each new name at its place: its text, if it fits.
+fn write_text(
     table: &[u8],
     formula: &[u8],
     words: &[u32],
     count: usize,
     cells: &[u32],
-    made: usize,
     root: u32,
     marks: &mut [u16],
     text: &mut [u8],
-) -> usize
-    requires { ⌜ Printable (now table) (now formula) (now words) count (now cells) made root (now marks) ⌝ }
+) -> Answer
+    requires { ⌜ Printable (now table) (now formula) (now words) count (now cells) (rowsHeld (now cells)) root (now marks) ⌝ }
     ensures { λ r. ⌜
-        Prints
-        (textBy (spelledBy (now (table .entry)) (now (formula .entry)) (now (words .entry)) count) (now (cells .entry)) (now (marks .entry)) made root)
-        (now (text .entry)) (now (text .exit)) r
+        fitted (rowsHeld (now (cells .entry))) (length (now (marks .entry)))
+        (textBy (spelledBy (now (table .entry)) (now (formula .entry)) (now (words .entry)) count) (now (cells .entry)) (now (marks .entry))
+        (rowsHeld (now (cells .entry))) root)
+        (now (text .entry)) ≡ record { answer = r; text = now (text .exit) }
         ⌝ }
 {
-    print_text(table, formula, words, count, cells, made, root, marks, text)
+    let made = cells.len() / COLUMNS;
+    let size = marks.len();
+    let room = text.len();
+    let needed = print_text(table, formula, words, count, cells, made, root, marks, text);
+    answered(made, size, needed, room)
 }
 
-// Refusals 23 and 24, or the text of the term at a row, with a mark for each of its constructors.
+// The last step with a room for marks: the term is judged, and what is written of one that passes is chosen here.
 fn emit_in(
     table: &[u8],
     formula: &[u8],
     words: &[u32],
     count: usize,
     cells: &[u32],
-    made: usize,
     root: u32,
+    size: usize,
     marks: &mut &mut [u16],
     text: &mut [u8],
 ) -> Answer
-    requires { ⌜ Markable (now table) (now formula) (now words) count (now cells) made root (now (now marks)) ⌝ }
+    requires { ⌜ Emittable (now table) (now formula) (now words) count (now cells) root ⌝ }
+    requires { ⌜ Markable (now cells) root size (now (now marks)) ⌝ }
     ensures { λ r. ⌜
-        emitted textOf made
-        (termAt made (spelledBy (now (table .entry)) (now (formula .entry)) (now (words .entry)) count) (now (cells .entry)) root)
+        emitted textOf (rowsHeld (now (cells .entry)))
+        (termOf (now (table .entry)) (now (formula .entry)) (now (words .entry)) count (now (cells .entry)) root)
         (now (text .entry)) ≡ record { answer = r; text = now (text .exit) }
         ⌝ }
 {
-    let size = marks.len();
-    let resolution = resolve(cells, made, root, marks);
-    match resolution {
-        Resolution::Loose(p) => refusing(23, p),
-        Resolution::Numbered => {
-            let room = text.len();
-            let needed = print_marked(
-                table,
-                formula,
-                words,
-                count,
-                cells,
-                made,
-                root,
-                *marks,
-                text,
-            );
-            answered(made, size, needed, room)
-        }
+    let verdict = judge(cells, root, size, marks);
+    match verdict {
+        Verdict::Refused(r) => Answer::Refusing(r),
+        Verdict::Passed => write_text(table, formula, words, count, cells, root, *marks, text),
     }
+}
+
+// The last step for a term of more than 256 constructors, but not too many. It calls itself on what it is never passed, a small term: the back end lays no
+// such function into its caller, whose frame stays without this room.
+fn emit_large(
+    table: &[u8],
+    formula: &[u8],
+    words: &[u32],
+    count: usize,
+    cells: &[u32],
+    root: u32,
+    size: usize,
+    text: &mut [u8],
+) -> Answer
+    requires { ⌜ Emittable (now table) (now formula) (now words) count (now cells) root ⌝ }
+    requires { ⌜ Sized (now cells) root size ⌝ }
+    requires { ⌜ (256 < size) × (size ≤ largestTerm) ⌝ }
+    ensures { λ r. ⌜
+        emitted textOf (rowsHeld (now (cells .entry)))
+        (termOf (now (table .entry)) (now (formula .entry)) (now (words .entry)) count (now (cells .entry)) root)
+        (now (text .entry)) ≡ record { answer = r; text = now (text .exit) }
+        ⌝ }
+{
+    if size <= SMALL_TERM {
+        let none = [0u32; 1];
+        return emit_large(table, formula, &none, 0, cells, root, size, text);
+    }
+    let mut marks = [0u16; LARGEST_TERM];
+    let mut room = &mut marks[..size];
+    emit_in(
+        table,
+        formula,
+        words,
+        count,
+        cells,
+        root,
+        size,
+        &mut room,
+        text,
+    )
 }
 
 // Refusals 22, 23 and 24, or the text of the term at a row, at the front of `text`. `cells` are the rows made; `words` has the offset and
@@ -105,22 +152,17 @@ pub fn emit(
     words: &[u32],
     count: usize,
     cells: &[u32],
-    made: usize,
     root: u32,
     text: &mut [u8],
 ) -> Answer
-    requires { ⌜ Emittable (now table) (now formula) (now words) count (now cells) made root ⌝ }
+    requires { ⌜ Emittable (now table) (now formula) (now words) count (now cells) root ⌝ }
     ensures { λ r. ⌜
-        emitted textOf made
-        (termAt made (spelledBy (now (table .entry)) (now (formula .entry)) (now (words .entry)) count) (now (cells .entry)) root)
+        emitted textOf (rowsHeld (now (cells .entry)))
+        (termOf (now (table .entry)) (now (formula .entry)) (now (words .entry)) count (now (cells .entry)) root)
         (now (text .entry)) ≡ record { answer = r; text = now (text .exit) }
         ⌝ }
 {
-    let left = size_left(cells, made, root);
-    if left == 0 {
-        return refusing(22, made);
-    }
-    let size = MOST_BOUND - left;
+    let size = size_at(cells, root);
     if size <= SMALL_TERM {
         let mut marks = [0u16; SMALL_TERM];
         let mut room = &mut marks[..size];
@@ -130,22 +172,25 @@ pub fn emit(
             words,
             count,
             cells,
-            made,
             root,
+            size,
             &mut room,
             text,
         );
     }
-    let mut marks = [0u16; LARGEST_TERM];
-    let mut room = &mut marks[..size];
+    if size <= LARGEST_TERM {
+        return emit_large(table, formula, words, count, cells, root, size, text);
+    }
+    let mut none = [0u16; 1];
+    let mut room = &mut none[..0];
     emit_in(
         table,
         formula,
         words,
         count,
         cells,
-        made,
         root,
+        size,
         &mut room,
         text,
     )

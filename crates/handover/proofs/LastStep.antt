@@ -1,5 +1,5 @@
 -- A parse's result, handed to the last step: it is given what it asks, and what it then answers and writes is what the expansion does.
-use Prim.Native.Nat.{ℕ, _*_, _≤_}
+use Prim.Native.Nat.{ℕ, _*_, _/_, _≤_}
 use mathlib.Core.Path.{_≡_, sym, ap, _∙_}
 use mathlib.Core.List.{List, []}
 use native.Mathlib.Omega.{arith}
@@ -24,7 +24,7 @@ use Rattle.scanner.proofs.AfterScan.{Holds, scan-holds}
 use Rattle.checker.specs.Syntax.{Syntax, syntaxOf}
 use Rattle.checker.specs.Passes.{Passes}
 use Rattle.writer.specs.Pool.{spelledBy}
-use Rattle.emitter.specs.Emittable.{Emittable}
+use Rattle.emitter.specs.Emittable.{termOf, Emittable}
 use Rattle.expansion.specs.declared.State.{State}
 use Rattle.expansion.specs.declared.Outcome.{Outcome}
 use Rattle.expansion.specs.declared.Outcome.the-variants.{Value, Halted}
@@ -117,7 +117,11 @@ module _ {bs : List ℕ} (bytes : Bytes bs) (passes : Passes bs) {formula tokens
   long : length (take (state .made * columns) cells′) ≡ state .made * columns
   long = length-take-le (state .made * columns) cells′ (lie .inside)
 
-  given : Emittable bs formula words′ count (take (state .made * columns) cells′) (state .made) row
+  -- the cells handed over hold the rows made
+  held : length (take (state .made * columns) cells′) / columns ≡ state .made
+  held = omega (arith, long)
+
+  given : Emittable bs formula words′ count (take (state .made * columns) cells′) row
   given =
       record {
         few = few-words;
@@ -126,9 +130,7 @@ module _ {bs : List ℕ} (bytes : Bytes bs) (passes : Passes bs) {formula tokens
         wordsFit = naming.words-fit bs bytes passes formula words′ (value .answered) (holds .words-are);
         distinct = naming.distinct bs bytes passes formula words′ (value .answered) (holds .words-are);
         whole = record { few = omega (arith, long, lie .few); whole = omega (arith, long) };
-        rowsLie = omega (arith, long);
-        wellNamed =
-            rw (spelled-is, leaves .2) named;
+        wellNamed = rw (held, spelled-is, leaves .2) named;
       }
 
   -- an expansion that reaches a value is the last step on it
@@ -137,12 +139,13 @@ module _ {bs : List ℕ} (bytes : Bytes bs) (passes : Passes bs) {formula tokens
   finishes text = stages.expand-passed bs passes formula cells text ∙ rw (value .answered, value .runs)
 
   writes : (text : List ℕ) {answer : Answer} {text′ : List ℕ}
-      → emitted textOf (state .made) (termAt (state .made) (spelledBy bs formula words′ count) (take (state .made * columns) cells′) row) text
+      → emitted textOf (length (take (state .made * columns) cells′) / columns) (termOf bs formula words′ count (take (state .made * columns) cells′) row) text
       ≡ record { answer = answer; text = text′ }
       → expanded answer cells′ text′ ≡ expand bs formula cells text
   writes text e =
       sym
-      (finishes text ∙ ap (λ (u : Term Name). withCells cells′ (emitted textOf (state .made) u text)) (sym term-is) ∙ ap (withCells cells′) e)
+      (finishes text ∙ ap (λ (u : Term Name). withCells cells′ (emitted textOf (state .made) u text)) (sym term-is)
+      ∙ ap (withCells cells′) (rw held at e))
 
 -- ------------------------------------------------------------------ a parse, handed over
 
@@ -171,12 +174,13 @@ module _ (bs : List ℕ) (bytes : Bytes bs) {room formula tokens words : List �
     rows-lie = lie bytes passed (asked .rooms) at-value
 
     -- The last step is given what it asks.
-    pub emittable : Emittable bs formula words′ (parsed .words) (take (state .made * columns) cells′) (state .made) row
+    pub emittable : Emittable bs formula words′ (parsed .words) (take (state .made * columns) cells′) row
     emittable = given bytes passed (asked .rooms) at-value
 
     -- What the last step answers and writes is what the expansion does.
     pub emits : (text : List ℕ) {answer : Answer} {text′ : List ℕ}
-        → emitted textOf (state .made) (termAt (state .made) (spelledBy bs formula words′ (parsed .words)) (take (state .made * columns) cells′) row) text
+        → emitted textOf (length (take (state .made * columns) cells′) / columns)
+        (termOf bs formula words′ (parsed .words) (take (state .made * columns) cells′) row) text
         ≡ record { answer = answer; text = text′ }
         → expanded answer cells′ text′ ≡ expand bs formula cells text
     emits = writes bytes passed (asked .rooms) at-value

@@ -12,7 +12,7 @@ use Rattle.terms.specs.Rows.{Constructor, varRow, funRow, appRow, rcdRow, dotRo
 use Rattle.terms.specs.Rows.{termBy, isCons, fieldsBy, termAt, fieldListAt}
 use Rattle.rows.specs.declared.sums.Total.{Total}
 use Rattle.rows.specs.declared.sums.Total.the-variants.{Of}
-use Rattle.rows.specs.Sizes.{noSpell, sizeAt, sizeFieldsAt, mostBound, Ones}
+use Rattle.rows.specs.Sizes.{noSpell, sizeAt, sizeFieldsAt, cutSize, mostBound, Ones}
 use Rattle.rows.specs.Sums.{rowIs, partsOf, sumOf, isFields, totalOf}
 use Rattle.rows.proofs.RowLaws as rows
 use Rattle.rows.proofs.SumLaws.{Adds, total-adds, adds-by}
@@ -169,20 +169,10 @@ size-adds {weights} cells ones = adds-by noSpell size sizeFields by-term by-list
     by-list row l consRow e k terms fields = omega (arith, ones .each row l)
     by-list row l numRow e k terms fields = absurd (true≢false (sym k))
 
-module _ {weights : List ℕ} (cells : List ℕ) (root : ℕ) {total : Total} {size : ℕ} (ones : Ones weights)
-    (is-total : total ≡ totalOf cells mostBound weights root) (is-size : total ≡ Of size)
-  where
-    -- the size that a pass tells, cut off
-    size-told : size ≡ min mostBound (sizeAt cells (length weights) root)
-    size-told = total-adds mostBound root (size-adds cells ones) (sym is-size ∙ is-total)
-
-    -- it is no more than is counted
-    pub told-most : size ≤ mostBound
-    told-most = omega (arith, size-told)
-
-    -- and leaves what the size leaves
-    pub told-left : mostBound - size ≡ mostBound - sizeAt cells (length weights) root
-    told-left = omega (arith, size-told)
+-- the size that a pass tells
+pub size-told : {weights : List ℕ} (cells : List ℕ) (root : ℕ) {total : Total} {size : ℕ} → Ones weights → total ≡ totalOf cells mostBound weights root
+    → total ≡ Of size → size ≡ cutSize cells (length weights) root
+size-told cells root ones is-total is-size = total-adds mostBound root (size-adds cells ones) (sym is-size ∙ is-total)
 
 module _ (made room : ℕ) (lent : made ≤ room) (few : room ≤ mostCells) where
   -- the front of a room of ones is as long as it is asked for
@@ -200,7 +190,7 @@ module _ (made room : ℕ) (lent : made ≤ room) (few : room ≤ mostCells) whe
             ∙ getD-replicate {A = ℕ} room row 1 0 (omega (arith, front-long));
       }
 
-  -- what is left by as many rows
-  pub front-left : (cells : List ℕ) (root : ℕ) {left : ℕ} → left ≡ mostBound - sizeAt cells (length (take made (replicate {A = ℕ} room 1))) root
-      → left ≡ mostBound - sizeAt cells made root
-  front-left cells root e = e ∙ ap (λ depth. mostBound - sizeAt cells depth root) front-long
+  -- the size by as many rows
+  pub front-size : (cells : List ℕ) (root : ℕ) {size : ℕ} → size ≡ cutSize cells (length (take made (replicate {A = ℕ} room 1))) root
+      → size ≡ cutSize cells made root
+  front-size cells root e = e ∙ ap (λ depth. cutSize cells depth root) front-long

@@ -1,11 +1,15 @@
 -- The size of the tree at a row, and whole rows. A size does not depend on spellings. Nobody needs this to believe `expand`.
-use Prim.Native.Nat.{ℕ, _+_, _*_, _/_, _<_, _≤_}
+use Prim.Native.Nat.{ℕ, _+_, _*_, _/_, _<_, _≤_, min}
 use mathlib.Core.Path.{_≡_}
 use mathlib.Core.List.{List, []}
 use lib.ListN.{length, getD}
 use Rattle.terms.specs.Cells.{columns, mostCells}
 use Rattle.terms.specs.Term.{size, sizeFields, largestTerm}
 use Rattle.terms.specs.Rows.{termAt, fieldListAt}
+
+-- the rows that cells hold
+abbrev pub rowsHeld : List ℕ → ℕ
+rowsHeld cells = length cells / columns
 
 -- rows for which shorter rooms are lent
 abbrev pub fewRows : ℕ
@@ -29,10 +33,14 @@ sizeAt cells bound row = size (termAt bound noSpell cells row)
 abbrev pub sizeFieldsAt : List ℕ → ℕ → ℕ → ℕ
 sizeFieldsAt cells bound row = sizeFields (fieldListAt bound noSpell cells row)
 
+-- a size, cut off behind the largest term
+abbrev pub cutSize : List ℕ → ℕ → ℕ → ℕ
+cutSize cells bound row = min mostBound (sizeAt cells bound row)
+
 -- whole rows, 16,384 at most
 pub record WholeRows (cells : List ℕ) : Type 0 where
   pub few : length cells ≤ mostCells * columns
-  pub whole : (length cells / columns) * columns ≡ length cells
+  pub whole : rowsHeld cells * columns ≡ length cells
 
 -- how many constructors are counted before the rows are looked at
 pub record FirstCount (made count : ℕ) : Type 0 where

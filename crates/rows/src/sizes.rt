@@ -1,4 +1,4 @@
-// The number of constructors of the tree at a row, counted while some are left.
+// The number of constructors of the tree at a row: counted while some are left, or told by a pass over the rows.
 use crate::FEW_ROWS;
 use crate::column;
 use crate::sums::Total;
@@ -13,10 +13,10 @@ use terms::TERM_RCD;
 ghost use Prim.Native.Nat.{_-_, _<_, _≤_};
 ghost use mathlib.Core.Path.{_≡_};
 ghost use lib.ListN.{length};
-ghost use Rattle.rows.specs.Sizes.{sizeAt, sizeFieldsAt, mostBound, manyRows, FirstCount, Ones};
+ghost use Rattle.rows.specs.Sizes.{rowsHeld, manyRows, sizeAt, sizeFieldsAt, cutSize, FirstCount, Ones};
 
 // One constructor more than a term may have.
-pub const MOST_BOUND: usize = LARGEST_TERM + 1;
+const MOST_BOUND: usize = LARGEST_TERM + 1;
 
 // What is left of `left` constructors without those of the term at a row; 0 if it has more. `bound` bounds the tree's depth.
 fn size_term(cells: &&[u32], bound: usize, row: u32, left: usize) -> usize
@@ -78,49 +78,50 @@ fn first_count(made: usize) -> usize
     }
 }
 
-// What is left of one constructor more than a term may have, where each row weighs 1 in a room. Rows that are not in order are walked.
-fn left_by_rows(cells: &[u32], root: u32, ones: &mut [u32]) -> usize
+// The size of the tree at a row, where each row weighs 1 in a room. Rows that are not in order are walked.
+fn size_by_rows(cells: &[u32], root: u32, ones: &mut [u32]) -> usize
     requires { ⌜ Ones (now ones) ⌝ }
-    ensures { λ r. ⌜ r ≡ mostBound - sizeAt (now (cells .entry)) (length (now (ones .entry))) root ⌝ }
+    ensures { λ r. ⌜ r ≡ cutSize (now (cells .entry)) (length (now (ones .entry))) root ⌝ }
 {
     let made = ones.len();
     let total = total_at(cells, root, MOST_BOUND as u32, ones);
     match total {
-        Total::Of(size) => MOST_BOUND - (size as usize),
-        Total::Unordered => size_term(&cells, made, root, MOST_BOUND),
+        Total::Of(size) => size as usize,
+        Total::Unordered => MOST_BOUND - size_term(&cells, made, root, MOST_BOUND),
     }
 }
 
 // The same with room for many rows. It calls itself on what it is never passed, no rows: the back end lays no such function into its caller, whose frame
 // stays without this room.
-fn left_of_many(cells: &[u32], made: usize, root: u32) -> usize
+fn size_of_many(cells: &[u32], made: usize, root: u32) -> usize
     requires { ⌜ (0 < made) × (made ≤ manyRows) ⌝ }
-    ensures { λ r. ⌜ r ≡ mostBound - sizeAt (now (cells .entry)) made root ⌝ }
+    ensures { λ r. ⌜ r ≡ cutSize (now (cells .entry)) made root ⌝ }
 {
     if made == 0 {
         let blank = [0u32; COLUMNS];
-        return left_of_many(&blank, 1, root);
+        return size_of_many(&blank, 1, root);
     }
     let mut ones = [1u32; MANY_ROWS];
-    left_by_rows(cells, root, &mut ones[..made])
+    size_by_rows(cells, root, &mut ones[..made])
 }
 
-// What is left of one constructor more than a term may have. A term that goes on behind the first count has shared parts; a pass over the
-// rows then tells its size, so that a few rows are not walked thousands of times.
-pub fn size_left(cells: &[u32], made: usize, root: u32) -> usize
-    ensures { λ r. ⌜ r ≡ mostBound - sizeAt (now (cells .entry)) made root ⌝ }
+// The number of constructors of the tree at a row, cut off behind the largest term. A term that goes on behind the first count has shared parts; a pass over
+// the rows then tells its size, so that a few rows are not walked thousands of times.
+pub fn size_at(cells: &[u32], root: u32) -> usize
+    ensures { λ r. ⌜ r ≡ cutSize (now (cells .entry)) (rowsHeld (now (cells .entry))) root ⌝ }
 {
+    let made = cells.len() / COLUMNS;
     let count = first_count(made);
     let left = size_term(&cells, made, root, count);
     if 0 < left {
-        return left + (MOST_BOUND - count);
+        return count - left;
     }
     if MANY_ROWS <= made {
-        return 0;
+        return MOST_BOUND;
     }
     if FEW_ROWS < made {
-        return left_of_many(cells, made, root);
+        return size_of_many(cells, made, root);
     }
     let mut ones = [1u32; FEW_ROWS];
-    left_by_rows(cells, root, &mut ones[..made])
+    size_by_rows(cells, root, &mut ones[..made])
 }

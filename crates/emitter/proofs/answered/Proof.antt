@@ -1,12 +1,13 @@
 -- `answered`: the text fits or not.
-use mathlib.Core.Path.{_∙_}
+use mathlib.Core.Path.{ap, _∙_}
 use borrow.Author.Needs.{needs}
+use Rattle.answers.specs.declared.Answer.the-variants.{Refusing}
 use Rattle.emitter.proofs.EmitterLaws as laws
 use Rattle.emitter.proofs.answered.Statement.{statement}
 use Rattle.emitter.proofs.answered.Tie as tie
 
 returns : tie.Need-returns
-returns c = c .refusing .ensures ∙ laws.answer-long _ _ _ _ (c .before .if1 .taken)
+returns c = ap Refusing (c .refuse .ensures) ∙ laws.answer-long _ _ _ _ (c .before .if1 .taken)
 
 returns-2 : tie.Need-returns-2
 returns-2 c = laws.answer-whole _ _ _ _ (c .if1 .left)
