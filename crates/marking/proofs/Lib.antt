@@ -1,3 +1,3 @@
 pub mod MarkLaws
-pub mod ResolveLaws
-pub mod ChainLaws
+pub mod WalkLaws
+pub mod MeaningLaws

@@ -1,3 +1,3 @@
 pub mod Marks
-pub mod Resolving
+pub mod RowMarks
 pub mod Walks

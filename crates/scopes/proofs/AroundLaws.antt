@@ -19,7 +19,7 @@ use Rattle.terms.specs.Occurrences.{ownerOf}
 use Rattle.binders.specs.Slots.{slotOf}
 use Rattle.binders.proofs.SlotLaws.{slot-name}
 use Rattle.scopes.specs.Marks.{ownerCode, Bindable, bindable-word, bindable-fresh, Around}
-use Rattle.scopes.specs.Chains.{Exchanged}
+use Rattle.scopes.specs.Scopes.{Exchanged}
 use Rattle.terms.specs.Names.{Distinct}
 
 -- ------------------------------------------------------------------ names by their values

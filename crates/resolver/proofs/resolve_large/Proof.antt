@@ -14,7 +14,7 @@ link-requires c κs =
     record { few = few; some = omega arith; room = omega arith; none = ap (λ k. replicate k 0) (sym long) }
 
 resolved-requires : tie.Need-resolved-requires
-resolved-requires c κs = (search needs, record { linked = search needs; none = search needs; room = search needs; trailed = search needs })
+resolved-requires c κs = (search needs, record { linked = search needs; none = search needs; room = search needs })
 
 -- the function meets its contract
 pub resolve-large-spec : {M : Type 1} → statement M
@@ -23,7 +23,6 @@ resolve-large-spec =
     (tie.spec
     (λ c. search needs)
     link-requires
-    (λ c. search needs)
     (λ c. search needs)
     (λ c. search needs)
     resolved-requires

@@ -15,6 +15,5 @@ resolve-small-spec =
     (λ c κs. search needs)
     (λ c. search needs)
     (λ c. search needs)
-    (λ c. search needs)
     resolved-requires
     (λ c. search needs))
