@@ -22,9 +22,12 @@ unfoldable pub textLine : Answer → List ℕ → List ℕ
 textLine (Accepted cells constructors size) text = take size text ++ newline
 textLine (Refusing r) text = []
 
--- the lines that tell of an expansion
+-- the lines that tell of an expansion, by its answer and the text at exit
+abbrev pub toldLines : Answer → List ℕ → List ℕ
+toldLines answer text = answerLine answer ++ textLine answer text
+
 abbrev pub told : Expanded → List ℕ
-told x = answerLine (x .answer) ++ textLine (x .answer) (x .text)
+told x = toldLines (x .answer) (x .text)
 
 -- all that is written
 unfoldable pub phraseOutput : List ℕ → List ℕ → List ℕ

@@ -1,4 +1,4 @@
--- `lay_output`: the line of the answer, then the text.
+-- `lay_output`: the lines of the expansion, at the front of the room.
 use native.Mathlib.Omega.{arith}
 use borrow.Author.Needs.{needs}
 use Rattle.phrases.specs.Output.{lentCells, lentText}
@@ -9,9 +9,8 @@ use Rattle.phrases.proofs.lay_output.Tie as tie
 returns : tie.Need-returns
 unfolding lentCells lentText
 returns c =
-    let line = c .before .before .before in
-    let expansion = line .before .before .before .before in
-    laid-output _ _ (expansion .expand .ensures .0) (line .lay-answer .ensures .0) (line .lay-answer .ensures .1) (c .lay-text .ensures) (omega arith)
+    let expansion = c .before .before .before .before .before in
+    laid-output _ _ (expansion .expand .ensures .0) (c .lay-told .ensures .0) (omega (arith, c .lay-told .ensures .1))
 
 -- the function meets its contract
 pub lay-output-spec : {M : Type 1} → statement M
@@ -20,7 +19,6 @@ lay-output-spec =
     (tie.spec
     (λ c. search needs)
     (λ c. search needs)
-    (λ c κs. search needs)
     (λ c κs. search needs)
     (λ c κs. search needs)
     returns)
