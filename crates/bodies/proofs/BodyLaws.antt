@@ -3,11 +3,10 @@ use Prim.Native.Nat.{ℕ, suc, _+_, _-_, _≤_, _<_}
 use mathlib.Core.Path.{_≡_, refl, sym, ap, ap₂, _∙_}
 use mathlib.Core.Bool.{Bool, true, false}
 use mathlib.Core.List.{List, [], _∷_, _++_}
-use native.Mathlib.Numerals.{add-one}
 use native.Mathlib.Omega.{arith}
 use lib.Dec.{eqb, ltb}
-use lib.ListN.{length, getD, take, drop, set, length-set, length-take, length-drop, length-append, drop-of-length-le, take-append-drop}
-use lib.Seq.{drop-cons, take-all, take-suc, take-suc-set, take-append-le, getD-drop, drop-drop, drop-set-lt, set-out}
+use lib.ListN.{length, getD, take, drop, set, length-set, length-drop, drop-of-length-le, take-append-drop}
+use lib.Seq.{drop-cons, take-all, take-suc, take-suc-set, getD-drop, drop-drop, drop-set-lt, set-out}
 use borrow.Author.Tests.{lt-ltb, le-ltb, eq-eqb, ne-eqb}
 use Rattle.grammar.specs.Sorts.{unit, binder, num}
 use Rattle.bodies.specs.declared.Known.{Known}
@@ -19,7 +18,7 @@ use Rattle.bodies.specs.declared.Tested.{Tested}
 use Rattle.bodies.specs.declared.Tested.the-variants.{Sound, Faulty}
 use Rattle.bodies.specs.TemplateBytes.{templatesFault, places}
 use Rattle.bodies.specs.HeadBytes.{signatureAt}
-use Rattle.bodies.specs.BodyBytes.{Context, context, unlessFaulty, callAt, itemAt, resultAt, ParametersLoaded, ParameterSorts, oneMore, SortAdded}
+use Rattle.bodies.specs.BodyBytes.{unlessFaulty, callAt, itemAt, resultAt, ParametersLoaded, ParameterSorts, oneMore, SortAdded}
 use Rattle.bodies.proofs.TemplateInduction.{choose}
 use Rattle.bodies.proofs.TemplateLoops.{places-set}
 
@@ -118,39 +117,20 @@ module _ {sig L₀ : List ℕ} where
   copying-end {L} {count} {place} c h =
       let rest : length (drop 1 sig) ≡ length sig - 1 = length-drop 1 sig in
       let front : take count L ≡ drop 1 sig = c .copied ∙ take-all count (drop 1 sig) (omega (arith, c .next)) in
-      record {
-        count-is = omega (arith, c .next, c .most);
-        sorts-are = sym (take-append-drop count L) ∙ ap₂ _++_ front (c .stays);
-        loaded = front;
-      }
+      let all : count ≡ length sig - 1 = omega (arith, c .next, c .most) in
+      record { count-is = all; sorts-are = sym (take-append-drop count L) ∙ ap₂ _++_ front (c .stays) ∙ rw all refl }
 
 -- one sort more behind those of `count` variables, and none where there are 16
 module _ (L : List ℕ) (count sort : ℕ) (equal : length L ≡ 16) where
   -- there is room
   pub sort-added : count < 16 → SortAdded L count sort (set L count sort) (count + 1)
   unfolding oneMore
-  sort-added h =
-      let few : length (take count L ++ (sort ∷ [])) ≤ 16 = omega (arith, length-append (take count L) (sort ∷ []), length-take count L) in
-      record {
-        count-is = rw (lt-ltb count 16 h, oneMore);
-        sorts-are = refl;
-        added = cc (add-one count, take-suc-set L count sort (omega arith), take-all 16 (take count L ++ (sort ∷ [])) few);
-      }
+  sort-added h = record { count-is = rw (lt-ltb count 16 h, oneMore); sorts-are = refl }
 
   -- there is none
   pub sort-left : 16 ≤ count → SortAdded L count sort L count
   unfolding oneMore
-  sort-left h =
-      let all : take count L ≡ L = take-all count L (omega arith) in
-      record {
-        count-is = rw (le-ltb count 16 h, oneMore);
-        sorts-are = sym (set-out L count sort (omega arith));
-        added =
-            all
-            ∙ sym (take-all 16 L (omega arith))
-            ∙ ap (take 16) (sym all)
-            ∙ sym (take-append-le 16 (take count L) (sort ∷ []) (omega (arith, ap length all)));
-      }
+  sort-left h = record { count-is = rw (le-ltb count 16 h, oneMore); sorts-are = sym (set-out L count sort (omega arith)) }
 
 -- one place alone on the stack
 one-place : (room : List ℕ) (B : ℕ) → 0 < length room → places (set room 0 B) 1 ≡ B ∷ []
@@ -159,84 +139,84 @@ one-place room B h = places-set room 0 B h
 
 -- ------------------------------------------------------------------ calls
 
-module _ (bs : List ℕ) (given-context : Context) (count : ℕ) (arguments : List ℕ) {head : ℕ} (equal : head ≡ getD (given-context .heads) count 0) where
+module _ (bs : List ℕ) (known : Known) (heads L : List ℕ) (count : ℕ) (arguments : List ℕ) {head : ℕ} (equal : head ≡ getD heads count 0) where
   -- by the test of the head
   call-by :
       (missing : Bool) → eqb head 0 ≡ missing
       → choose (Unsorted Undefined)
-      (unlessFaulty (getD (signatureAt bs head) 0 0) (templatesFault (given-context .outsides) (given-context .sorts) arguments (drop 1 (signatureAt bs head))))
+      (unlessFaulty (getD (signatureAt bs head) 0 0) (templatesFault (known .outsides) (take (known .variables) L) arguments (drop 1 (signatureAt bs head))))
       missing
-      ≡ callAt bs given-context count arguments
+      ≡ callAt bs known heads L count arguments
   unfolding callAt
   call-by missing d =
       let good : ℕ → ItemSort =
-      λ x. unlessFaulty (getD (signatureAt bs x) 0 0) (templatesFault (given-context .outsides) (given-context .sorts) arguments (drop 1 (signatureAt bs x))) in
+      λ x. unlessFaulty (getD (signatureAt bs x) 0 0) (templatesFault (known .outsides) (take (known .variables) L) arguments (drop 1 (signatureAt bs x))) in
       cc
 
   -- the nonterminal has no head
-  pub call-undefined : head ≡ 0 → Unsorted Undefined ≡ callAt bs given-context count arguments
+  pub call-undefined : head ≡ 0 → Unsorted Undefined ≡ callAt bs known heads L count arguments
   call-undefined z = call-by true (eq-eqb head 0 z)
 
   module _ (declared : head ≡ 0 → ⊥) {signature : List ℕ} (agrees : signature ≡ signatureAt bs head) {tested : Tested}
-      (also-equal : tested ≡ templatesFault (given-context .outsides) (given-context .sorts) arguments (drop 1 signature)) where
-    call-tested : unlessFaulty (getD signature 0 0) tested ≡ callAt bs given-context count arguments
+      (also-equal : tested ≡ templatesFault (known .outsides) (take (known .variables) L) arguments (drop 1 signature)) where
+    call-tested : unlessFaulty (getD signature 0 0) tested ≡ callAt bs known heads L count arguments
     call-tested = cc (call-by false (ne-eqb head 0 declared))
 
     -- the arguments have a fault
-    pub call-unfit : {fault : Fault} → tested ≡ Faulty fault → Unsorted fault ≡ callAt bs given-context count arguments
+    pub call-unfit : {fault : Fault} → tested ≡ Faulty fault → Unsorted fault ≡ callAt bs known heads L count arguments
     call-unfit f = cc call-tested
 
     -- they have none
-    pub call-fit : {sort : ℕ} → tested ≡ Sound → sort ≡ getD signature 0 0 → As sort ≡ callAt bs given-context count arguments
+    pub call-fit : {sort : ℕ} → tested ≡ Sound → sort ≡ getD signature 0 0 → As sort ≡ callAt bs known heads L count arguments
     call-fit f g = cc call-tested
 
 -- ------------------------------------------------------------------ items
 
-module _ (bs : List ℕ) (given-context : Context) (value : List ℕ) {kind operand : ℕ} (equal : kind ≡ getD value 0 0) (agrees : operand ≡ getD value 1 0) where
+module _ (bs : List ℕ) (known : Known) (heads L value : List ℕ) {kind operand : ℕ} (equal : kind ≡ getD value 0 0) (agrees : operand ≡ getD value 1 0) where
   itemTests : ℕ → Bool → Bool → Bool → Bool → ItemSort
   itemTests o keyword ide local call =
-      choose (choose (As unit) (Unsorted Undefined) (ltb o (given-context .keywords)))
-      (choose (As o) (choose (As binder) (choose (callAt bs given-context o (drop 2 value)) (As num) call) local) ide)
+      choose (choose (As unit) (Unsorted Undefined) (ltb o (known .keywords)))
+      (choose (As o) (choose (As binder) (choose (callAt bs known heads L o (drop 2 value)) (As num) call) local) ide)
       keyword
 
   itemBy : ℕ → ℕ → ItemSort
   itemBy k o = itemTests o (eqb k 0) (eqb k 1) (eqb k 3) (eqb k 4)
 
-  item-is : {code : ℕ} → kind ≡ code → itemBy code operand ≡ itemAt bs given-context value
+  item-is : {code : ℕ} → kind ≡ code → itemBy code operand ≡ itemAt bs known heads L value
   unfolding itemAt itemBy itemTests
   item-is g = sym (ap₂ itemBy (sym equal ∙ g) (sym agrees))
 
   -- a keyword that is defined
-  pub item-keyword : {keyword-number : ℕ} → keyword-number ≡ operand → kind ≡ 0 → keyword-number < given-context .keywords
-      → As 0 ≡ itemAt bs given-context value
+  pub item-keyword : {keyword-number : ℕ} → keyword-number ≡ operand → kind ≡ 0 → keyword-number < known .keywords
+      → As 0 ≡ itemAt bs known heads L value
   unfolding itemBy itemTests
-  item-keyword w g h = ap (choose (As unit) (Unsorted Undefined)) (sym (lt-ltb operand (given-context .keywords) (omega arith))) ∙ item-is g
+  item-keyword w g h = ap (choose (As unit) (Unsorted Undefined)) (sym (lt-ltb operand (known .keywords) (omega arith))) ∙ item-is g
 
   -- one that is not
-  pub item-unknown : {keyword-number : ℕ} → keyword-number ≡ operand → kind ≡ 0 → given-context .keywords ≤ keyword-number
-      → Unsorted Undefined ≡ itemAt bs given-context value
+  pub item-unknown : {keyword-number : ℕ} → keyword-number ≡ operand → kind ≡ 0 → known .keywords ≤ keyword-number
+      → Unsorted Undefined ≡ itemAt bs known heads L value
   unfolding itemBy itemTests
-  item-unknown w g h = ap (choose (As unit) (Unsorted Undefined)) (sym (le-ltb operand (given-context .keywords) (omega arith))) ∙ item-is g
+  item-unknown w g h = ap (choose (As unit) (Unsorted Undefined)) (sym (le-ltb operand (known .keywords) (omega arith))) ∙ item-is g
 
   -- an identifier at a sort
-  pub item-ide : kind ≡ 1 → As operand ≡ itemAt bs given-context value
+  pub item-ide : kind ≡ 1 → As operand ≡ itemAt bs known heads L value
   unfolding itemBy itemTests
   item-ide g = item-is g
 
   -- a local is a Binder
-  pub item-local : kind ≡ 3 → As 2 ≡ itemAt bs given-context value
+  pub item-local : kind ≡ 3 → As 2 ≡ itemAt bs known heads L value
   unfolding itemBy itemTests
   item-local g = item-is g
 
   -- a call
   pub item-call : {arguments : List ℕ} → kind ≡ 4 → arguments ≡ take (length value) (drop 2 value)
-      → callAt bs given-context operand arguments ≡ itemAt bs given-context value
+      → callAt bs known heads L operand arguments ≡ itemAt bs known heads L value
   unfolding itemBy itemTests
   item-call g a =
-      ap (callAt bs given-context operand) (a ∙ take-all (length value) (drop 2 value) (omega (arith, length-drop 2 value))) ∙ item-is g
+      ap (callAt bs known heads L operand) (a ∙ take-all (length value) (drop 2 value) (omega (arith, length-drop 2 value))) ∙ item-is g
 
   -- no kind that is tested
-  pub item-other : (((Unit {0} × (kind ≡ 0 → ⊥)) × (kind ≡ 1 → ⊥)) × (kind ≡ 3 → ⊥)) × (kind ≡ 4 → ⊥) → As 6 ≡ itemAt bs given-context value
+  pub item-other : (((Unit {0} × (kind ≡ 0 → ⊥)) × (kind ≡ 1 → ⊥)) × (kind ≡ 3 → ⊥)) × (kind ≡ 4 → ⊥) → As 6 ≡ itemAt bs known heads L value
   unfolding itemBy itemTests
   item-other ((((u, a), b), c), d) =
       cc (ne-eqb kind 0 a, ne-eqb kind 1 b, ne-eqb kind 3 c, ne-eqb kind 4 d, item-is refl)
@@ -245,9 +225,9 @@ module _ (bs : List ℕ) (given-context : Context) (value : List ℕ) {kind oper
 
 -- what is wrong with a result, where the sort asked is that of the signature's result
 pub result-is :
-    (bs : List ℕ) (known : Known) (heads L value room : List ℕ) {B : ℕ} {signature : List ℕ} {tested : Tested} → signature ≡ signatureAt bs (known .head)
+    (bs : List ℕ) (known : Known) (L value room : List ℕ) {B : ℕ} {signature : List ℕ} {tested : Tested} → signature ≡ signatureAt bs (known .head)
     → B ≡ getD signature 0 0 → 0 < length room
-    → tested ≡ templatesFault (known .outsides) (take (known .variables) L) value (places (set room 0 B) 1) → tested ≡ resultAt bs (context known heads L) value
+    → tested ≡ templatesFault (known .outsides) (take (known .variables) L) value (places (set room 0 B) 1) → tested ≡ resultAt bs known L value
 unfolding resultAt
-result-is bs known heads L value room {B} e b h f =
+result-is bs known L value room {B} e b h f =
     cc (one-place room B h)

@@ -10,12 +10,11 @@ use Rattle.answers.specs.Refusals.{refusal}
 use Rattle.grammar.specs.declared.FieldSpan.{FieldSpan}
 use Rattle.grammar.specs.Lookup.{fieldAt, fieldsAt}
 use Rattle.grammar.proofs.LookupLaws.{Walk, walk-field, walk-end}
-use Rattle.bodies.specs.ByFields.{endsBlock}
 use Rattle.bodies.specs.declared.Fault.{Fault}
 use Rattle.bodies.specs.declared.Tested.{Tested}
 use Rattle.bodies.specs.declared.Tested.the-variants.{Sound, Faulty}
 use Rattle.bodies.specs.Faults.{causeOf}
-use Rattle.bodies.specs.HeadBytes.{faultAt, headsWith, Defined, collected, collectAfter, collectFrom}
+use Rattle.bodies.specs.HeadBytes.{endsBlock, faultAt, headsWith, Defined, collected, collectAfter, collectFrom}
 use Rattle.bodies.proofs.TemplateInduction.{choose}
 
 -- the heads of a block's fields before `at` are collected

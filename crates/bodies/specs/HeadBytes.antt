@@ -1,7 +1,7 @@
 -- The heads of a block's definitions, read off the bytes of a table. Nobody needs this file to believe `expand`.
 use Prim.Native.Nat.{ℕ, _+_, _*_}
 use mathlib.Core.Path.{_≡_}
-use mathlib.Core.Bool.{true, false, _&&_, _||_}
+use mathlib.Core.Bool.{Bool, true, false, _&&_, _||_}
 use mathlib.Core.List.{List}
 use lib.Dec.{eqb, leb, ltb}
 use lib.ListN.{getD, take, drop, set}
@@ -15,7 +15,10 @@ use Rattle.bodies.specs.declared.Fault.the-variants.{NumberInUse, BadExt
 use Rattle.bodies.specs.declared.Tested.{Tested}
 use Rattle.bodies.specs.declared.Tested.the-variants.{Sound, Faulty}
 use Rattle.bodies.specs.Faults.{causeOf, testedBy}
-use Rattle.bodies.specs.ByFields.{endsBlock}
+
+-- a field that ends a block: the next block, or the root
+abbrev pub endsBlock : ℕ → Bool
+endsBlock tag = eqb tag 3 || eqb tag 8
 
 -- the value of the field at an offset
 abbrev pub valueAt : List ℕ → ℕ → List ℕ

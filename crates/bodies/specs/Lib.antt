@@ -1,4 +1,3 @@
-pub mod ByFields
 pub mod Faults
 pub mod TemplateBytes
 pub mod HeadBytes

@@ -11,7 +11,7 @@ use Rattle.grammar.specs.SortTests.{fits}
 use Rattle.decoding.specs.Prefix.{isNameTag}
 use Rattle.bodies.specs.declared.Fault.the-variants.{Undefined, WrongSort}
 use Rattle.bodies.specs.declared.Tested.{Tested}
-use Rattle.bodies.specs.declared.Tested.the-variants.{Sound, Faulty}
+use Rattle.bodies.specs.declared.Tested.the-variants.{Faulty}
 use Rattle.bodies.specs.declared.Filling.{Filling}
 use Rattle.bodies.specs.declared.Filling.the-variants.{Unfit, Open}
 use Rattle.bodies.specs.Faults.{testedBy}

@@ -18,7 +18,7 @@ use spellings::equal;
 use spellings::wide_byte;
 ghost use Prim.Native.Nat.{_+_, _≤_};
 ghost use mathlib.Core.Path.{_≡_};
-ghost use lib.ListN.{length, getD, take, drop, set};
+ghost use lib.ListN.{length, getD};
 ghost use Rattle.grammar.specs.Limits.{most};
 ghost use Rattle.bodies.specs.HeadBytes.{signatureAt, faultOf, Defined, collected, collectAt};
 

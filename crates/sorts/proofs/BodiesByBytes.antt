@@ -5,7 +5,7 @@ use mathlib.Core.Bool.{Bool, true, false, not, _&&_, and-true}
 use mathlib.Core.List.{List, [], _∷_}
 use native.Mathlib.Omega.{arith}
 use lib.Dec.{eqb, leb, ltb, eqb·suc-zero}
-use lib.ListN.{length, getD, drop}
+use lib.ListN.{length, getD, take, drop}
 use borrow.Author.Tests.{lt-leb}
 use Rattle.answers.specs.Refusals.{refusal}
 use Rattle.answers.specs.Checked.{Checked, ok, bad, _>>_, need, verdict}
@@ -14,32 +14,35 @@ use Rattle.grammar.specs.Sorts.{Signature, term}
 use Rattle.grammar.specs.SortTests.{fits}
 use Rattle.grammar.specs.Table.{Template, Templates, none, more, Item, call}
 use Rattle.grammar.specs.Values.{templateThen, templatesThen, itemValue}
-use Rattle.decoding.specs.Prefix.{templatesOf, found, headTemplate}
-use Rattle.decoding.specs.Decode.{itemOf}
-use Rattle.decoding.specs.Layout.{isKnown, isWhole}
-use Rattle.decoding.specs.Within.{TemplatesWithin, keyword-within, ide-within, number-within, ItemWithin, terminal-within, local-within, call-within}
-use Rattle.decoding.proofs.Split.{Bytes}
+use Rattle.decoding.specs.Within.{TemplateWithin, TemplatesWithin, keyword-within, ide-within, number-within, ItemWithin, terminal-within, local-within, call-within}
 use Rattle.decoding.proofs.Templates.{read-templates, read-template}
-use Rattle.decoding.proofs.Values.{item-value, item-read, result-value, result-read}
-use Rattle.bodies.specs.declared.ItemSort.{ItemSort}
-use Rattle.bodies.specs.declared.ItemSort.the-variants.{As, Unsorted}
 use Rattle.judgements.specs.CheckSorts.{isDefined, signatureOf, isClosed, areClosed, isSorted, sortOf, fill, checkItem, checkResult, checkRoot}
 use Rattle.judgements.specs.Scopes.{Scope}
-use Rattle.bodies.specs.TemplateBytes.{fillBytes, templatesFault}
-use Rattle.bodies.specs.HeadBytes.{signatureAt}
-use Rattle.bodies.specs.BodyBytes.{Context, unlessFaulty, callAt, itemAt, resultAt}
+use Rattle.bodies.specs.declared.Known.{Known}
+use Rattle.bodies.specs.declared.ItemSort.{ItemSort}
+use Rattle.bodies.specs.declared.ItemSort.the-variants.{As, Unsorted}
 use Rattle.bodies.specs.declared.Fault.the-variants.{Undefined, WrongSort}
 use Rattle.bodies.specs.declared.Tested.{Tested}
 use Rattle.bodies.specs.declared.Tested.the-variants.{Faulty}
 use Rattle.bodies.specs.Faults.{causeOf, testedBy, verdictOf}
-use Rattle.sorts.specs.ByBytes.{rootAt}
+use Rattle.bodies.specs.TemplateBytes.{fillBytes, templatesFault}
+use Rattle.bodies.specs.HeadBytes.{signatureAt}
+use Rattle.bodies.specs.BodyBytes.{unlessFaulty, callAt, itemAt, resultAt}
 use Rattle.bodies.proofs.TemplateInduction.{choose}
 use Rattle.bodies.proofs.TemplatesByBytes.{closed-bytes, fill-bytes}
-use Rattle.sorts.proofs.HeadsByBytes.{Knows, zero-test}
+use Rattle.sorts.specs.ByBytes.{rootAt}
+use Rattle.sorts.proofs.HeadsByBytes.{bytesOf, Knows, zero-test}
 
--- what is known, by a scope
-abbrev pub contextOf : Scope → ℕ → List ℕ → List ℕ → Context
-contextOf G h H L = record { keywords = G .keywords; outsides = G .outsides; head = h; heads = H; sorts = L }
+-- what is known, by a scope: the offset of a head, and how many variables there are
+abbrev pub knownOf : Scope → ℕ → ℕ → Known
+knownOf G h n = record { keywords = G .keywords; outsides = G .outsides; head = h; variables = n }
+
+-- a room for the sorts of 16 variables has those in L at its front
+pub record Carries (L room : List ℕ) : Type 0 where
+  -- as many as there are variables
+  pub holds : take (length L) room ≡ L
+  -- the room is as long as it may be
+  pub size : length room ≡ 16
 
 -- a sort or a refusal at a place
 abbrev pub sortedAt : ℕ → ItemSort → Checked ℕ
@@ -74,12 +77,12 @@ module _ (bs : List ℕ) (scope : Scope) (heads : List ℕ) (knows : (nontermina
   missing : (nonterminal : ℕ) → nonterminal < 64 → eqb (getD heads nonterminal 0) 0 ≡ not (isDefined (scope .env) nonterminal)
   missing nonterminal l = zero-test (getD heads nonterminal 0) ∙ ap not (knows nonterminal l .defined)
 
-  module _ (head : ℕ) (L : List ℕ) (at : ℕ) where
+  module _ (head at : ℕ) {L room : List ℕ} (carries : Carries L room) where
     -- ------------------------------------------------------------------ calls and items
 
     call-agrees :
         (nonterminal : ℕ) {ts : Templates} → nonterminal < 64 → TemplatesWithin ts
-        → sortedAt at (callAt bs (contextOf scope head heads L) nonterminal (templatesThen ts [])) ≡ checkItem scope L at (call nonterminal ts)
+        → sortedAt at (callAt bs (knownOf scope head (length L)) heads room nonterminal (templatesThen ts [])) ≡ checkItem scope L at (call nonterminal ts)
     unfolding callAt templatesFault
     call-agrees nonterminal {ts} l w =
         let args : List ℕ = templatesThen ts [] in
@@ -95,43 +98,33 @@ module _ (bs : List ℕ) (scope : Scope) (heads : List ℕ) (knows : (nontermina
     keyword-agrees true = refl
     keyword-agrees false = refl
 
-    value-agrees : {item : Item} → ItemWithin item → sortedAt at (itemAt bs (contextOf scope head heads L) (itemValue item)) ≡ checkItem scope L at item
-    unfolding itemAt itemValue
-    value-agrees (terminal-within (keyword-within {k} l)) = keyword-agrees (ltb k (scope .keywords))
-    value-agrees (terminal-within (ide-within l k)) = refl
-    value-agrees (terminal-within number-within) = refl
-    value-agrees local-within = refl
-    value-agrees (call-within {n} {ts} l w) = call-agrees n (omega arith) w
-
     -- an item's bytes are checked as the item
-    pub item-agrees :
-        (value : List ℕ) → Bytes value → isKnown 6 value ≡ true → isWhole 6 value ≡ true
-        → sortedAt at (itemAt bs (contextOf scope head heads L) value) ≡ checkItem scope L at (itemOf value)
-    item-agrees value b k w =
-        let i = item-value value b k w in
-        cc (i .1, value-agrees (i .2), item-read (i .2))
+    pub item-agrees : {item : Item} → ItemWithin item
+        → sortedAt at (itemAt bs (knownOf scope head (length L)) heads room (itemValue item)) ≡ checkItem scope L at item
+    unfolding itemAt itemValue
+    item-agrees (terminal-within (keyword-within {k} l)) = keyword-agrees (ltb k (scope .keywords))
+    item-agrees (terminal-within (ide-within l k)) = refl
+    item-agrees (terminal-within number-within) = refl
+    item-agrees local-within = refl
+    item-agrees (call-within {n} {ts} l w) = call-agrees n (omega arith) w
 
     -- ------------------------------------------------------------------ results
 
     -- a result's bytes are checked as the template
     pub result-agrees :
-        (S : Signature) (value : List ℕ) → signatureAt bs head ≡ S .result ∷ S .params → Bytes value → isWhole 7 value ≡ true
-        → verdictOf at (resultAt bs (contextOf scope head heads L) value)
-        ≡ verdict (checkResult scope L (S .result) at (headTemplate (found (templatesOf value))))
+        (S : Signature) {template : Template} → signatureAt bs head ≡ bytesOf S → TemplateWithin template
+        → verdictOf at (resultAt bs (knownOf scope head (length L)) room (templateThen template []))
+        ≡ verdict (checkResult scope L (S .result) at template)
     unfolding resultAt templatesFault areClosed fill
-    result-agrees S value e b w =
+    result-agrees S {template} e w =
         let B : ℕ = S .result in
-        let r = result-value value b w in
-        let t : Template = r .0 in
-        let one = read-template (r .2) in
+        let one = read-template w in
         cc (
-          r .1,
-          closed-bytes scope (length L) (templateThen t []) (more t none) one,
-          and-true (isClosed t scope (length L)),
-          fill-bytes L (templateThen t []) (more t none) (B ∷ []) one,
-          and-true (isSorted t L && fits (sortOf t L) B),
-          result-by at (isClosed t scope (length L)) (isSorted t L && fits (sortOf t L) B),
-          result-read (r .2),
+          closed-bytes scope (length L) (templateThen template []) (more template none) one,
+          and-true (isClosed template scope (length L)),
+          fill-bytes L (templateThen template []) (more template none) (B ∷ []) one,
+          and-true (isSorted template L && fits (sortOf template L) B),
+          result-by at (isClosed template scope (length L)) (isSorted template L && fits (sortOf template L) B),
         )
 
   -- ------------------------------------------------------------------ the root

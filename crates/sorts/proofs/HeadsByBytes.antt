@@ -1,4 +1,4 @@
--- The heads collected from a table's bytes are the environment collected from its fields.
+-- The heads collected from a table's bytes are the environment collected from its definitions.
 use Prim.Native.Nat.{ℕ, suc, _+_, _*_, _≤_, _<_}
 use mathlib.Core.Path.{_≡_, refl, sym, ap, ap₂, _∙_}
 use mathlib.Core.Bool.{Bool, true, false, not, _&&_, _||_, true≢false}
@@ -13,17 +13,13 @@ use Rattle.answers.specs.Refusals.{refusal}
 use Rattle.answers.specs.Checked.{Checked, ok, bad, need}
 use Rattle.spellings.specs.Bytes.{same}
 use Rattle.spellings.proofs.BytesLaws.{by-test}
-use Rattle.grammar.specs.Limits.{most}
 use Rattle.grammar.specs.Sorts.{Signature}
-use Rattle.grammar.specs.Table.{variable, Mode, add, extend, update, Definition}
+use Rattle.grammar.specs.Table.{Mode, add, extend, update, Definition}
 use Rattle.grammar.specs.Values.{modeCode, headValue}
-use Rattle.decoding.specs.Decode.{definitionOf}
-use Rattle.decoding.specs.Layout.{isKnown}
-use Rattle.decoding.specs.Within.{each-none, each-more, variable-within}
-use Rattle.decoding.proofs.Values.{head-value}
+use Rattle.decoding.specs.Within.{DefinitionWithin}
 use Rattle.judgements.specs.CheckSorts.{isDefined, signatureOf, sameSignature, isUnused, isAsBefore, consistent}
 use Rattle.judgements.specs.Scopes.{Declaration, Env, entryOf}
-use Rattle.bodies.specs.ByFields.{headOf}
+use Rattle.judgements.proofs.Environments.{defined-here, defined-later, signature-here, signature-later}
 use Rattle.bodies.specs.declared.Fault.{Fault}
 use Rattle.bodies.specs.declared.Fault.the-variants.{NumberInUse, BadExtension}
 use Rattle.bodies.specs.declared.Tested.{Tested}
@@ -31,91 +27,36 @@ use Rattle.bodies.specs.declared.Tested.the-variants.{Sound, Faulty}
 use Rattle.bodies.specs.Faults.{causeOf, testedBy}
 use Rattle.bodies.specs.HeadBytes.{valueAt, signatureAt, faultOf, withHead}
 use Rattle.bodies.proofs.HeadLaws.{fault-earlier, fault-new}
-use Rattle.judgements.proofs.Environments.{defined-here, defined-later, signature-here, signature-later}
 
 -- ------------------------------------------------------------------ a head
-
--- a known head: nonterminal, mode, result, parameters
-pub record Head (value : List ℕ) : Type 0 where
-  -- the nonterminal defined
-  pub nonterminal : ℕ
-  -- how it is defined: add, extend or update
-  pub mode : Mode
-  -- the sort of its result
-  pub result : ℕ
-  -- the sorts of its parameters
-  pub params : List ℕ
-  -- the value is these bytes in order
-  pub shape : value ≡ nonterminal ∷ modeCode mode ∷ result ∷ params
-  -- the nonterminal is below 64
-  pub low : nonterminal < 64
-  -- there are at most four parameters
-  pub few : length params ≤ 4
-
--- a value that passes as a head is one
-pub head-known : (value : List ℕ) → isKnown 4 value ≡ true → Head value
-unfolding definitionOf headValue
-head-known value e =
-    let h = head-value value e (record { items = []; result = variable 0 } ∷ [])
-    (each-more (record { items = each-none; itemCount = omega arith; result = variable-within (omega arith) }) each-none) (omega arith) in
-    let d : Definition = definitionOf value (record { items = []; result = variable 0 } ∷ []) in
-    let low : d .nonterminal < most .nonterminals = h .1 .nonterminal in
-    record {
-      nonterminal = d .nonterminal;
-      mode = d .mode;
-      result = d .signature .result;
-      params = d .signature .params;
-      shape = h .0;
-      low = omega arith;
-      few = h .1 .paramCount;
-    }
 
 -- a signature's bytes: the result, then the parameters
 abbrev pub bytesOf : Signature → List ℕ
 bytesOf S = S .result ∷ S .params
 
-mode-of : (mode : Mode) (nonterminal result-sort : ℕ) (ps : List ℕ) → headOf (nonterminal ∷ modeCode mode ∷ result-sort ∷ ps) .mode ≡ mode
-unfolding definitionOf
-mode-of add nonterminal result-sort ps = refl
-mode-of extend nonterminal result-sort ps = refl
-mode-of update nonterminal result-sort ps = refl
-
-module _ (bs : List ℕ) (at : ℕ) {value : List ℕ} (equal : value ≡ valueAt bs at) (given-head : Head value) where
+module _ (bs : List ℕ) (at : ℕ) (definition : Definition) (within : DefinitionWithin definition) (placed : headValue definition ≡ valueAt bs at) where
   -- the bytes of the table that hold it
-  byte-at : (place byte : ℕ) → place < 3 → getD (given-head .nonterminal ∷ modeCode (given-head .mode) ∷ given-head .result ∷ given-head .params) place 0 ≡ byte
-      → getD bs (at + 3 + place) 0 ≡ byte
+  byte-at : (place byte : ℕ) → place < 3 → getD (headValue definition) place 0 ≡ byte → getD bs (at + 3 + place) 0 ≡ byte
+  unfolding headValue
   byte-at place byte l e =
       let size : ℕ = getD bs (at + 1) 0 * 256 + getD bs (at + 2) 0 in
-      let long : suc (suc (suc (length (given-head .params)))) ≡ length (valueAt bs at) = ap length (sym (given-head .shape) ∙ equal) in
-      cc (getD-drop (at + 3) bs place 0, getD-take size (drop (at + 3) bs) place 0 (omega (arith, length-take size (drop (at + 3) bs))), given-head .shape)
+      let long : suc (suc (suc (length (definition .signature .params)))) ≡ length (valueAt bs at) = ap length placed in
+      cc (getD-drop (at + 3) bs place 0, getD-take size (drop (at + 3) bs) place 0 (omega (arith, length-take size (drop (at + 3) bs))))
 
   -- its nonterminal
-  head-nonterminal : getD bs (at + 3) 0 ≡ given-head .nonterminal
-  head-nonterminal = cc (add-zero (at + 3), byte-at 0 (given-head .nonterminal) (omega arith) refl)
+  head-nonterminal : definition .nonterminal ≡ getD bs (at + 3) 0
+  unfolding headValue
+  head-nonterminal = cc (add-zero (at + 3), byte-at 0 (definition .nonterminal) (omega arith) refl)
 
   -- its mode
-  head-mode : getD bs (at + 4) 0 ≡ modeCode (given-head .mode)
-  head-mode = cc (add-assoc at 3 1, byte-at 1 (modeCode (given-head .mode)) (omega arith) refl)
+  head-mode : modeCode (definition .mode) ≡ getD bs (at + 4) 0
+  unfolding headValue
+  head-mode = cc (add-assoc at 3 1, byte-at 1 (modeCode (definition .mode)) (omega arith) refl)
 
   -- its signature
-  pub head-signature : signatureAt bs at ≡ bytesOf (headOf value .signature)
-  unfolding signatureAt definitionOf
-  head-signature =
-      cc (given-head .shape, take-all 5 (given-head .result ∷ given-head .params) (omega (arith, given-head .few)))
-
--- as the definition has them
-head-of-nonterminal : {value : List ℕ} (given-head : Head value) → headOf value .nonterminal ≡ given-head .nonterminal
-unfolding definitionOf
-head-of-nonterminal given-head = cc (given-head .shape)
-
--- as the definition has it
-head-of-mode : {value : List ℕ} (given-head : Head value) → headOf value .mode ≡ given-head .mode
-head-of-mode given-head = cc (given-head .shape, mode-of (given-head .mode) (given-head .nonterminal) (given-head .result) (given-head .params))
-
--- four parameters at most
-pub head-few : {value : List ℕ} (given-head : Head value) → length (headOf value .signature .params) ≤ 4
-unfolding definitionOf
-head-few given-head = rw (given-head .shape) (given-head .few)
+  pub head-signature : signatureAt bs at ≡ bytesOf (definition .signature)
+  unfolding signatureAt headValue
+  head-signature = cc (placed, take-all 5 (bytesOf (definition .signature)) (omega (arith, within .paramCount)))
 
 -- ------------------------------------------------------------------ environments
 
@@ -171,21 +112,22 @@ three first second third true true third′ e f g = cc (f refl, g refl refl)
 three first second third true false third′ e f g = cc (f refl)
 three first second third false second′ third′ e f g = cc
 
-module _ (bs : List ℕ) (E own : Env) (block : ℕ) (known-heads : List ℕ) (collects : Collects bs E own block known-heads) (at : ℕ) {value : List ℕ}
-    (equal : value ≡ valueAt bs at) (given-head : Head value) where
-  n : ℕ
-  n = given-head .nonterminal
+module _ (bs : List ℕ) (E own : Env) (block : ℕ) (known-heads : List ℕ) (collects : Collects bs E own block known-heads) (at : ℕ) (definition : Definition)
+    (within : DefinitionWithin definition) (placed : headValue definition ≡ valueAt bs at) where
+  abbrev n : ℕ
+  n = definition .nonterminal
 
-  head : ℕ
+  abbrev head : ℕ
   head = getD known-heads n 0
 
+  low : n < 64
+  low = omega (arith, within .nonterminal)
+
   known-head : Knows bs (own ++ E) known-heads n
-  unfolding n
-  known-head = collects .knows n (given-head .low)
+  known-head = collects .knows n low
 
   -- refusal 7: no head
   new-same : eqb head 0 ≡ (not (isDefined own n) && not (isDefined E n))
-  unfolding head n
   new-same =
       zero-test head
       ∙ ap not (known-head .defined ∙ append-defined own E n)
@@ -198,123 +140,94 @@ module _ (bs : List ℕ) (E own : Env) (block : ℕ) (known-heads : List ℕ) (c
   -- refusal 8: a head before the block, with the same signature
   before-same :
       (leb head block && ltb 0 head && same (signatureAt bs head) (signatureAt bs at))
-      ≡ (not (isDefined own n) && isDefined E n && sameSignature (signatureOf E n) (headOf value .signature))
-  unfolding head n
+      ≡ (not (isDefined own n) && isDefined E n && sameSignature (signatureOf E n) (definition .signature))
   before-same =
       three (leb head block) (ltb 0 head) (same (signatureAt bs head) (signatureAt bs at)) (not (isDefined own n)) (isDefined E n)
-      (sameSignature (signatureOf E n) (headOf value .signature)) (collects .here n (given-head .low))
+      (sameSignature (signatureOf E n) (definition .signature)) (collects .here n low)
       (λ o. cc (known-head .defined, append-defined own E n, not-true (isDefined own n) o))
       (λ o e.
       let missing : isDefined own n ≡ false = not-true (isDefined own n) o in
       let known : isDefined (own ++ E) n ≡ true = cc (append-defined own E n) in
-      ap₂ same (known-head .shown known ∙ ap bytesOf (append-signature own E n missing)) (head-signature bs at equal given-head))
+      ap₂ same (known-head .shown known ∙ ap bytesOf (append-signature own E n missing)) (head-signature bs at definition within placed))
 
   -- the test of a head, as a check
   need-tested : (test : Bool) (fault : Fault) → need test (causeOf fault) at ≡ checkOf at (testedBy test fault)
   need-tested true fault = refl
   need-tested false fault = refl
 
-  numbered : headOf value .nonterminal ≡ n
-  unfolding n
-  numbered = head-of-nonterminal given-head
+  coded : {mode : Mode} → definition .mode ≡ mode → modeCode mode ≡ getD bs (at + 4) 0
+  coded q = cc (head-mode bs at definition within placed)
 
-  coded : {mode : Mode} → given-head .mode ≡ mode → modeCode mode ≡ getD bs (at + 4) 0
-  coded q = sym (head-mode bs at equal given-head ∙ ap modeCode q)
-
-  new-outcome : (eqb (modeCode (given-head .mode)) 1 || eqb (modeCode (given-head .mode)) 2) ≡ false → need (isUnused E own (headOf value)) 7 at
-      ≡ checkOf at (faultOf bs at block known-heads)
-  unfolding head n
-  new-outcome m =
+  new-outcome : {mode : Mode} → definition .mode ≡ mode → (eqb (modeCode mode) 1 || eqb (modeCode mode) 2) ≡ false
+      → need (isUnused E own definition) 7 at ≡ checkOf at (faultOf bs at block known-heads)
+  new-outcome q m =
       cc (
-        numbered,
         new-same,
         need-tested (eqb head 0) NumberInUse,
-        fault-new bs known-heads at block (sym (head-nonterminal bs at equal given-head)) (coded refl) refl m (eqb head 0) refl,
+        fault-new bs known-heads at block (head-nonterminal bs at definition within placed) (coded q) refl m (eqb head 0) refl,
       )
 
-  before-outcome : (eqb (modeCode (given-head .mode)) 1 || eqb (modeCode (given-head .mode)) 2) ≡ true → need (isAsBefore E own (headOf value)) 8 at
-      ≡ checkOf at (faultOf bs at block known-heads)
-  unfolding head n
-  before-outcome m =
+  before-outcome : {mode : Mode} → definition .mode ≡ mode → (eqb (modeCode mode) 1 || eqb (modeCode mode) 2) ≡ true
+      → need (isAsBefore E own definition) 8 at ≡ checkOf at (faultOf bs at block known-heads)
+  before-outcome q m =
       let good : Bool = leb head block && ltb 0 head && same (signatureAt bs head) (signatureAt bs at) in
       cc (
-        numbered,
         before-same,
         need-tested good BadExtension,
-        fault-earlier bs known-heads at block (sym (head-nonterminal bs at equal given-head)) (coded refl) refl m refl refl refl good refl,
+        fault-earlier bs known-heads at block (head-nonterminal bs at definition within placed) (coded q) refl m refl refl refl good refl,
       )
 
   -- the refusal of a head is that of its definition
-  pub head-same :
-      consistent (headOf value .mode) E own (headOf value) at ≡ checkOf at (faultOf bs at block known-heads)
-  head-same = by (headOf value .mode) (sym (head-of-mode given-head))
+  pub head-same : consistent (definition .mode) E own definition at ≡ checkOf at (faultOf bs at block known-heads)
+  head-same = by (definition .mode) refl
     where
-      by : (mode : Mode) → given-head .mode ≡ mode → consistent mode E own (headOf value) at ≡ checkOf at (faultOf bs at block known-heads)
-      by add q = new-outcome (cc q)
-      by extend q = before-outcome (cc q)
-      by update q = before-outcome (cc q)
+      by : (mode : Mode) → definition .mode ≡ mode → consistent mode E own definition at ≡ checkOf at (faultOf bs at block known-heads)
+      by add q = new-outcome q refl
+      by extend q = before-outcome q refl
+      by update q = before-outcome q refl
 
   -- one head more
   module _ (later : block < at) where
-    e : Declaration
-    e = entryOf (headOf value)
+    abbrev e : Declaration
+    e = entryOf definition
 
-    heads : List ℕ
+    abbrev heads : List ℕ
     heads = withHead bs at known-heads
 
-    placed : heads ≡ set known-heads n at
-    unfolding heads n
-    placed = cc (head-nonterminal bs at equal given-head)
-
-    own-head : getD heads n 0 ≡ at
-    unfolding heads n
-    own-head = cc (placed, getD-set-same known-heads n at 0 (let k : n < 64 = given-head .low in omega (arith, collects .size)))
-
-    other-head : (other : ℕ) → (other ≡ n → ⊥) → getD heads other 0 ≡ getD known-heads other 0
-    other-head other d = cc (placed, getD-set-other known-heads n other at 0 d)
-
-    -- the new head's nonterminal, or another one
-    this : (other : ℕ) → eqb n other ≡ true → eqb (e .nonterminal) other ≡ true
-    unfolding e
-    this other q = cc numbered
-
-    that : (other : ℕ) → eqb n other ≡ false → eqb (e .nonterminal) other ≡ false
-    unfolding e
-    that other q = cc numbered
+    put : heads ≡ set known-heads n at
+    put = cc (head-nonterminal bs at definition within placed)
 
     this-head : (other : ℕ) → eqb n other ≡ true → getD heads other 0 ≡ at
-    this-head other q = cc (eqb-true n other q, own-head)
+    this-head other q = cc (eqb-true n other q, put, getD-set-same known-heads n at 0 (omega (arith, low, collects .size)))
 
     that-head : (other : ℕ) → eqb n other ≡ false → getD heads other 0 ≡ getD known-heads other 0
-    that-head other q = other-head other (λ z. eqb-false n other q (sym z))
+    that-head other q = cc (put, getD-set-other known-heads n other at 0 (λ z. eqb-false n other q (sym z)))
 
     knows-more : (other : ℕ) → other < 64 → Knows bs (e ∷ own ++ E) heads other
-    unfolding e
     knows-more other k =
         by-test (eqb n other)
         (λ q.
         record {
-          defined = ap (ltb 0) (this-head other q) ∙ lt-ltb 0 at (omega arith) ∙ sym (defined-here e (own ++ E) other (this other q));
-          shown = λ d. ap (signatureAt bs) (this-head other q) ∙ head-signature bs at equal given-head
-              ∙ ap bytesOf (sym (signature-here e (own ++ E) other (this other q)));
+          defined = ap (ltb 0) (this-head other q) ∙ lt-ltb 0 at (omega arith) ∙ sym (defined-here e (own ++ E) other q);
+          shown = λ d. ap (signatureAt bs) (this-head other q) ∙ head-signature bs at definition within placed
+              ∙ ap bytesOf (sym (signature-here e (own ++ E) other q));
         })
         (λ q.
         let old = collects .knows other k in
         record {
-          defined = ap (ltb 0) (that-head other q) ∙ old .defined ∙ sym (defined-later e (own ++ E) other (that other q));
+          defined = ap (ltb 0) (that-head other q) ∙ old .defined ∙ sym (defined-later e (own ++ E) other q);
           shown = λ d.
               ap (signatureAt bs) (that-head other q)
-              ∙ old .shown (sym (defined-later e (own ++ E) other (that other q)) ∙ d)
-              ∙ ap bytesOf (sym (signature-later e (own ++ E) other (that other q)));
+              ∙ old .shown (sym (defined-later e (own ++ E) other q) ∙ d)
+              ∙ ap bytesOf (sym (signature-later e (own ++ E) other q));
         })
 
     here-more : (other : ℕ) → other < 64 → leb (getD heads other 0) block ≡ not (isDefined (e ∷ own) other)
     here-more other k =
         by-test (eqb n other)
-        (λ q. cc (this-head other q, lt-leb at block later, defined-here e own other (this other q)))
-        (λ q. cc (that-head other q, collects .here other k, defined-later e own other (that other q)))
+        (λ q. cc (this-head other q, lt-leb at block later, defined-here e own other q))
+        (λ q. cc (that-head other q, collects .here other k, defined-later e own other q))
 
     -- the heads show one entry more
-    pub head-more : Collects bs E (entryOf (headOf value) ∷ own) block (withHead bs at known-heads)
-    unfolding e heads
+    pub head-more : Collects bs E (entryOf definition ∷ own) block (withHead bs at known-heads)
     head-more = record { size = length-set known-heads (getD bs (at + 3) 0) at ∙ collects .size; knows = knows-more; here = here-more }

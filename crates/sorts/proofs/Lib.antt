@@ -3,6 +3,4 @@ pub mod PlacedFields
 pub mod HeadsByBytes
 pub mod CollectByBytes
 pub mod BodiesByBytes
-pub mod BytesByFields
-pub mod ByFieldsSorts
 pub mod SortedBytes

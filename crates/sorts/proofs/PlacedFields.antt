@@ -1,46 +1,30 @@
--- Where the fields of a table stand: offsets grow, and a field's value is what the table has behind its three first bytes.
-use Prim.Native.Nat.{ℕ, zero, suc, _+_, _≤_}
+-- Where the fields of a table stand: a field's value is what the table has behind its three first bytes. And what holds of the fields from an
+-- alternative on holds of those behind it, if each of its fields hands it on.
+use Prim.Native.Nat.{ℕ, zero, suc, _+_}
 use mathlib.Core.Path.{_≡_, refl, subst⁻¹}
 use mathlib.Core.Bool.{Bool, true, false}
-use mathlib.Core.List.{List}
+use mathlib.Core.List.{List, [], _∷_}
 use native.Mathlib.Omega.{arith}
 use lib.Dec.{eqb, leb}
 use lib.ListN.{length, getD, take, drop}
 use lib.Seq.{getD-drop, drop-drop}
 use Rattle.spellings.proofs.BytesLaws.{by-test}
+use Rattle.grammar.specs.Table.{Item, Alternative}
+use Rattle.grammar.specs.Values.{Field, field, templateThen, itemValue}
 use Rattle.grammar.specs.Fields.{RawFields, end, cut, next, sizeOf, fieldsFrom, fieldsOf}
-use Rattle.bodies.specs.ByFields.{endsBlock}
+use Rattle.grammar.specs.Encode.{itemsThen, alternativesThen}
+use Rattle.decoding.proofs.Split.{spread}
+use Rattle.judgements.specs.Sizes.{fieldSize, itemsSize, alternativeSize, alternativesSize}
 use Rattle.bodies.specs.HeadBytes.{valueAt}
 use Rattle.bodies.proofs.TemplateInduction.{choose}
 
--- the fields stand in the table, none before an offset
-abbrev pub Placed : List ℕ → ℕ → RawFields → Type 0
-Placed bs from (end at) = from ≤ at
-Placed bs from (cut at) = from ≤ at
-Placed bs from (next at tag v fs) = (from ≤ at) × (v ≡ valueAt bs at) × Placed bs (at + 3) fs
+-- ------------------------------------------------------------------ where fields stand
 
--- the offset at which the block ends that the fields begin in
-unfoldable pub endOf : RawFields → ℕ
-endOf (end at) = at
-endOf (cut at) = at
-endOf (next at tag v fs) = elim (endsBlock tag) [ true ↦ at | false ↦ endOf fs ]
-
--- fields stand before the end of their block
-pub placed-end : (bs : List ℕ) (from : ℕ) (fs : RawFields) → Placed bs from fs → from ≤ endOf fs
-unfolding endOf
-placed-end bs from (end at) p = p
-placed-end bs from (cut at) p = p
-placed-end bs from (next at tag v fs) p = by (endsBlock tag) (placed-end bs (at + 3) fs (p .2))
-  where
-    by : (test : Bool) → at + 3 ≤ endOf fs → from ≤ choose at (endOf fs) test
-    by true h = p .0
-    by false h = let q : from ≤ at = p .0 in omega arith
-
--- and from any lower offset on
-pub placed-from-lower : (bs : List ℕ) (from lower : ℕ) (fs : RawFields) → lower ≤ from → Placed bs from fs → Placed bs lower fs
-placed-from-lower bs from lower (end at) h p = omega arith
-placed-from-lower bs from lower (cut at) h p = omega arith
-placed-from-lower bs from lower (next at tag v fs) h p = (let q : from ≤ at = p .0 in omega arith, p .1, p .2)
+-- the fields stand in the table
+abbrev pub Placed : List ℕ → RawFields → Type 0
+Placed bs (end at) = Unit {0}
+Placed bs (cut at) = Unit {0}
+Placed bs (next at tag v fs) = (v ≡ valueAt bs at) × Placed bs fs
 
 fields-by :
     (fuel at : ℕ) (rest : List ℕ) (empty whole : Bool) → eqb (length rest) 0 ≡ empty → leb (3 + sizeOf rest) (length rest) ≡ whole
@@ -60,23 +44,50 @@ module _ (bs : List ℕ) where
   value-placed at =
       cc (getD-drop at bs 1 0, getD-drop at bs 2 0, drop-drop 3 at bs)
 
-  placed-from : (fuel at from : ℕ) → from ≤ at → Placed bs from (fieldsFrom fuel at (drop at bs))
+  placed-from : (fuel at : ℕ) → Placed bs (fieldsFrom fuel at (drop at bs))
   unfolding fieldsFrom
-  placed-from zero at from h = h
-  placed-from (suc fuel) at from h =
+  placed-from zero at = tt
+  placed-from (suc fuel) at =
       let rest : List ℕ = drop at bs in
-      by-test (eqb (length rest) 0) (λ e. subst⁻¹ (Placed bs from) (fields-by fuel at rest true _ e refl) h)
+      by-test (eqb (length rest) 0) (λ e. subst⁻¹ (Placed bs) (fields-by fuel at rest true _ e refl) tt)
       (λ e.
       by-test (leb (3 + sizeOf rest) (length rest))
       (λ f.
-      subst⁻¹ (Placed bs from) (fields-by fuel at rest false true e f) (
-        h,
-        value-placed at,
-        rw (drop-drop (3 + sizeOf rest) at bs) (placed-from fuel (at + (3 + sizeOf rest)) (at + 3) (omega arith)),
-      ))
-      (λ f. subst⁻¹ (Placed bs from) (fields-by fuel at rest false false e f) h))
+      subst⁻¹ (Placed bs) (fields-by fuel at rest false true e f)
+      (value-placed at, rw (drop-drop (3 + sizeOf rest) at bs) (placed-from fuel (at + (3 + sizeOf rest)))))
+      (λ f. subst⁻¹ (Placed bs) (fields-by fuel at rest false false e f) tt))
 
   -- the fields of bytes stand at their offsets
-  pub placed-fields : Placed bs 0 (fieldsOf bs)
+  pub placed-fields : Placed bs (fieldsOf bs)
   unfolding fieldsOf
-  placed-fields = placed-from (length bs) 0 0 (omega arith)
+  placed-fields = placed-from (length bs) 0
+
+-- ------------------------------------------------------------------ behind alternatives
+
+-- the tags of an alternative's fields
+pub data Part : ℕ → Type 0 where
+  part-begin : Part 5
+  part-item : Part 6
+  part-result : Part 7
+
+-- each of these fields hands on what holds
+abbrev pub HandsOn : (RawFields → Type 0) → Type 0
+HandsOn Q = (tag : ℕ) → Part tag → (at : ℕ) (v : List ℕ) (fs : RawFields) → Q (next at tag v fs) → Q fs
+
+module _ (Q : RawFields → Type 0) (over : HandsOn Q) where
+  over-items : (is : List Item) (follow : List Field) (at to : ℕ) → at + itemsSize is ≡ to → Q (spread at (itemsThen is follow)) → Q (spread to follow)
+  unfolding spread itemsThen itemsSize
+  over-items [] follow at to e q = let z : at ≡ to = omega arith in rw (← z) q
+  over-items (i ∷ is) follow at to e q = over-items is follow (at + fieldSize (itemValue i)) to (omega arith) (over 6 part-item at _ _ q)
+
+  -- what holds of the fields from alternatives on holds of those behind
+  pub over-alternatives : (rest : List Alternative) (follow : List Field) (at to : ℕ) → at + alternativesSize rest ≡ to
+      → Q (spread at (alternativesThen rest follow)) → Q (spread to follow)
+  unfolding spread alternativesThen alternativesSize alternativeSize
+  over-alternatives [] follow at to e q = let z : at ≡ to = omega arith in rw (← z) q
+  over-alternatives (a ∷ rest) follow at to e q =
+      let result : List ℕ = templateThen (a .result) [] in
+      let behind : ℕ = at + 3 + itemsSize (a .items) in
+      over-alternatives rest follow (behind + fieldSize result) to (omega arith)
+      (over 7 part-result behind result _
+      (over-items (a .items) (field 7 result ∷ alternativesThen rest follow) (at + 3) behind refl (over 5 part-begin at [] _ q)))

@@ -1,18 +1,17 @@
 -- Laws of the walk over a whole table: the root, one field, and that what is left gives what the whole gives.
 use Prim.Native.Nat.{ℕ, _+_, _≤_, _<_}
-use mathlib.Core.Path.{_≡_, refl, sym, ap, subst, _∙_}
+use mathlib.Core.Path.{_≡_, refl, sym, subst, _∙_}
 use mathlib.Core.Bool.{Bool, true, false, _&&_}
-use mathlib.Core.List.{List, [], _∷_, _++_}
+use mathlib.Core.List.{List}
 use native.Mathlib.Omega.{arith}
 use lib.Dec.{eqb, leb}
-use lib.ListN.{length, getD, take, drop, replicate}
+use lib.ListN.{length, getD, replicate}
 use borrow.Author.Tests.{le-leb, lt-leb, eq-eqb, ne-eqb}
 use Rattle.answers.specs.declared.Verdict.{Verdict}
 use Rattle.answers.specs.declared.Verdict.the-variants.{Passed, Refused}
 use Rattle.answers.specs.Refusals.{refusal}
 use Rattle.grammar.specs.Sorts.{term}
 use Rattle.grammar.specs.declared.FieldSpan.{FieldSpan}
-use Rattle.grammar.specs.Fields.{fieldsOf}
 use Rattle.grammar.specs.Lookup.{fieldAt, valueIn, fieldsAt}
 use Rattle.grammar.proofs.LookupLaws.{fields-of, field-lies, Walk, walk-field, walk-end}
 use Rattle.grammar.specs.Limits.{most}
@@ -22,16 +21,14 @@ use Rattle.bodies.specs.declared.ItemSort.the-variants.{As, Unsorted}
 use Rattle.sorts.specs.declared.FieldStep.{FieldStep}
 use Rattle.sorts.specs.declared.FieldStep.the-variants.{Next, Stop}
 use Rattle.bodies.specs.HeadBytes.{signatureAt, collected, collectAt}
-use Rattle.bodies.specs.BodyBytes.{context, itemAt, resultAt}
-use Rattle.sorts.specs.ByBytes.{unknown, rootAt}
+use Rattle.bodies.specs.BodyBytes.{ParameterSorts, SortAdded, itemAt, resultAt}
 use Rattle.bodies.specs.declared.Fault.{Fault}
 use Rattle.bodies.specs.declared.Fault.the-variants.{Undefined, WrongSort}
 use Rattle.bodies.specs.declared.Tested.{Tested}
 use Rattle.bodies.specs.declared.Tested.the-variants.{Faulty}
 use Rattle.bodies.specs.Faults.{causeOf, testedBy, verdictOf}
-use Rattle.sorts.specs.ByBytes.{FieldStepped, going, verdict-found, stepped, afterVerdict, afterBlock, afterItem, itemStep, stepAt}
-use Rattle.sorts.specs.ByBytes.{verdictStep}
-use Rattle.sorts.specs.ByBytes.{withSorts, counting, counted, goOn, sortsFrom, sortsOf, Counts, ItemChecked, FieldChecked}
+use Rattle.sorts.specs.ByBytes.{rootAt, unknown, counting, withVariables, verdictStep, stepped, stepAt, goOn, sortsFrom, sortsOf}
+use Rattle.sorts.specs.ByBytes.{Counts, ItemChecked, FieldChecked}
 use Rattle.bodies.proofs.TemplateInduction.{choose}
 
 -- ------------------------------------------------------------------ the root
@@ -111,56 +108,25 @@ module _ (known : Known) (tag at : ℕ) where
 
 -- ------------------------------------------------------------------ an item
 
-module _ {bs : List ℕ} {at : ℕ} {value : List ℕ} {known : Known} {heads L : List ℕ} where
+module _ {bs : List ℕ} {at : ℕ} {value : List ℕ} {known : Known} {heads L : List ℕ} {item-sort : ItemSort}
+    (sorted : item-sort ≡ itemAt bs known heads L value) where
   -- an item's refusal
   pub item-refused :
-      {item-sort : ItemSort} {fault : Fault} {number : ℕ} {verdict : Verdict} {L′ : List ℕ} → item-sort ≡ itemAt bs (context known heads L) value
-      → item-sort ≡ Unsorted fault → number ≡ causeOf fault → verdict ≡ Refused (refusal number at 0 0)
-      → ItemChecked bs at value known heads L (Stop verdict) L′
-  item-refused e f n q = record { steps = cc; counts = tt }
+      {fault : Fault} {number : ℕ} {verdict : Verdict} → item-sort ≡ Unsorted fault → number ≡ causeOf fault → verdict ≡ Refused (refusal number at 0 0)
+      → ItemChecked bs at value known heads L (Stop verdict) L
+  item-refused f n q = record { steps = cc; counts = tt }
 
   -- one variable more
   pub item-added :
-      {item-sort : ItemSort} {sort count : ℕ} {L′ : List ℕ} → item-sort ≡ itemAt bs (context known heads L) value → item-sort ≡ As sort
-      → take count L′ ≡ take 16 (context known heads L .sorts ++ (sort ∷ []))
-      → ItemChecked bs at value known heads L (Next (record { keywords = known .keywords; outsides = known .outsides; head = known .head; variables = count }))
-      L′
-  item-added e f q =
-      record {
-        steps =
-            cc;
-        counts = (omega arith, omega arith);
-      }
+      {sort count : ℕ} {L′ : List ℕ} → item-sort ≡ As sort → SortAdded L (known .variables) sort L′ count
+      → ItemChecked bs at value known heads L (Next (withVariables known count)) L′
+  item-added f q = record { steps = cc (q .count-is, q .sorts-are); counts = (omega arith, omega arith) }
 
 -- ------------------------------------------------------------------ one field
-
--- a verdict on the way
-verdict-goes : (known : Known) (heads L : List ℕ) (verdict : Verdict)
-    → stepped (verdictStep known verdict) heads L ≡ afterVerdict (context known heads L) verdict
-verdict-goes known heads L Passed = refl
-verdict-goes known heads L (Refused r) = refl
 
 verdict-counts : (known : Known) (verdict : Verdict) → Counts known (verdictStep known verdict)
 verdict-counts known Passed = (omega arith, omega arith)
 verdict-counts known (Refused r) = tt
-
-module _ (bs : List ℕ) (at : ℕ) (value : List ℕ) (to : ℕ) (known : Known) (heads L : List ℕ) where
-  step-is : {tag : ℕ} (code : ℕ) → tag ≡ code → stepAt bs at code value (fieldsAt bs to) (context known heads L) ≡ stepAt bs at tag value (fieldsAt bs to)
-      (context known heads L)
-  step-is code e = cc
-
-  -- by the tests of the tag
-  stepTests : ℕ → Bool → Bool → Bool → Bool → Bool → FieldStepped
-  stepTests tag block alternative item result root =
-      choose (afterBlock (context known heads L) (collectAt bs at to heads))
-      (choose (going (withSorts (context known heads L) (drop 1 (signatureAt bs (known .head)))))
-      (choose (itemStep bs (context known heads L) at value)
-      (choose (afterVerdict (context known heads L) (verdictOf at (resultAt bs (context known heads L) value)))
-      (choose (verdict-found (verdictOf at (rootAt bs heads (getD value 0 0)))) (going (counted (context known heads L) tag at)) root)
-      result)
-      item)
-      alternative)
-      block
 
 module _ {bs : List ℕ} {at tag : ℕ} {value : List ℕ} {to : ℕ} {known : Known} {heads L : List ℕ} where
   -- a block's heads are collected
@@ -168,42 +134,27 @@ module _ {bs : List ℕ} {at tag : ℕ} {value : List ℕ} {to : ℕ} {known : K
       {field-step : FieldStep} {verdict : Verdict} {heads′ : List ℕ} → tag ≡ 3 → collected verdict heads′ ≡ collectAt bs at to heads
       → field-step ≡ verdictStep known verdict → FieldChecked bs at tag value to known heads L field-step heads′ L
   unfolding stepAt
-  step-block {field-step} {verdict} {heads′} e p q =
-      record {
-        steps = cc (verdict-goes known heads′ L verdict, step-is bs at value to known heads L 3 e);
-        counts = subst (Counts known) (sym q) (verdict-counts known verdict);
-      }
+  step-block {verdict} e p q = record { steps = rw e (cc); counts = subst (Counts known) (sym q) (verdict-counts known verdict) }
 
   -- an alternative's variables are its parameters
   pub step-parameters :
-      {count : ℕ} {L′ signature : List ℕ} → tag ≡ 5 → signature ≡ signatureAt bs (known .head) → take count L′ ≡ drop 1 signature
-      → FieldChecked bs at tag value to known heads L
-      (Next (record { keywords = known .keywords; outsides = known .outsides; head = known .head; variables = count })) heads L′
+      {count : ℕ} {L′ signature : List ℕ} → tag ≡ 5 → signature ≡ signatureAt bs (known .head) → ParameterSorts signature L L′ count
+      → FieldChecked bs at tag value to known heads L (Next (withVariables known count)) heads L′
   unfolding stepAt
-  step-parameters e p q =
-      record {
-        steps =
-            cc (step-is bs at value to known heads L 5 e);
-        counts = (omega arith, omega arith);
-      }
+  step-parameters e p q = record { steps = rw e (cc (q .count-is, q .sorts-are)); counts = (omega arith, omega arith) }
 
   -- an item
   pub step-item : {field-step : FieldStep} {L′ : List ℕ} → tag ≡ 6 → ItemChecked bs at value known heads L field-step L′
       → FieldChecked bs at tag value to known heads L field-step heads L′
   unfolding stepAt
-  step-item e i = record { steps = i .steps ∙ step-is bs at value to known heads L 6 e; counts = i .counts }
+  step-item e i = record { steps = rw e (i .steps); counts = i .counts }
 
   -- a result
   pub step-result :
-      {tested : Tested} {verdict : Verdict} {field-step : FieldStep} → tag ≡ 7 → tested ≡ resultAt bs (context known [] L) value → verdict ≡ verdictOf at tested
+      {tested : Tested} {verdict : Verdict} {field-step : FieldStep} → tag ≡ 7 → tested ≡ resultAt bs known L value → verdict ≡ verdictOf at tested
       → field-step ≡ verdictStep known verdict → FieldChecked bs at tag value to known heads L field-step heads L
-  unfolding stepAt resultAt
-  step-result {tested} {verdict} e p q f =
-      record {
-        steps =
-            cc (verdict-goes known heads L verdict, step-is bs at value to known heads L 7 e);
-        counts = subst (Counts known) (sym f) (verdict-counts known verdict);
-      }
+  unfolding stepAt
+  step-result {verdict} e p q f = record { steps = rw e (cc); counts = subst (Counts known) (sym f) (verdict-counts known verdict) }
 
   -- the root
   pub step-root :
@@ -211,20 +162,17 @@ module _ {bs : List ℕ} {at tag : ℕ} {value : List ℕ} {to : ℕ} {known : K
       → verdict ≡ verdictOf at tested
       → FieldChecked bs at tag value to known heads L (Stop verdict) heads L
   unfolding stepAt
-  step-root e p q f =
-      record { steps = ap verdict-found (f ∙ ap (verdictOf at) (q ∙ ap (rootAt bs heads) p)) ∙ step-is bs at value to known heads L 8 e; counts = tt }
+  step-root e p q f = record { steps = rw e (cc); counts = tt }
 
   -- any other field
   pub step-counts :
       {known′ : Known}
       → ((((Unit {0} × (tag ≡ 3 → ⊥)) × (tag ≡ 5 → ⊥)) × (tag ≡ 6 → ⊥)) × (tag ≡ 7 → ⊥)) × (tag ≡ 8 → ⊥)
       → known′ ≡ counting known tag at → FieldChecked bs at tag value to known heads L (Next known′) heads L
-  unfolding stepAt stepTests counting
+  unfolding stepAt
   step-counts (((((u, a), b), c), d), e) q =
       record {
-        steps =
-            let tests : Bool → Bool → Bool → Bool → Bool → FieldStepped = stepTests bs at value to known heads L tag in
-            cc (ne-eqb tag 3 a, ne-eqb tag 5 b, ne-eqb tag 6 c, ne-eqb tag 7 d, ne-eqb tag 8 e);
+        steps = rw (ne-eqb tag 3 a, ne-eqb tag 5 b, ne-eqb tag 6 c, ne-eqb tag 7 d, ne-eqb tag 8 e, stepAt) (cc);
         counts = rw q (counts known tag at);
       }
 
@@ -233,10 +181,10 @@ module _ {bs : List ℕ} {at tag : ℕ} {value : List ℕ} {to : ℕ} {known : K
 -- a table that is too long is not looked at; of any other the fields give the answer
 pub sorts-long : (bs : List ℕ) → most .bytes < length bs → Passed ≡ sortsOf bs
 unfolding sortsOf
-sorts-long bs h = ap (choose (sortsFrom (fieldsOf bs) bs (unknown (replicate 64 0))) Passed) (sym (lt-leb (length bs) (most .bytes) h))
+sorts-long bs h = cc (lt-leb (length bs) (most .bytes) h)
 
 -- of any other table the fields give the answer
-pub sorts-short : (bs : List ℕ) → length bs ≤ most .bytes → sortsFrom (fieldsAt bs 0) bs (unknown (replicate 64 0)) ≡ sortsOf bs
+pub sorts-short : (bs : List ℕ) → length bs ≤ most .bytes → sortsFrom (fieldsAt bs 0) bs unknown (replicate 64 0) (replicate 16 0) ≡ sortsOf bs
 unfolding sortsOf
 sorts-short bs h =
     cc (fields-of bs, le-leb (length bs) (most .bytes) h)
@@ -254,33 +202,32 @@ pub record Sorting (bs heads₀ L₀ stack₀ known-heads L stack : List ℕ) (a
   -- nor outside names
   pub outsides : known .outsides ≤ at
   -- the fields left give what all of them give
-  pub rest : sortsFrom (fieldsAt bs at) bs (context known known-heads L) ≡ sortsFrom (fieldsAt bs 0) bs (unknown heads₀)
+  pub rest : sortsFrom (fieldsAt bs at) bs known known-heads L ≡ sortsFrom (fieldsAt bs 0) bs unknown heads₀ L₀
 
 -- at the first field nothing is known
-pub sorting-start :
-    {bs heads₀ L₀ stack₀ : List ℕ}
-    → Sorting bs heads₀ L₀ stack₀ heads₀ L₀ stack₀ 0 (record { keywords = 0; outsides = 0; head = 0; variables = 0 })
+pub sorting-start : {bs heads₀ L₀ stack₀ : List ℕ} → Sorting bs heads₀ L₀ stack₀ heads₀ L₀ stack₀ 0 unknown
 sorting-start =
     record { heads = refl; sorts = refl; full = refl; keywords = omega arith; outsides = omega arith; rest = refl }
 
 module _ {bs heads₀ L₀ stack₀ heads L stack : List ℕ} {at : ℕ} {known : Known} (sorting : Sorting bs heads₀ L₀ stack₀ heads L stack at known) where
-  walks : Walk (λ fs. sortsFrom fs bs (context known heads L)) Passed
+  walks : Walk (λ fs. sortsFrom fs bs known heads L) Passed
   unfolding sortsFrom stepAt
   walks = record { at-end = λ at. refl; at-cut = λ at. refl; at-none = λ at to. refl }
 
   -- at the end
-  pub sorting-end : length bs ≤ at → Passed ≡ sortsFrom (fieldsAt bs 0) bs (unknown heads₀)
+  pub sorting-end : length bs ≤ at → Passed ≡ sortsFrom (fieldsAt bs 0) bs unknown heads₀ L₀
   sorting-end h = sym (walk-end walks bs at h) ∙ sorting .rest
 
   module _ {field : FieldSpan} {step : FieldStep} {heads′ L′ : List ℕ} (equal : field ≡ fieldAt bs at)
       (field-checked : FieldChecked bs at (field .tag) (valueIn bs field) (field .to) known heads L step heads′ L′) where
-    step-gives : {field-step : FieldStep} → step ≡ field-step → goOn (stepped field-step heads′ L′) (λ X. sortsFrom (fieldsAt bs (field .to)) bs X)
-        ≡ sortsFrom (fieldsAt bs 0) bs (unknown heads₀)
+    step-gives : {field-step : FieldStep} → step ≡ field-step
+        → goOn (stepped field-step heads′ L′) (λ known′ H M. sortsFrom (fieldsAt bs (field .to)) bs known′ H M)
+        ≡ sortsFrom (fieldsAt bs 0) bs unknown heads₀ L₀
     unfolding sortsFrom
     step-gives h = cc (field-checked .steps, walk-field walks bs at equal, sorting .rest)
 
     -- a field stops the check
-    pub sorting-stop : {verdict : Verdict} → step ≡ Stop verdict → verdict ≡ sortsFrom (fieldsAt bs 0) bs (unknown heads₀)
+    pub sorting-stop : {verdict : Verdict} → step ≡ Stop verdict → verdict ≡ sortsFrom (fieldsAt bs 0) bs unknown heads₀ L₀
     sorting-stop h = step-gives h
 
     -- the check goes on behind it

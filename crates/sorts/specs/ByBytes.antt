@@ -1,11 +1,11 @@
--- The check of sorts on the bytes of a table, as the code makes it, for any bytes. On a table whose layout is right it is `checkSortsBy`
--- (proofs/BytesByFields.antt). Nobody needs this file to believe `expand`.
-use Prim.Native.Nat.{ℕ, _+_, _*_, _≤_}
+-- The check of sorts on the bytes of a table, as the code makes it, for any bytes. On the bytes of a table it is `checkSorts`
+-- (proofs/SortedBytes.antt). Nobody needs this file to believe `expand`.
+use Prim.Native.Nat.{ℕ, _+_, _-_, _*_, _≤_}
 use mathlib.Core.Path.{_≡_}
 use mathlib.Core.Bool.{true, false, _&&_}
-use mathlib.Core.List.{List, [], _∷_, _++_}
+use mathlib.Core.List.{List, _++_}
 use lib.Dec.{eqb, leb}
-use lib.ListN.{length, getD, take, drop, replicate}
+use lib.ListN.{length, getD, drop, set, replicate}
 use Rattle.grammar.specs.Variables.{mostVariables}
 use Rattle.answers.specs.declared.Verdict.{Verdict}
 use Rattle.answers.specs.declared.Verdict.the-variants.{Passed, Refused}
@@ -24,19 +24,7 @@ use Rattle.bodies.specs.declared.ItemSort.the-variants.{As, Unsorted}
 use Rattle.sorts.specs.declared.FieldStep.{FieldStep}
 use Rattle.sorts.specs.declared.FieldStep.the-variants.{Next, Stop}
 use Rattle.bodies.specs.HeadBytes.{signatureAt, Collected, collected, collectFrom}
-use Rattle.bodies.specs.BodyBytes.{Context, context, itemAt, resultAt}
-
--- nothing is known
-abbrev pub unknown : List ℕ → Context
-unknown H = record { keywords = 0; outsides = 0; head = 0; heads = H; sorts = [] }
-
--- other heads
-abbrev pub withHeads : Context → List ℕ → Context
-withHeads X H = record { keywords = X .keywords; outsides = X .outsides; head = X .head; heads = H; sorts = X .sorts }
-
--- other variables
-abbrev pub withSorts : Context → List ℕ → Context
-withSorts X L = record { keywords = X .keywords; outsides = X .outsides; head = X .head; heads = X .heads; sorts = L }
+use Rattle.bodies.specs.BodyBytes.{oneMore, itemAt, resultAt}
 
 -- what is wrong with the root n: it is defined, has no parameters and gives a Term
 unfoldable pub rootAt : List ℕ → List ℕ → ℕ → Tested
@@ -49,44 +37,15 @@ rootAt bs H n =
 
 -- ------------------------------------------------------------------ field by field
 
--- what a field gives: what is known after it, or the verdict
-pub data FieldStepped : Type 0 where
-  going : Context → FieldStepped
-  verdict-found : Verdict → FieldStepped
+-- what a field gives, with the rooms of heads and of sorts as it leaves them
+pub data Stepped : Type 0 where
+  stepped : FieldStep → List ℕ → List ℕ → Stepped
 
--- as the code has it
-abbrev pub stepped : FieldStep → List ℕ → List ℕ → FieldStepped
-stepped (Next k) H L = going (context k H L)
-stepped (Stop v) H L = verdict-found v
-
-abbrev pub afterVerdict : Context → Verdict → FieldStepped
-afterVerdict X Passed = going X
-afterVerdict X (Refused r) = verdict-found (Refused r)
-
-abbrev pub afterBlock : Context → Collected → FieldStepped
-afterBlock X (collected v H) = afterVerdict (withHeads X H) v
-
--- one variable more; there are 16 at most
-abbrev pub afterItem : Context → ℕ → ItemSort → FieldStepped
-afterItem X at (As s) = going (withSorts X (take mostVariables (X .sorts ++ (s ∷ []))))
-afterItem X at (Unsorted fault) = verdict-found (Refused (refusal (causeOf fault) at 0 0))
-
--- an item at an offset
-abbrev pub itemStep : List ℕ → Context → ℕ → List ℕ → FieldStepped
-itemStep bs X at v = afterItem X at (itemAt bs X v)
+-- nothing is known
+abbrev pub unknown : Known
+unknown = record { keywords = 0; outsides = 0; head = 0; variables = 0 }
 
 -- a keyword, an outside name and a head; no other field counts
-abbrev pub counted : Context → ℕ → ℕ → Context
-counted X tag at =
-    record {
-      keywords = elim (eqb tag 1) [ true ↦ X .keywords + 1 | false ↦ X .keywords ];
-      outsides = elim (eqb tag 2) [ true ↦ X .outsides + 1 | false ↦ X .outsides ];
-      head = elim (eqb tag 4) [ true ↦ at | false ↦ X .head ];
-      heads = X .heads;
-      sorts = X .sorts;
-    }
-
--- as the code has it
 unfoldable pub counting : Known → ℕ → ℕ → Known
 counting k tag at =
     record {
@@ -96,48 +55,67 @@ counting k tag at =
       variables = k .variables;
     }
 
--- as the code has it
+-- another number of variables
+abbrev pub withVariables : Known → ℕ → Known
+withVariables k n = record { keywords = k .keywords; outsides = k .outsides; head = k .head; variables = n }
+
+-- a verdict: the check goes on with what is known, or stops
 abbrev pub verdictStep : Known → Verdict → FieldStep
 verdictStep k Passed = Next k
 verdictStep k (Refused r) = Stop (Refused r)
 
--- the field at an offset, and the fields behind it: a block's definitions are collected at its beginning, the variables of an
--- alternative are its parameters at its beginning
-unfoldable pub stepAt : List ℕ → ℕ → ℕ → List ℕ → RawFields → Context → FieldStepped
-stepAt bs at tag v fs X =
+abbrev pub afterBlock : Known → List ℕ → Collected → Stepped
+afterBlock k L (collected v H) = stepped (verdictStep k v) H L
+
+-- one variable more; there are 16 at most
+abbrev pub afterItem : Known → List ℕ → List ℕ → ℕ → ItemSort → Stepped
+afterItem k H L at (As s) = stepped (Next (withVariables k (oneMore (k .variables)))) H (set L (k .variables) s)
+afterItem k H L at (Unsorted fault) = stepped (Stop (Refused (refusal (causeOf fault) at 0 0))) H L
+
+-- the variables of an alternative are its parameters at its beginning
+abbrev pub afterHead : Known → List ℕ → List ℕ → List ℕ → Stepped
+afterHead k H L signature = stepped (Next (withVariables k (length signature - 1))) H (drop 1 signature ++ drop (length signature - 1) L)
+
+-- the field at an offset, and the fields behind it: a block's definitions are collected at its beginning
+unfoldable pub stepAt : List ℕ → ℕ → ℕ → List ℕ → RawFields → Known → List ℕ → List ℕ → Stepped
+stepAt bs at tag v fs k H L =
     elim (eqb tag 3) [
-      | true ↦ afterBlock X (collectFrom fs bs at (X .heads))
+      | true ↦ afterBlock k L (collectFrom fs bs at H)
       | false ↦
           elim (eqb tag 5) [
-            | true ↦ going (withSorts X (drop 1 (signatureAt bs (X .head))))
+            | true ↦ afterHead k H L (signatureAt bs (k .head))
             | false ↦
                 elim (eqb tag 6) [
-                  | true ↦ itemStep bs X at v
+                  | true ↦ afterItem k H L at (itemAt bs k H L v)
                   | false ↦
                       elim (eqb tag 7) [
-                        | true ↦ afterVerdict X (verdictOf at (resultAt bs X v))
+                        | true ↦ stepped (verdictStep k (verdictOf at (resultAt bs k L v))) H L
                         | false ↦
                             elim (eqb tag 8) [
-                              | true ↦ verdict-found (verdictOf at (rootAt bs (X .heads) (getD v 0 0)))
-                              | false ↦ going (counted X tag at)
+                              | true ↦ stepped (Stop (verdictOf at (rootAt bs H (getD v 0 0)))) H L
+                              | false ↦ stepped (Next (counting k tag at)) H L
                             ]
                       ]
                 ]
           ]
     ]
 
-abbrev pub goOn : FieldStepped → (Context → Verdict) → Verdict
-goOn (going X) f = f X
-goOn (verdict-found v) f = v
+abbrev pub goOn : Stepped → (Known → List ℕ → List ℕ → Verdict) → Verdict
+goOn (stepped (Next k) H L) f = f k H L
+goOn (stepped (Stop v) H L) f = v
 
-unfoldable pub sortsFrom : RawFields → List ℕ → Context → Verdict
-sortsFrom (end at) bs X = Passed
-sortsFrom (cut at) bs X = Passed
-sortsFrom (next at tag v fs) bs X = goOn (stepAt bs at tag v fs X) (λ Y. sortsFrom fs bs Y)
+unfoldable pub sortsFrom : RawFields → List ℕ → Known → List ℕ → List ℕ → Verdict
+sortsFrom (end at) bs k H L = Passed
+sortsFrom (cut at) bs k H L = Passed
+sortsFrom (next at tag v fs) bs k H L = goOn (stepAt bs at tag v fs k H L) (λ k′ H′ L′. sortsFrom fs bs k′ H′ L′)
 
 -- a longer table was refused before
 unfoldable pub sortsOf : List ℕ → Verdict
-sortsOf bs = elim (leb (length bs) (most .bytes)) [ true ↦ sortsFrom (fieldsOf bs) bs (unknown (replicate (most .nonterminals) 0)) | false ↦ Passed ]
+sortsOf bs =
+    elim (leb (length bs) (most .bytes)) [
+      | true ↦ sortsFrom (fieldsOf bs) bs unknown (replicate (most .nonterminals) 0) (replicate mostVariables 0)
+      | false ↦ Passed
+    ]
 
 -- ------------------------------------------------------------------ what the code's functions ask and ensure
 
@@ -153,13 +131,13 @@ Counts k (Stop v) = Unit {0}
 
 -- an item at an offset: what it gives, where the code answers r and leaves the sorts L′
 pub record ItemChecked (bs : List ℕ) (at : ℕ) (v : List ℕ) (k : Known) (H L : List ℕ) (r : FieldStep) (L′ : List ℕ) : Type 0 where
-  pub steps : stepped r H L′ ≡ itemStep bs (context k H L) at v
+  pub steps : stepped r H L′ ≡ afterItem k H L at (itemAt bs k H L v)
   pub counts : Counts k r
 
 -- the field at an offset, where the next one stands at `to`: what it gives, where the code answers r and leaves the heads H′ and the
 -- sorts L′
 pub record FieldChecked (bs : List ℕ) (at tag : ℕ) (v : List ℕ) (to : ℕ) (k : Known) (H L : List ℕ) (r : FieldStep) (H′ L′ : List ℕ) : Type 0 where
-  pub steps : stepped r H′ L′ ≡ stepAt bs at tag v (fieldsAt bs to) (context k H L)
+  pub steps : stepped r H′ L′ ≡ stepAt bs at tag v (fieldsAt bs to) k H L
   pub counts : Counts k r
 
 -- room for 16 variables, and for the places that a value's templates open

@@ -1,5 +1,4 @@
 // The sorts of a grammar sequence, field by field: refusals 7, 8, 9 and 11.
-use answers::Refusal;
 use answers::Verdict;
 use answers::refused;
 use bodies::Fault;
@@ -175,7 +174,7 @@ fn check_field(
 // A table's fields from the first on, with no head known yet and room for the variables and for the places that templates open.
 fn check_fields(heads: &mut [u16], sorts: &mut [u8], stack: &mut [u8], table: &[u8]) -> Verdict
     requires { ⌜ (length (now table) ≤ most .bytes) × Room (now table) (now sorts) (now stack) ⌝ }
-    ensures { λ r. ⌜ r ≡ sortsFrom (fieldsAt (now (table .entry)) 0) (now (table .entry)) (unknown (now (heads .entry))) ⌝ }
+    ensures { λ r. ⌜ r ≡ sortsFrom (fieldsAt (now (table .entry)) 0) (now (table .entry)) unknown (now (heads .entry)) (now (sorts .entry)) ⌝ }
 {
     let mut at: usize = 0;
     let mut known = Known {

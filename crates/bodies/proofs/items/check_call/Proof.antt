@@ -2,9 +2,8 @@
 use borrow.Author.Needs.{needs}
 use Prim.Native.Nat.{_≤_}
 use mathlib.Core.Path.{_≡_, ap}
-use lib.ListN.{length, drop}
+use lib.ListN.{length, take, drop}
 use Rattle.bodies.specs.TemplateBytes.{templatesFault}
-use Rattle.bodies.specs.BodyBytes.{context}
 use Rattle.bodies.proofs.HeadLaws.{signature-short}
 use Rattle.bodies.proofs.BodyLaws as laws
 use native.Mathlib.Omega.{arith}
@@ -39,7 +38,7 @@ fault :
     (point : tie.After-fault-in)
     → point .fault-in .result
     ≡ templatesFault (start (signed point) .args .known .outsides)
-    (context (start (signed point) .args .known) (start (signed point) .args .heads .now) (start (signed point) .args .sorts .now) .sorts)
+    (take (start (signed point) .args .known .variables) (start (signed point) .args .sorts .now))
     (start (signed point) .args .arguments .now)
     (drop 1 (signed point .signature-at .result .now))
 fault point =

@@ -33,7 +33,7 @@ returns-4 : tie.Need-returns-4
 returns-4 c = search laws.item-local
 
 returns-5 : tie.Need-returns-5
-returns-5 c = cc (laws.item-call _ _ _ (called c .before .before .byte .ensures) (called c .before .byte2 .ensures) (called c .match .keys4)
+returns-5 c = cc (laws.item-call _ _ _ _ _ (called c .before .before .byte .ensures) (called c .before .byte2 .ensures) (called c .match .keys4)
     (c .before .before .before .part .ensures))
 
 returns-6 : tie.Need-returns-6

@@ -1,6 +1,5 @@
 -- `check_result`: one place, of the sort that the signature gives.
 use borrow.Author.Needs.{needs}
-use mathlib.Core.List.{[]}
 use mathlib.Core.Path.{_∙_}
 use lib.ListN.{length-set}
 use Rattle.bodies.proofs.BodyLaws as laws
@@ -26,7 +25,7 @@ returns c =
     let r = q .before .before in
     let p = r .before in
     let a = start p .args in
-    laws.result-is (a .table .now) (a .known) [] (a .sorts .now) (a .v .now) (a .stack .now) (p .before .signature-at .ensures) (p .byte .ensures)
+    laws.result-is (a .table .now) (a .known) (a .sorts .now) (a .v .now) (a .stack .now) (p .before .signature-at .ensures) (p .byte .ensures)
     (omega (arith, start p .pre)) (cc (q .fault-in .ensures, r .part .ensures))
 
 -- the function meets its contract
