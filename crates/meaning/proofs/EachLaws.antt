@@ -23,7 +23,7 @@ use Rattle.terms.specs.Term.{Name, Term}
 use Rattle.terms.specs.Rows.{termAt}
 use Rattle.meaning.specs.Expand.{Expanded, refused, finished, scanned, expandTable, checkedFirst, expand}
 use Rattle.meaning.specs.Each.{formulaIn, numbersOf, numbersEach, written, Series, alone, behind, expandAll}
-use Rattle.meaning.proofs.Stages.{expand-refused, Finish, too-big, is-loose, too-long, prints, finishes}
+use Rattle.meaning.proofs.Stages.{expand-refused, Finish, is-refused, too-long, prints, finishes}
 
 -- ------------------------------------------------------------------ what one expansion leaves
 
@@ -41,10 +41,9 @@ module _ (cells text : List ℕ) where
   finish-keeps : {made : ℕ} {core-term : Term Name} {cells′ : List ℕ} {x : Expanded} → length cells′ ≡ length cells
       → Finish made core-term cells′ text x
       → Keeps cells text x
-  finish-keeps many (too-big b) = refused-keeps many refl refl
-  finish-keeps many (is-loose s l) = refused-keeps many refl refl
-  finish-keeps many (too-long s l b) = refused-keeps many refl refl
-  finish-keeps many (prints s l b) =
+  finish-keeps many (is-refused j) = refused-keeps many refl refl
+  finish-keeps many (too-long p b) = refused-keeps many refl refl
+  finish-keeps many (prints p b) =
       record { as-many-cells = many; as-long = simp (length-append, length-drop) (omega arith); fits = b; text-behind = simp drop-append-seam }
 
   run-keeps : (rows : ℕ) (spelling : ℕ → List ℕ) (result : Result ℕ) → Leaves rows 0 cells result → Keeps cells text (finished spelling text result)

@@ -21,7 +21,7 @@ use Rattle.checker.proofs.TableTheorems.{check-exactly}
 use Rattle.soundness.specs.Passing.{Passing, passingOf}
 use Rattle.meaning.specs.Expand.{Expanded, expandTable, expand}
 use Rattle.meaning.specs.Each.{written}
-use Rattle.meaning.specs.Meaning.{MeansWithin, Cause, unscanned, stopped, too-large, is-loose, text-too-long, Accepts}
+use Rattle.meaning.specs.Meaning.{MeansWithin, Cause, unscanned, stopped, is-judged, text-too-long, Accepts}
 use Rattle.meaning.proofs.Stages.{expand-refused, expand-passed}
 use Rattle.meaning.proofs.Exactly.{refused-exactly, accepted-exactly, accepted-text}
 
@@ -39,19 +39,15 @@ module _ (formula cells cells′ text text′ : List ℕ) (as-many : length cell
     cause-lent : {cause : Refusal} → Cause syntax formula cells text cause → Cause syntax formula cells′ text′ cause
     cause-lent (unscanned u) = unscanned u
     cause-lent (stopped S h) = stopped S (rw as-many at h)
-    cause-lent (too-large E b) = too-large (within E) b
-    cause-lent (is-loose E s o f) = is-loose (within E) s o f
-    cause-lent (text-too-long E s o n b) = text-too-long (within E) s o n (omega arith)
+    cause-lent (is-judged E j) = is-judged (within E) j
+    cause-lent (text-too-long E p b) = text-too-long (within E) p (omega arith)
 
     accepts-lent : {meant : Term Name} {made size bytes : ℕ} → Accepts syntax formula cells text meant made size bytes
         → Accepts syntax formula cells′ text′ meant made size bytes
     accepts-lent A =
         record {
           means = within (A .means);
-          small = A .small;
-          occurrences = A .occurrences;
-          occur = A .occur;
-          none-loose = A .none-loose;
+          passes = A .passes;
           fits = omega (arith, A .fits);
           cells-are = A .cells-are;
           size-is = A .size-is;
