@@ -1,12 +1,16 @@
 -- The lines that programs write. Document 01, of the program `phrase`: "`ok 2 2 31` (cells, constructors, text length)", "`refused 17 2 1 1` (number, a, b, c)".
 use Prim.Native.Nat.{ℕ}
-use mathlib.Core.Bool.{Bool, _&&_}
+use mathlib.Core.Bool.{Bool, true, false, _&&_}
 use mathlib.Core.List.{List, [], _∷_, _++_}
 use lib.Dec.{eqb}
 use Rattle.spellings.specs.Bytes.{bytes, decimal}
 use Rattle.answers.specs.declared.Refusal.{Refusal}
 use Rattle.answers.specs.declared.Answer.{Answer}
 use Rattle.answers.specs.declared.Answer.the-variants.{Accepted, Refusing}
+use Rattle.reports.specs.declared.lines.Compared.{Compared}
+use Rattle.reports.specs.declared.lines.Compared.the-variants.{Same, OtherAnswer, OtherRooms}
+use Rattle.reports.specs.declared.lines.Tally.{Tally}
+use Rattle.reports.specs.declared.lines.Tally.the-variants.{Read, Broken}
 
 -- whether two answers have one number and the same values
 abbrev pub sameRefusal : Refusal → Refusal → Bool
@@ -65,3 +69,20 @@ broken index = bytes "cases.bin is cut or malformed in case " ++ decimal index +
 unfoldable pub missing : List ℕ
 unfolding bytes
 missing = bytes "cases.bin cannot be opened" ++ newline
+
+-- whether a case differs
+abbrev pub isDifferent : Compared → Bool
+isDifferent Same = false
+isDifferent (OtherAnswer found) = true
+isDifferent OtherRooms = true
+
+-- the line of a case that was compared; none if it is as expected
+unfoldable pub comparedLine : ℕ → Refusal → Compared → List ℕ
+comparedLine index expected Same = []
+comparedLine index expected (OtherAnswer found) = caseDiffers index expected found
+comparedLine index expected OtherRooms = otherRooms index
+
+-- the last line of a run of cases
+unfoldable pub tallyLine : Tally → List ℕ
+tallyLine (Read cases differ) = total cases differ
+tallyLine (Broken index) = broken index

@@ -1,33 +1,37 @@
--- `same_cells` is safe and ends: it reads every cell.
-use Prim.Native.Nat.{_≤_, _-_}
+-- `same_cells`: the cells are as expected in the numbers passed.
+use Prim.Native.Nat.{_-_}
 use native.Mathlib.Omega.{arith}
+use lib.ListN.{length}
 use borrow.Author.Needs.{needs}
+use Rattle.cases.specs.Cases.{numbersIn, untouchedCell}
+use Rattle.cases.proofs.CaseLaws.{Left, left-longer, left-start, left-next, left-stop, left-end, numbers-fit, numbers-exceed}
 use Rattle.cases.proofs.contents.same_cells.Statement.{statement}
 use Rattle.cases.proofs.contents.same_cells.Tie as tie
 
 abbrev Inv-loop : tie.InvT-loop
-Inv-loop cells rows i₀ i = i ≤ 80000
+Inv-loop cells rows i₀ i = Left (numbersIn rows) untouchedCell cells i
 
 abbrev μ-loop : tie.MeasureT-loop
-μ-loop cells rows i₀ i = 80000 - i
+μ-loop cells rows i₀ i = length cells - i
+
+returns : tie.Need-returns Inv-loop μ-loop
+returns c = search (left-longer, numbers-exceed)
 
 loop-holds : tie.Need-loop-holds Inv-loop μ-loop
-loop-holds c = omega arith
+loop-holds c = search (left-start, numbers-fit)
 
-mul-if1 : tie.Need-mul-if1 Inv-loop μ-loop
-mul-if1 c = omega arith
-
-element-copy-out-if1 : tie.Need-element-copy-out-if1 Inv-loop μ-loop
-element-copy-out-if1 c = omega arith
-
-add-i : tie.Need-add-i Inv-loop μ-loop
-add-i c = omega arith
-
-loop-less : tie.Need-loop-less Inv-loop μ-loop
-loop-less c = omega arith
+returns-2 : tie.Need-returns-2 Inv-loop μ-loop
+returns-2 c =
+    let read = c .before in
+    left-stop (read .before .before .before .loop .inv) (omega arith) (read .expected-cell .ensures) (c .if2 .taken)
 
 loop-again : tie.Need-loop-again Inv-loop μ-loop
-loop-again c = omega arith
+loop-again c =
+    let read = c .before in
+    left-next (read .before .before .before .loop .inv) (omega arith) (read .expected-cell .ensures) (c .if2 .left)
+
+returns-3 : tie.Need-returns-3 Inv-loop μ-loop
+returns-3 c = left-end (c .before .loop .inv) (omega arith)
 
 -- the function meets its contract
 pub same-cells-spec : {M : Type 1} → statement M
@@ -36,12 +40,13 @@ same-cells-spec =
     (tie.spec
     Inv-loop
     μ-loop
+    returns
     loop-holds
-    mul-if1
-    element-copy-out-if1
-    (λ c κs. search needs)
     (λ c. search needs)
-    add-i
-    loop-less
+    (λ c. search needs)
+    (λ c κs. search needs)
+    returns-2
+    (λ c. search needs)
+    (λ c. search needs)
     loop-again
-    (λ c. search needs))
+    returns-3)

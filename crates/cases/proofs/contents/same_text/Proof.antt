@@ -1,30 +1,37 @@
--- `same_text` is safe and ends: it reads every byte.
-use Prim.Native.Nat.{_≤_, _-_}
+-- `same_text`: the text is as expected in the bytes passed.
+use Prim.Native.Nat.{_-_}
 use native.Mathlib.Omega.{arith}
+use lib.ListN.{length}
 use borrow.Author.Needs.{needs}
+use Rattle.cases.specs.Cases.{untouchedByte}
+use Rattle.cases.proofs.CaseLaws.{Left, left-longer, left-start, left-next, left-stop, left-end}
 use Rattle.cases.proofs.contents.same_text.Statement.{statement}
 use Rattle.cases.proofs.contents.same_text.Tie as tie
 
 abbrev Inv-loop : tie.InvT-loop
-Inv-loop text written i₀ i = i ≤ 300000
+Inv-loop text written i₀ i = Left written untouchedByte text i
 
 abbrev μ-loop : tie.MeasureT-loop
-μ-loop text written i₀ i = 300000 - i
+μ-loop text written i₀ i = length text - i
+
+returns : tie.Need-returns Inv-loop μ-loop
+returns c = search left-longer
 
 loop-holds : tie.Need-loop-holds Inv-loop μ-loop
-loop-holds c = omega arith
+loop-holds c = search left-start
 
-element-copy-out-if1 : tie.Need-element-copy-out-if1 Inv-loop μ-loop
-element-copy-out-if1 c = omega arith
-
-add-i : tie.Need-add-i Inv-loop μ-loop
-add-i c = omega arith
-
-loop-less : tie.Need-loop-less Inv-loop μ-loop
-loop-less c = omega arith
+returns-2 : tie.Need-returns-2 Inv-loop μ-loop
+returns-2 c =
+    let read = c .before in
+    left-stop (read .before .before .before .loop .inv) (omega arith) (read .expected-byte .ensures) (c .if2 .taken)
 
 loop-again : tie.Need-loop-again Inv-loop μ-loop
-loop-again c = omega arith
+loop-again c =
+    let read = c .before in
+    left-next (read .before .before .before .loop .inv) (omega arith) (read .expected-byte .ensures) (c .if2 .left)
+
+returns-3 : tie.Need-returns-3 Inv-loop μ-loop
+returns-3 c = left-end (c .before .loop .inv) (omega arith)
 
 -- the function meets its contract
 pub same-text-spec : {M : Type 1} → statement M
@@ -33,11 +40,12 @@ same-text-spec =
     (tie.spec
     Inv-loop
     μ-loop
+    returns
     loop-holds
-    element-copy-out-if1
-    (λ c κs. search needs)
     (λ c. search needs)
-    add-i
-    loop-less
+    (λ c κs. search needs)
+    returns-2
+    (λ c. search needs)
+    (λ c. search needs)
     loop-again
-    (λ c. search needs))
+    returns-3)
