@@ -1,33 +1,39 @@
 -- Laws of the check of first sets: what the room holds, and the verdicts of 12 and 13.
-use Prim.Native.Nat.{ℕ, zero, suc, _<_, _≤_}
+use Prim.Native.Nat.{ℕ, zero, suc, _+_, _<_, _≤_}
 use mathlib.Core.Path.{_≡_, refl, sym, ap, _∙_}
 use mathlib.Core.Bool.{Bool, true, false}
 use mathlib.Core.List.{List, map}
+use mathlib.Core.Logic.{dite}
+use native.Mathlib.Decide.{ℕ-discrete}
 use native.Mathlib.Omega.{arith}
 use lib.Count.{trailingZeros}
-use lib.Dec.{ltb}
+use lib.Dec.{eqb, ltb}
 use lib.ListN.{length, getD}
-use borrow.Author.Tests.{lt-ltb, le-ltb}
+use borrow.Author.Tests.{lt-ltb, le-ltb, ne-eqb}
 use Rattle.answers.specs.Refusals.{refusal}
 use Rattle.answers.specs.Checked.{Checked, ok, bad, _>>_, verdict}
 use Rattle.answers.specs.declared.Refusal.{Refusal}
 use Rattle.answers.specs.declared.Verdict.the-variants.{Passed, Refused}
 use Rattle.decoding.specs.Within.{Each, each-none, each-more}
 use Rattle.productions.specs.Normal.{Production}
-use Rattle.productions.specs.Index.{Place, placesIn, productionsAt, Whole}
-use Rattle.productions.specs.Room.{Entry, noEntry, overwritten, HoldsEntries}
-use Rattle.clashes.specs.CheckFirsts.{leftRecursive, noLeftRecursion, noClash, checkFirsts}
+use Rattle.productions.specs.Index.{Place, placesFrom, placesIn, productionsAt, Whole}
+use Rattle.productions.specs.Room.{Entry, noEntry, overwritten, placeFrom, isOf, firstPlaceIn, HoldsEntries}
+use Rattle.productions.proofs.RoomLaws.{first-place-in}
+use Rattle.kinds.specs.Kinds.{hasKind}
+use Rattle.kinds.proofs.KindsLaws.{has-none}
+use Rattle.clashes.specs.CheckFirsts.{leftRecursive, anyPair, noLeftRecursion, noClash, checkFirsts}
 use Rattle.firsts.specs.FirstSets.{openingOf, callOf, nullables, firstSets, leftCalls}
-use Rattle.clashes.specs.Pairs.{clashingIn, allSharedIn, noClashIn}
-use Rattle.firsts.specs.SetCalls.{BothSets}
+use Rattle.clashes.specs.Pairs.{linked, clashIn, PlacesBelow, clashingBelow, clashingIn, recursiveBelow, allSharedIn, noClashIn}
+use Rattle.firsts.specs.SetCalls.{OwnersBelow, BothSets}
 use Rattle.firsts.specs.Room.{entryAt, roomBy, WholeIndex}
-use Rattle.clashes.specs.CheckCalls.{Prepared}
-use Rattle.clashes.proofs.FillLaws.{length-entries}
+use Rattle.clashes.specs.CheckCalls.{OwnersSmall, BoundIndex, Prepared}
+use Rattle.clashes.proofs.FillLaws.{length-entries, owner-small}
 use Rattle.clashes.proofs.HeldPairs.{no-clash-is}
-use Rattle.firsts.proofs.StepLaws.{length-sets}
+use Rattle.clashes.proofs.PairsLaws.{lowest-within, lowest-beyond, linked-none}
+use Rattle.firsts.proofs.StepLaws.{length-sets, sets-below}
 use Rattle.grammar.specs.Limits.{most}
 
--- ------------------------------------------------------------------ the room
+-- ------------------------------------------------------------------ the sets
 
 -- there are 64 sets of each
 module _ {nulls : ℕ} {g : List Production} {kinds calls : List ℕ} (both-sets : BothSets nulls g kinds calls) where
@@ -43,11 +49,15 @@ module _ {nulls : ℕ} {g : List Production} {kinds calls : List ℕ} (both-sets
   pub calls-size : 64 ≡ length calls
   calls-size = sym (ap length (both-sets .calls-are) ∙ length-sets callOf nulls g)
 
+abbrev refusedIf : Bool → Refusal → Checked (Unit {0})
+refusedIf b r = elim b [ true ↦ bad r | false ↦ ok tt ]
+
 -- left recursion and the room, from what was computed
-pub prepared : (bs : List ℕ) (places : List Place) {room₀ room : List ℕ} {nulls : ℕ} {sets calls : List ℕ}
+pub prepared : (bs : List ℕ) (places : List Place) {below : ℕ} {room₀ room : List ℕ} {nulls : ℕ} {sets calls : List ℕ}
     → nulls ≡ nullables (productionsAt bs places) → BothSets nulls (productionsAt bs places) sets calls
-    → room ≡ overwritten (roomBy bs places nulls sets) room₀ → {nonterminal : ℕ} → nonterminal ≡ leftRecursive calls → Prepared bs places room₀ room nonterminal
-prepared bs places {room₀} {nulls = nulls} en e er el =
+    → room ≡ overwritten (roomBy bs places nulls sets) room₀ → {nonterminal : ℕ} → nonterminal ≡ recursiveBelow below calls
+    → Prepared below bs places room₀ room nonterminal
+prepared bs places {room₀ = room₀} {nulls = nulls} en e er el =
     record {
       recursive = el ∙ rw (e .calls-are, en) refl;
       held = er ∙ rw (e .kinds-are, en) refl;
@@ -60,76 +70,131 @@ near-entries nulls sets short each-none place = omega arith
 near-entries nulls sets short (each-more w ws) zero = omega (arith, w .inside)
 near-entries nulls sets short (each-more w ws) (suc place) = near-entries nulls sets short ws place
 
--- A room over what was there holds the entries of the grammar.
-pub holds-entries : {bs : List ℕ} {many : ℕ} {owners starts : List ℕ} → WholeIndex bs many owners starts → {room₀ room : List ℕ} {nonterminal : ℕ}
-    → (given-prepared : Prepared bs (placesIn many owners starts) room₀ room nonterminal)
-    → HoldsEntries (firstSets (nullables (productionsAt bs (placesIn many owners starts))) (productionsAt bs (placesIn many owners starts)))
-    (map
-    (entryAt bs (nullables (productionsAt bs (placesIn many owners starts)))
-    (firstSets (nullables (productionsAt bs (placesIn many owners starts))) (productionsAt bs (placesIn many owners starts))))
-    (placesIn many owners starts))
-    room
-holds-entries {bs} {many} {owners} {starts} w given-prepared =
-    let g : List Production = productionsAt bs (placesIn many owners starts) in
-    let f : Place → Entry = entryAt bs (nullables g) (firstSets (nullables g) g) in
-    record {
-      rest = _;
-      held = given-prepared .held;
-      few = omega (arith, w .few, length-entries f many owners starts);
-      near = near-entries _ _ (w .short) (w .whole);
-    }
+-- ------------------------------------------------------------------ the nonterminals that have productions
 
--- ------------------------------------------------------------------ verdicts
+-- the owners of an index are nonterminals
+pub owners-small : {bs : List ℕ} {many : ℕ} {owners starts : List ℕ} → WholeIndex bs many owners starts → OwnersSmall many owners
+owners-small w = record { few = w .few; each = owner-small w }
 
-abbrev refusedIf : Bool → Refusal → Checked (Unit {0})
-refusedIf b r = elim b [ true ↦ bad r | false ↦ ok tt ]
+-- those of the first `turn` productions lie below `below`
+pub record Bounding (many : ℕ) (owners : List ℕ) (below turn : ℕ) : Type 0 where
+  -- no more productions than there are
+  pub within : turn ≤ many
+  -- which is at most 64
+  pub small : below ≤ 64
+  -- each of them
+  pub so-far : (place : ℕ) → place < turn → getD owners place 0 < below
+
+-- of no production
+pub bounding-start : {many : ℕ} {owners : List ℕ} → Bounding many owners 0 0
+bounding-start = record { within = omega arith; small = omega arith; so-far = λ place l. absurd (omega arith) }
+
+module _ {many : ℕ} {owners : List ℕ} {below turn : ℕ} (owners-are : OwnersSmall many owners) (bounding : Bounding many owners below turn) (left : turn < many) where
+  next : (new : ℕ) → new ≤ 64 → below ≤ new → getD owners turn 0 < new → Bounding many owners new (turn + 1)
+  next new h l e =
+      record {
+        within = omega arith;
+        small = h;
+        so-far = λ place k. dite (ℕ-discrete place turn) (λ z. rw z e) (λ z. omega (arith, bounding .so-far place (omega arith)));
+      }
+
+  -- a higher one
+  pub bounding-higher : below ≤ getD owners turn 0 → Bounding many owners (getD owners turn 0 + 1) (turn + 1)
+  bounding-higher h = next (getD owners turn 0 + 1) (omega (arith, owners-are .each turn left)) (omega arith) (omega arith)
+
+  -- another
+  pub bounding-lower : getD owners turn 0 < below → Bounding many owners below (turn + 1)
+  bounding-lower h = next below (bounding .small) (omega arith) h
+
+-- of all
+pub bounding-end : {many : ℕ} {owners : List ℕ} {below turn : ℕ} → Bounding many owners below turn → many ≤ turn → OwnersBelow below many owners
+bounding-end b h = record { small = b .small; each = λ place l. b .so-far place (omega arith) }
+
+-- ------------------------------------------------------------------ the room
+
+module _ {bs : List ℕ} {below many : ℕ} {owners starts : List ℕ} (bound-index : BoundIndex below bs many owners starts) where
+  abbrev places : List Place
+  places = placesIn many owners starts
+
+  abbrev g : List Production
+  g = productionsAt bs places
+
+  abbrev entry : Place → Entry
+  entry = entryAt bs (nullables g) (firstSets (nullables g) g)
+
+  module _ {room₀ room : List ℕ} {nonterminal : ℕ} (given-prepared : Prepared below bs places room₀ room nonterminal) where
+    -- a room over what was there holds the entries of the grammar
+    holds-entries : HoldsEntries (firstSets (nullables g) g) (map entry places) room
+    holds-entries =
+        record {
+          rest = _;
+          held = given-prepared .held;
+          few = omega (arith, bound-index .index .few, length-entries entry many owners starts);
+          near = near-entries _ _ (bound-index .index .short) (bound-index .index .whole);
+        }
+
+    no-entry : (number : ℕ) → below ≤ number → (count from turn : ℕ) → from + count ≤ many
+        → placeFrom (isOf number) (map entry (placesFrom count owners starts from)) turn ≡ 256
+    unfolding placeFrom placesFrom
+    no-entry number h zero from turn l = refl
+    no-entry number h (suc count) from turn l =
+        let other : eqb (getD owners from 0) number ≡ false =
+        ne-eqb (getD owners from 0) number (λ e. omega (arith, bound-index .owned .each from (omega arith))) in
+        rw (other, placeFrom) (no-entry number h count (from + 1) (turn + 1) (omega arith))
+
+    -- a nonterminal without a production has no place in it
+    pub places-below : PlacesBelow below room
+    places-below =
+        record {
+          small = bound-index .owned .small;
+          none = λ n h l. first-place-in holds-entries n l ∙ no-entry n h many 0 0 (omega arith);
+        }
+
+    -- ---------------------------------------------------------------- verdicts
+
+    none-reached : (number : ℕ) → below ≤ number → number < 64 → hasKind (getD (leftCalls (nullables g) g) number 0) number ≡ false
+    none-reached number h l = rw (sets-below (bound-index .owned) callOf (nullables g) bs starts .none number h) (has-none number)
+
+    check-tests : (number : ℕ) → number ≡ leftRecursive (leftCalls (nullables g) g) → (test : Bool) → ltb number 64 ≡ test
+        → verdict (refusedIf test (refusal 12 number 0 0) >> noClash (nullables g) (firstSets (nullables g) g) g) ≡ verdict (checkFirsts g)
+    unfolding noLeftRecursion checkFirsts
+    check-tests number e test f = rw (← f, e) refl
+
+    -- a nonterminal that reaches itself is refused
+    pub check-recursive : nonterminal < below → {cause : Refusal} → cause ≡ refusal 12 nonterminal 0 0 → Refused cause ≡ verdict (checkFirsts g)
+    check-recursive h er =
+        ap Refused er
+        ∙ check-tests nonterminal (lowest-within (bound-index .owned .small) none-reached (given-prepared .recursive) h) true
+        (lt-ltb nonterminal 64 (omega (arith, bound-index .owned .small)))
+
+    -- where 12 is not given, the room decides 13
+    pub check-clashes : below ≤ nonterminal → verdict (noClashIn room) ≡ verdict (checkFirsts g)
+    check-clashes h =
+        ap verdict (no-clash-is bs (nullables g) places holds-entries)
+        ∙ check-tests 64 (lowest-beyond (bound-index .owned .small) none-reached (given-prepared .recursive) h) false (le-ltb 64 64 (omega arith))
 
 -- refusal 13 with the lowest of the kinds in a set
 abbrev clashOf : ℕ → ℕ → Refusal
 clashOf n s = refusal 13 n (trailingZeros 64 s) 0
 
 -- refusal 13 or none, by the lowest nonterminal with a clash
-module _ (room : List ℕ) {nonterminal : ℕ} (equal : nonterminal ≡ clashingIn room) where
-  clash-tests : (test : Bool) → ltb nonterminal 64 ≡ test → verdict (refusedIf test (clashOf nonterminal (allSharedIn room nonterminal)))
-      ≡ verdict (noClashIn room)
+module _ {room : List ℕ} {below nonterminal : ℕ} (places-are : PlacesBelow below room) (equal : nonterminal ≡ clashingBelow below room) where
+  none-clashes : (number : ℕ) → below ≤ number → number < 64 → anyPair (clashIn room) (linked room (firstPlaceIn room number)) ≡ false
+  unfolding anyPair
+  none-clashes number h l = rw (places-are .none number h l, linked-none room 256 (omega arith)) refl
+
+  clash-tests : (number : ℕ) → number ≡ clashingIn room → (test : Bool) → ltb number 64 ≡ test
+      → verdict (refusedIf test (clashOf number (allSharedIn room number))) ≡ verdict (noClashIn room)
   unfolding noClashIn
-  clash-tests test f =
-      rw (← f, equal) refl
+  clash-tests number e test f = rw (← f, e) refl
 
   -- a nonterminal with a clash is refused
-  pub clash-refused : nonterminal < 64 → {shared kind : ℕ} → shared ≡ allSharedIn room nonterminal → kind ≡ trailingZeros 64 shared → {cause : Refusal}
+  pub clash-refused : nonterminal < below → {shared kind : ℕ} → shared ≡ allSharedIn room nonterminal → kind ≡ trailingZeros 64 shared → {cause : Refusal}
       → cause ≡ refusal 13 nonterminal kind 0 → Refused cause ≡ verdict (noClashIn room)
   clash-refused h es ek er =
-      rw (er, ek, es) (clash-tests true (lt-ltb nonterminal 64 h))
+      rw (er, ek, es)
+      (clash-tests nonterminal (lowest-within (places-are .small) none-clashes equal h) true (lt-ltb nonterminal 64 (omega (arith, places-are .small))))
 
   -- without one the table passes
-  pub clash-passed : 64 ≤ nonterminal → Passed ≡ verdict (noClashIn room)
-  clash-passed h = clash-tests false (le-ltb nonterminal 64 h)
-
--- refusal 12, or what is said of clashes
-module _ (g : List Production) {nonterminal : ℕ} (equal : nonterminal ≡ leftRecursive (leftCalls (nullables g) g)) where
-  check-tests : (test : Bool) → ltb nonterminal 64 ≡ test
-      → verdict (refusedIf test (refusal 12 nonterminal 0 0) >> noClash (nullables g) (firstSets (nullables g) g) g) ≡ verdict (checkFirsts g)
-  unfolding noLeftRecursion checkFirsts
-  check-tests test f =
-      ap
-      (λ (x : Bool). verdict (refusedIf x (refusal 12 nonterminal 0 0) >> noClash (nullables g) (firstSets (nullables g) g) g))
-      (sym f)
-      ∙ ap
-      (λ (k : ℕ). verdict (refusedIf (ltb k 64) (refusal 12 k 0 0) >> noClash (nullables g) (firstSets (nullables g) g) g))
-      equal
-
-  -- a nonterminal that reaches itself is refused
-  pub check-recursive : nonterminal < 64 → {cause : Refusal} → cause ≡ refusal 12 nonterminal 0 0 → Refused cause ≡ verdict (checkFirsts g)
-  check-recursive h er = ap Refused er ∙ check-tests true (lt-ltb nonterminal 64 h)
-
-  check-other : 64 ≤ nonterminal → verdict (noClash (nullables g) (firstSets (nullables g) g) g) ≡ verdict (checkFirsts g)
-  check-other h = check-tests false (le-ltb nonterminal 64 h)
-
--- where 12 is not given, the room decides 13
-pub check-clashes : {bs : List ℕ} {many : ℕ} {owners starts : List ℕ} → WholeIndex bs many owners starts → {room₀ room : List ℕ} {nonterminal : ℕ}
-    → Prepared bs (placesIn many owners starts) room₀ room nonterminal → 64 ≤ nonterminal
-    → verdict (noClashIn room) ≡ verdict (checkFirsts (productionsAt bs (placesIn many owners starts)))
-check-clashes {bs} {many} {owners} {starts} w p h =
-    let g : List Production = productionsAt bs (placesIn many owners starts) in
-    ap verdict (no-clash-is bs (nullables g) (placesIn many owners starts) (holds-entries w p)) ∙ check-other g (p .recursive) h
+  pub clash-passed : below ≤ nonterminal → Passed ≡ verdict (noClashIn room)
+  clash-passed h = clash-tests 64 (lowest-beyond (places-are .small) none-clashes equal h) false (le-ltb 64 64 (omega arith))

@@ -2,8 +2,11 @@
 use Prim.Native.Nat.{ℕ, zero, suc, _+_, _-_, _<_, _≤_}
 use mathlib.Core.Path.{_≡_, refl, sym, ap, ap₂, _∙_}
 use mathlib.Core.Bool.{Bool, true, false, _&&_, _||_, false≢true, or-false, or-assoc}
-use mathlib.Core.Logic.{⊎-elim}
+use mathlib.Core.Logic.{⊎-elim, dite}
 use mathlib.Core.List.{List, [], _∷_, _++_, append-nil, nil≢cons}
+use native.Mathlib.Decide.{decLt}
+use native.Mathlib.Nat.{sub-zero}
+use native.Mathlib.Numerals.{add-one}
 use native.Mathlib.Omega.{arith}
 use lib.Bits.{bitAnd, bitOr, and-zero-l, or-zero-l, or-add-and, and-le-r}
 use lib.Dec.{ltb}
@@ -18,36 +21,63 @@ use Rattle.firsts.proofs.Rounds.{or-left, or-right, or-split}
 use Rattle.clashes.specs.declared.Seen.{Seen}
 use Rattle.clashes.specs.CheckFirsts.{lowest, anyWith, anyPair, joinPairs}
 use Rattle.clashes.specs.Pairs.{afterIn, linkedFrom, linked, sharedIn, clashIn, seenWith, clashSeen, otherFrom}
-use Rattle.clashes.proofs.Searches.{pairs-seen}
+use Rattle.clashes.proofs.Searches.{lowest-passes, lowest-skips, pairs-seen}
 
--- ------------------------------------------------------------------ the lowest of 64
+-- ------------------------------------------------------------------ the lowest number below a limit
 
 -- none below `lowest-number` passes
-pub record Lowest (test : ℕ → Bool) (lowest-number : ℕ) : Type 0 where
-  -- `lowest-number` is at most 64
-  pub small : lowest-number ≤ 64
+pub record Lowest (limit : ℕ) (test : ℕ → Bool) (lowest-number : ℕ) : Type 0 where
+  -- `lowest-number` is at most the limit
+  pub small : lowest-number ≤ limit
   -- the search from `lowest-number` on finds what the whole search finds
-  pub rest : lowest (64 - lowest-number) test lowest-number ≡ lowest 64 test 0
+  pub rest : lowest (limit - lowest-number) test lowest-number ≡ lowest limit test 0
 
-module _ {test : ℕ → Bool} {lowest-number : ℕ} (given-lowest : Lowest test lowest-number) where
+-- at the begin
+pub lowest-start : {limit : ℕ} {test : ℕ → Bool} → Lowest limit test 0
+lowest-start {limit} = record { small = omega arith; rest = rw (sub-zero limit) refl }
+
+module _ {limit : ℕ} {test : ℕ → Bool} {lowest-number : ℕ} (given-lowest : Lowest limit test lowest-number) where
   -- a number that does not pass is left behind
-  pub lowest-next : lowest-number < 64 → test lowest-number ≡ false → Lowest test (lowest-number + 1)
+  pub lowest-next : lowest-number < limit → test lowest-number ≡ false → Lowest limit test (lowest-number + 1)
   unfolding lowest
   lowest-next h e =
-      let z : 64 - lowest-number ≡ suc (64 - (lowest-number + 1)) = omega arith in
+      let z : limit - lowest-number ≡ suc (limit - (lowest-number + 1)) = omega arith in
       record { small = omega arith; rest = rw (z, e, lowest) at (given-lowest .rest) }
 
   -- one that passes is the lowest
-  pub lowest-stop : lowest-number < 64 → test lowest-number ≡ true → lowest-number ≡ lowest 64 test 0
+  pub lowest-stop : lowest-number < limit → test lowest-number ≡ true → lowest-number ≡ lowest limit test 0
   unfolding lowest
-  lowest-stop h e = let z : 64 - lowest-number ≡ suc (64 - (lowest-number + 1)) = omega arith in rw (z, e, lowest) at (given-lowest .rest)
+  lowest-stop h e = let z : limit - lowest-number ≡ suc (limit - (lowest-number + 1)) = omega arith in rw (z, e, lowest) at (given-lowest .rest)
 
   -- no number is left
-  pub lowest-end : 64 ≤ lowest-number → lowest-number ≡ lowest 64 test 0
+  pub lowest-end : limit ≤ lowest-number → lowest-number ≡ lowest limit test 0
   unfolding lowest
   lowest-end h =
-      let z : 64 - lowest-number ≡ 0 = omega arith in
+      let z : limit - lowest-number ≡ 0 = omega arith in
       rw z at (given-lowest .rest)
+
+-- the numbers below one do not pass
+lowest-from : (limit : ℕ) (test : ℕ → Bool) (number : ℕ) → number ≤ limit → ((lower : ℕ) → lower < number → test lower ≡ false) → Lowest limit test number
+lowest-from limit test zero h none = lowest-start
+lowest-from limit test (suc number) h none =
+    rw add-one at (lowest-next (lowest-from limit test number (omega arith) (λ k l. none k (omega arith))) (omega arith) (none number (omega arith)))
+
+-- where none from `many` on passes, those below decide
+module _ {limit many : ℕ} {test : ℕ → Bool} (few : many ≤ limit) (none : (number : ℕ) → many ≤ number → number < limit → test number ≡ false)
+    {number : ℕ} (found : number ≡ lowest many test 0) where
+  -- one of them passes
+  pub lowest-within : number < many → number ≡ lowest limit test 0
+  lowest-within h =
+      lowest-stop (lowest-from limit test number (omega arith) (λ k l. lowest-skips many test 0 k (omega arith) (omega arith))) (omega arith)
+      (rw found (lowest-passes many test 0 (omega arith)))
+
+  -- or none does
+  pub lowest-beyond : many ≤ number → limit ≡ lowest limit test 0
+  lowest-beyond h =
+      lowest-end
+      (lowest-from limit test limit (omega arith)
+      (λ k l. dite (decLt k many) (λ m. lowest-skips many test 0 k (omega arith) (omega arith)) (λ m. none k (omega arith) l)))
+      (omega arith)
 
 -- whether a nonterminal reaches itself
 pub reach-is : (nonterminal : ℕ) {reached reached-set : ℕ} → reached ≡ reached-set → {test : Bool} → test ≡ hasKind reached nonterminal

@@ -1,14 +1,17 @@
 -- The search for a clash by the links of a room: over the productions of each nonterminal, place by place. Where the room holds a grammar it is
 -- the search over the productions themselves. These mirror code: nobody needs them to believe `expand`.
-use Prim.Native.Nat.{ℕ, zero, suc, _-_}
+use Prim.Native.Nat.{ℕ, zero, suc, _-_, _<_, _≤_}
+use mathlib.Core.Path.{_≡_}
 use mathlib.Core.Bool.{Bool, true, false, _&&_, _||_}
 use mathlib.Core.List.{List, [], _∷_}
 use lib.Bits.{bitAnd, bitOr}
 use lib.Count.{trailingZeros}
 use lib.Dec.{ltb}
+use lib.ListN.{getD}
 use Rattle.answers.specs.Refusals.{refusal}
 use Rattle.answers.specs.Checked.{Checked, ok, bad}
 use Rattle.grammar.specs.Limits.{most}
+use Rattle.kinds.specs.Kinds.{hasKind}
 use Rattle.productions.specs.Room.{noPlace, firstPlaceIn, firstIn, nextPlaceIn, nullableIn}
 use Rattle.clashes.specs.declared.Seen.{Seen}
 use Rattle.clashes.specs.CheckFirsts.{lowest, anyPair, joinPairs}
@@ -45,9 +48,21 @@ clashSeen room seen i = ltb 0 (bitAnd (seen .kinds) (firstIn room i)) || (seen .
 abbrev pub otherFrom : List ℕ → ℕ → ℕ → Seen → ℕ
 otherFrom room start i seen = elim (clashSeen room seen i) [ true ↦ start | false ↦ i ]
 
--- the lowest nonterminal of which two productions clash, 64 if there is none
+-- the nonterminals from `many` on have no production
+pub record PlacesBelow (many : ℕ) (room : List ℕ) : Type 0 where
+  pub small : many ≤ most .nonterminals
+  pub none : (n : ℕ) → many ≤ n → n < most .nonterminals → firstPlaceIn room n ≡ noPlace
+
+-- the lowest nonterminal below `many` of which two productions clash, `many` if there is none
+abbrev pub clashingBelow : ℕ → List ℕ → ℕ
+clashingBelow many room = lowest many (λ n. anyPair (clashIn room) (linked room (firstPlaceIn room n))) 0
+
 abbrev pub clashingIn : List ℕ → ℕ
-clashingIn room = lowest (most .nonterminals) (λ n. anyPair (clashIn room) (linked room (firstPlaceIn room n))) 0
+clashingIn room = clashingBelow (most .nonterminals) room
+
+-- the lowest nonterminal below `many` that reaches itself by left calls, `many` if none does; `leftRecursive` is that of all 64
+abbrev pub recursiveBelow : ℕ → List ℕ → ℕ
+recursiveBelow many calls = lowest many (λ n. hasKind (getD calls n 0) n) 0
 
 -- what any two productions of n share, together
 abbrev pub allSharedIn : List ℕ → ℕ → ℕ

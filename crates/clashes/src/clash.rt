@@ -1,7 +1,6 @@
 // Left recursion and clashes: refusals 12 and 13. The clash search goes over the productions of each nonterminal, by the links of the room.
 use crate::Seen;
 use firsts::items::set_at;
-use grammar::limits::NONTERMINALS;
 use kinds::has;
 use kinds::join;
 use kinds::meet;
@@ -13,15 +12,14 @@ use productions::room::is_nullable;
 use productions::room::next_place;
 ghost use mathlib.Core.Path.{_≡_};
 ghost use Rattle.productions.specs.Room.{firstPlaceIn};
-ghost use Rattle.clashes.specs.CheckFirsts.{leftRecursive};
-ghost use Rattle.clashes.specs.Pairs.{afterIn, sharedIn, clashIn, clashSeen, seenWith, otherFrom, clashingIn, allSharedIn};
+ghost use Rattle.clashes.specs.Pairs.{afterIn, sharedIn, clashIn, clashSeen, seenWith, otherFrom, recursiveBelow, clashingBelow, allSharedIn};
 
-// The lowest nonterminal that reaches itself by left calls, 64 if none does.
-pub fn left_recursive(calls: &[u64]) -> u8
-    ensures { λ r. ⌜ r ≡ leftRecursive (now (calls .entry)) ⌝ }
+// The lowest nonterminal below `many` that reaches itself by left calls, `many` if none does.
+pub fn left_recursive(calls: &[u64], many: u8) -> u8
+    ensures { λ r. ⌜ r ≡ recursiveBelow many (now (calls .entry)) ⌝ }
 {
     let mut n: u8 = 0;
-    while n < NONTERMINALS {
+    while n < many {
         let reached = set_at(calls, n as usize);
         let found = has(reached, n);
         if found {
@@ -87,13 +85,13 @@ fn other_from(room: &[u64; ROOM], n: u8, i: usize, seen: Seen) -> usize
     if found { first_place(room, n) } else { i }
 }
 
-// The lowest nonterminal of which two productions clash, 64 if there is none: the search ends at the first clash. A production is held against
-// those before it only where it clashes with what they give together.
-pub fn clashing(room: &[u64; ROOM]) -> u8
-    ensures { λ r. ⌜ r ≡ clashingIn (now (room .entry)) ⌝ }
+// The lowest nonterminal below `many` of which two productions clash, `many` if there is none: the search ends at the first clash. A
+// production is held against those before it only where it clashes with what they give together.
+pub fn clashing(room: &[u64; ROOM], many: u8) -> u8
+    ensures { λ r. ⌜ r ≡ clashingBelow many (now (room .entry)) ⌝ }
 {
     let mut n: u8 = 0;
-    'search: while n < NONTERMINALS {
+    'search: while n < many {
         let mut seen = Seen {
             kinds: 0,
             nullable: false,

@@ -11,7 +11,6 @@ use firsts::nullable::nullables;
 use firsts::sets::sets_of;
 use grammar::limits::EACH_ALTERNATIVE;
 use grammar::limits::EACH_NONTERMINAL;
-use grammar::limits::NONTERMINALS;
 use kinds::lowest;
 use productions::index::offset;
 use productions::room::ROOM;
@@ -20,9 +19,10 @@ use productions::room::lay;
 ghost use mathlib.Core.Path.{_≡_};
 ghost use Rattle.answers.specs.Checked.{verdict};
 ghost use Rattle.productions.specs.Index.{placesIn};
-ghost use Rattle.clashes.specs.Pairs.{noClashIn};
+ghost use Rattle.clashes.specs.Pairs.{PlacesBelow, noClashIn};
+ghost use Rattle.firsts.specs.SetCalls.{OwnersBelow};
 ghost use Rattle.firsts.specs.Room.{WholeIndex};
-ghost use Rattle.clashes.specs.CheckCalls.{roomFilled, FillRoom, Prepared, FirstsChecked};
+ghost use Rattle.clashes.specs.CheckCalls.{roomFilled, FillRoom, OwnersSmall, BoundIndex, Prepared, FirstsChecked};
 
 // Writes the room of a grammar with these nullable nonterminals and first sets. The productions are laid from the last to the first, so
 // that each finds the next one of its nonterminal.
@@ -50,31 +50,53 @@ fn fill(
     }
 }
 
-// The lowest nonterminal that is left recursive, 64 if there is none, with what an expansion needs of a grammar in the room.
+// One more than the highest nonterminal that has a production.
+fn bound(owners: &[u8; EACH_ALTERNATIVE], m: usize) -> u8
+    requires { ⌜ OwnersSmall m (now owners) ⌝ }
+    ensures { λ r. ⌜ OwnersBelow r m (now (owners .entry)) ⌝ }
+{
+    let mut many: u8 = 0;
+    let mut j: usize = 0;
+    while j < m {
+        let owner = owners[j];
+        if many <= owner {
+            many = owner + 1;
+            j += 1;
+        } else {
+            j += 1;
+        }
+    }
+    many
+}
+
+// The lowest nonterminal that is left recursive, `many` if there is none, with what an expansion needs of a grammar in the room; only
+// nonterminals below `many` have productions.
 fn prepare(
     table: &[u8],
     owners: &[u8; EACH_ALTERNATIVE],
     starts: &[u16; EACH_ALTERNATIVE],
     m: usize,
+    many: u8,
     room: &mut [u64; ROOM],
 ) -> u8
-    requires { ⌜ WholeIndex (now table) m (now owners) (now starts) ⌝ }
-    ensures { λ r. ⌜ Prepared (now (table .entry)) (placesIn m (now (owners .entry)) (now (starts .entry))) (now (room .entry)) (now (room .exit)) r ⌝ }
+    requires { ⌜ BoundIndex many (now table) m (now owners) (now starts) ⌝ }
+    ensures { λ r. ⌜ Prepared many (now (table .entry)) (placesIn m (now (owners .entry)) (now (starts .entry))) (now (room .entry)) (now (room .exit)) r ⌝ }
 {
     let nulls = nullables(table, owners, starts, m);
     let mut sets = [0u64; EACH_NONTERMINAL];
     let mut calls = [0u64; EACH_NONTERMINAL];
-    sets_of(table, owners, starts, m, nulls, &mut sets, &mut calls);
+    sets_of(table, owners, starts, m, many, nulls, &mut sets, &mut calls);
     fill(table, owners, starts, m, nulls, &sets, room);
-    left_recursive(&calls)
+    left_recursive(&calls, many)
 }
 
 // Whether two productions of one nonterminal clash: refusal 13.
-fn check_clash(room: &[u64; ROOM]) -> Verdict
+fn check_clash(room: &[u64; ROOM], many: u8) -> Verdict
+    requires { ⌜ PlacesBelow many (now room) ⌝ }
     ensures { λ r. ⌜ r ≡ verdict (noClashIn (now (room .entry))) ⌝ }
 {
-    let n = clashing(room);
-    if n < NONTERMINALS {
+    let n = clashing(room, many);
+    if n < many {
         let kinds = shared(room, n);
         Verdict::Refused(refuse(AMBIGUOUS, n as u64, lowest(kinds) as u64, 0))
     } else {
@@ -94,10 +116,11 @@ pub fn check_firsts(
     requires { ⌜ WholeIndex (now table) m (now owners) (now starts) ⌝ }
     ensures { λ r. ⌜ FirstsChecked (now (table .entry)) (placesIn m (now (owners .entry)) (now (starts .entry))) (now (room .entry)) (now (room .exit)) r ⌝ }
 {
-    let n = prepare(table, owners, starts, m, room);
-    if n < NONTERMINALS {
+    let many = bound(owners, m);
+    let n = prepare(table, owners, starts, m, many, room);
+    if n < many {
         Verdict::Refused(refuse(LEFT_RECURSION, n as u64, 0, 0))
     } else {
-        check_clash(room)
+        check_clash(room, many)
     }
 }

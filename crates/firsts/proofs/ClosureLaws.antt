@@ -1,18 +1,20 @@
 -- Laws of the closure: sets whose first numbers are replaced, and one callee more.
-use Prim.Native.Nat.{ℕ, _+_, _-_, _<_, _≤_}
+use Prim.Native.Nat.{ℕ, zero, suc, _+_, _<_, _≤_}
 use mathlib.Core.Path.{_≡_, refl, sym, _∙_}
 use mathlib.Core.Bool.{Bool, true, false, _&&_, _||_, false≢true, and-eq-true-iff, or-false}
-use mathlib.Core.Logic.{_⊎_, inl, inr, ⊎-elim}
+use mathlib.Core.Logic.{_⊎_, inl, inr, ⊎-elim, dite}
 use mathlib.Core.List.{List}
 use native.Mathlib.Decide.{decLt, ℕ-discrete}
+use native.Mathlib.Numerals.{add-one}
 use native.Mathlib.Omega.{arith}
+use lib.Bits.{bitOr}
 use lib.Dec.{ltb}
-use lib.ListN.{length, getD, set, length-set, List·getD-eq-default}
+use lib.ListN.{length, getD, set, length-set}
 use lib.Seq.{getD-set-same, getD-set-other}
 use borrow.Author.Tests.{lt-ltb, ltb-true}
 use Rattle.kinds.specs.Kinds.{hasKind}
 use Rattle.kinds.proofs.KindsLaws.{has-none, has-join}
-use Rattle.firsts.specs.SetCalls.{inSetOf, SetsLent, UsedBelow, Above, StepLent, joinedIf, withCallee, CalleeJoined, CalleeTaken, ClosedBelow, ClosedBoth}
+use Rattle.firsts.specs.SetCalls.{inSetOf, StepLent, unionOf, Closable, joinedIf, withCallee, CalleeJoined, CalleeTaken, ClosedBelow, ClosedBoth}
 use Rattle.firsts.proofs.Rounds.{or-left, or-right, or-split}
 
 -- ------------------------------------------------------------------ one callee, nonterminal by nonterminal
@@ -189,21 +191,59 @@ module _ {many callee : ℕ} {calls sets sets′ : List ℕ} (callee-joined : Ca
 pub both-start : (calls kinds : List ℕ) → ClosedBoth 0 calls kinds calls kinds
 both-start calls kinds = record { calls-closed = closed-start calls calls; kinds-closed = closed-start calls kinds }
 
-module _ {callers : ℕ} {calls₀ kinds₀ : List ℕ} (used-below : UsedBelow callers calls₀) {callee : ℕ} {calls kinds : List ℕ}
+-- none of the first sets has what their union has not
+union-covers : (count : ℕ) (sets : List ℕ) (caller kind : ℕ) → caller < count → inSetOf sets caller kind ≡ true → hasKind (unionOf count sets) kind ≡ true
+unfolding unionOf
+union-covers zero sets caller kind l e = absurd (omega arith)
+union-covers (suc count) sets caller kind l e =
+    has-join (unionOf count sets) (getD sets count 0) kind
+    ∙ dite (ℕ-discrete caller count) (λ z. or-right (hasKind (unionOf count sets) kind) (rw z at e))
+    (λ z. or-left _ (union-covers count sets caller kind (omega arith) e))
+
+-- the first `count` of `many` sets are joined
+pub record Uniting (sets : List ℕ) (many all count : ℕ) : Type 0 where
+  -- no more than there are
+  pub within : count ≤ many
+  -- what they have together
+  pub so-far : all ≡ unionOf count sets
+
+-- none at first
+pub uniting-start : {sets : List ℕ} {many : ℕ} → Uniting sets many 0 0
+unfolding unionOf
+uniting-start = record { within = omega arith; so-far = refl }
+
+module _ {sets : List ℕ} {many all count : ℕ} (uniting : Uniting sets many all count) where
+  -- one set more
+  pub uniting-next : count < many → {more : ℕ} → more ≡ bitOr all (getD sets count 0) → Uniting sets many more (count + 1)
+  unfolding unionOf
+  uniting-next h e = record { within = omega arith; so-far = cc (uniting .so-far, add-one count) }
+
+  -- all of them
+  pub uniting-end : many ≤ count → all ≡ unionOf many sets
+  uniting-end h = let z : count ≡ many = omega (arith, uniting .within) in rw z at (uniting .so-far)
+
+module _ {many : ℕ} {calls₀ kinds₀ : List ℕ} (closable : Closable many calls₀ kinds₀) {callee : ℕ} {calls kinds : List ℕ}
     (closed-both : ClosedBoth callee calls₀ kinds₀ calls kinds) where
   -- the arrays stay as long as they were
-  pub both-lent : SetsLent calls₀ kinds₀ → StepLent callers calls kinds
-  both-lent l =
+  pub both-lent : StepLent many calls kinds
+  both-lent =
       record {
-        lent = record { calls-many = closed-both .calls-closed .as-many ∙ l .calls-many; kinds-many = closed-both .kinds-closed .as-many ∙ l .kinds-many };
-        small = used-below .small;
+        lent =
+            record {
+              calls-many = closed-both .calls-closed .as-many ∙ closable .lent .calls-many;
+              kinds-many = closed-both .kinds-closed .as-many ∙ closable .lent .kinds-many;
+            };
+        small = closable .calls-below .small;
       }
 
+  -- only nonterminals below `many` call
+  callers : (caller kind : ℕ) → inSetOf calls caller kind ≡ true → caller < many
+  callers caller kind e = no-set (closed-both .calls-closed) (closable .calls-below .none) (closable .calls-below .none) caller kind e
+
   -- one callee more
-  pub both-next : {calls′ kinds′ : List ℕ} → CalleeTaken callee callers calls kinds calls′ kinds′ → ClosedBoth (callee + 1) calls₀ kinds₀ calls′ kinds′
+  pub both-next : {calls′ kinds′ : List ℕ} → CalleeTaken callee many calls kinds calls′ kinds′ → ClosedBoth (callee + 1) calls₀ kinds₀ calls′ kinds′
   both-next {calls′} {kinds′} t =
-      let none : (n : ℕ) → inSetOf calls n callee ≡ true → n < callers = λ n e. no-set (closed-both .calls-closed) (used-below .none)
-      (used-below .none) n callee e in
+      let none : (n : ℕ) → inSetOf calls n callee ≡ true → n < many = λ n e. callers n callee e in
       let a = t .calls-joined in
       let x = t .kinds-joined in
       record {
@@ -215,16 +255,42 @@ module _ {callers : ℕ} {calls₀ kinds₀ : List ℕ} (used-below : UsedBelow 
             (closed-both .kinds-closed) (x .as-many);
       }
 
+  -- who is called in the closure is called at first
+  called-first : (caller between : ℕ) → inSetOf calls caller between ≡ true → hasKind (unionOf many calls₀) between ≡ true
+  called-first =
+      closed-both .calls-closed .least (λ i j. hasKind (unionOf many calls₀) j) (λ i j. hasKind (unionOf many calls₀) j) at-first at-first (λ i j k p q. q)
+      (λ i j k p q. q)
+    where
+      at-first : (caller between : ℕ) → inSetOf calls₀ caller between ≡ true → hasKind (unionOf many calls₀) between ≡ true
+      at-first caller between e =
+          union-covers many calls₀ caller between
+          (no-set (closed-start calls₀ calls₀) (closable .calls-below .none) (closable .calls-below .none) caller between e) e
+
+  -- a callee that nobody calls gives nothing
+  pub both-skip : {called : ℕ} {test : Bool} → called ≡ unionOf many calls₀ → test ≡ hasKind called callee → test ≡ false
+      → ClosedBoth (callee + 1) calls₀ kinds₀ calls kinds
+  both-skip e f z = record { calls-closed = skip (closed-both .calls-closed); kinds-closed = skip (closed-both .kinds-closed) }
+    where
+      skip : {sets₀ sets : List ℕ} → ClosedBelow callee calls₀ sets₀ calls sets → ClosedBelow (callee + 1) calls₀ sets₀ calls sets
+      skip d =
+          record {
+            as-many = d .as-many;
+            kept = d .kept;
+            through =
+                λ n k b l p q.
+                dite (ℕ-discrete k callee) (λ y. absurd (false≢true (cc (called-first n k p)))) (λ y. d .through n k b (omega arith) p q);
+            least = d .least;
+          }
+
   -- the other callees give nothing
-  pub both-end : {givers : ℕ} → UsedBelow givers kinds₀ → {many : ℕ} → Above callers givers many → many ≤ callee
-      → ClosedBoth 64 calls₀ kinds₀ calls kinds
-  both-end v l h =
+  pub both-end : many ≤ callee → ClosedBoth 64 calls₀ kinds₀ calls kinds
+  both-end h =
       record {
-        calls-closed = whole (closed-both .calls-closed) (λ n g. used-below .none n (omega (arith, l .first)));
-        kinds-closed = whole (closed-both .kinds-closed) (λ n g. v .none n (omega (arith, l .second)));
+        calls-closed = whole (closed-both .calls-closed) (closable .calls-below .none);
+        kinds-closed = whole (closed-both .kinds-closed) (closable .kinds-below .none);
       }
     where
-      whole : {sets₀ sets : List ℕ} → ClosedBelow callee calls₀ sets₀ calls sets → ((caller : ℕ) → callee ≤ caller → getD sets₀ caller 0 ≡ 0)
+      whole : {sets₀ sets : List ℕ} → ClosedBelow callee calls₀ sets₀ calls sets → ((caller : ℕ) → many ≤ caller → getD sets₀ caller 0 ≡ 0)
           → ClosedBelow 64 calls₀ sets₀ calls sets
       whole d none =
           record {
@@ -232,24 +298,6 @@ module _ {callers : ℕ} {calls₀ kinds₀ : List ℕ} (used-below : UsedBelow 
             kept = d .kept;
             through =
                 λ n j b m e f.
-                d .through n j b (no-set {many = callee} d (λ i g. used-below .none i (omega (arith, l .first))) none j b f) e f;
+                d .through n j b (let l : j < many = no-set d (closable .calls-below .none) none j b f in omega arith) e f;
             least = d .least;
           }
-
--- ------------------------------------------------------------------ the sets that are not empty
-
--- there are no more than 64 sets
-pub used-start : (sets : List ℕ) → length sets ≡ 64 → UsedBelow 64 sets
-used-start sets e = record { small = omega arith; none = λ n h. List·getD-eq-default {A = ℕ} sets 0 {n = n} (omega arith) }
-
--- a nonterminal with an empty set is not used
-pub used-next : {sets : List ℕ} {below-it : ℕ} → UsedBelow below-it sets → 0 < below-it → getD sets (below-it - 1) 0 ≤ 0 → UsedBelow (below-it - 1) sets
-used-next {sets} {below-it} u h e = record { small = omega (arith, u .small); none = λ i l. by i l (ℕ-discrete i (below-it - 1)) }
-  where
-    by : (place : ℕ) → below-it - 1 ≤ place → Dec (place ≡ below-it - 1) → getD sets place 0 ≡ 0
-    by place l (yes z) = rw z (let y : getD sets (below-it - 1) 0 ≡ 0 = omega arith in y)
-    by place l (no z) = u .none place (omega arith)
-
--- or none is used
-pub used-end : {sets : List ℕ} {below-it : ℕ} → UsedBelow below-it sets → below-it ≤ 0 → UsedBelow 0 sets
-used-end {below-it = below-it} u h = let z : below-it ≡ 0 = omega arith in rw z at u

@@ -2,16 +2,19 @@
 use Prim.Native.Nat.{ℕ, zero, suc, _+_, _-_, _<_, _≤_}
 use mathlib.Core.Path.{_≡_, refl, sym, ap, _∙_}
 use mathlib.Core.List.{List, [], _∷_}
+use mathlib.Core.Logic.{dite}
+use native.Mathlib.Decide.{decLt}
 use native.Mathlib.Nat.{sub-zero}
+use native.Mathlib.Omega.{arith}
 use lib.Bits.{bitOr}
-use lib.ListN.{length, getD, set, replicate, length-set, length-replicate}
-use lib.Seq.{set-out}
+use lib.ListN.{length, getD, set, replicate, length-set, length-replicate, getD-replicate, List·getD-eq-default}
+use lib.Seq.{set-out, getD-set-other}
 use Rattle.grammar.specs.Table.{Item}
 use Rattle.grammar.specs.Lookup.{fieldsAt}
 use Rattle.productions.specs.Normal.{Production}
 use Rattle.firsts.specs.FirstSets.{rounds, overAll, openingOf, callOf, firstStep, setsOf}
 use Rattle.firsts.specs.declared.Gathered.{Gathered}
-use Rattle.firsts.specs.SetCalls.{gathered, StepTaken, RoundTaken, SetsLent}
+use Rattle.firsts.specs.SetCalls.{gathered, StepTaken, RoundTaken, UsedBelow, OwnersBelow, Closable}
 use Rattle.productions.specs.Index.{itemsOf, Place, productionAt, productionsAt, placesFrom, productionsBy}
 use Rattle.productions.proofs.IndexLaws.{places-next, places-none}
 
@@ -123,10 +126,57 @@ module _ {nulls : ℕ} {bs owners starts : List ℕ} {many : ℕ} {kinds₀ call
   pub joining-end : many ≤ turn → RoundTaken nulls (productionsBy many bs owners starts) kinds₀ calls₀ kinds calls
   joining-end h = record { kinds-are = over-end (joining .kinds-over) h; calls-are = over-end (joining .calls-over) h }
 
+-- ------------------------------------------------------------------ nonterminals without productions
+
+empty-at : (place : ℕ) → getD {A = ℕ} (replicate 64 0) place 0 ≡ 0
+empty-at place =
+    dite (decLt place 64) (λ l. getD-replicate 64 place 0 0 l)
+    (λ l. List·getD-eq-default {A = ℕ} (replicate 64 0) 0 {n = place} (omega (arith, length-replicate {A = ℕ} 64 0)))
+
+-- a production of a nonterminal below `below` gives to no other
+step-below : (own : Item → ℕ) (nulls : ℕ) {below : ℕ} (p : Production) (sets : List ℕ) → p .nonterminal < below → UsedBelow below sets
+    → UsedBelow below (firstStep own nulls p sets)
+unfolding firstStep
+step-below own nulls p sets h u =
+    record { small = u .small; none = λ n l. getD-set-other sets (p .nonterminal) n _ 0 (λ e. omega arith) ∙ u .none n l }
+
+module _ {below many : ℕ} {owners : List ℕ} (owners-below : OwnersBelow below many owners) (own : Item → ℕ) (nulls : ℕ) (bs starts : List ℕ) where
+  over-below : (count from : ℕ) → from + count ≤ many → (sets : List ℕ) → UsedBelow below sets
+      → UsedBelow below (overAll (firstStep own nulls) (productionsAt bs (placesFrom count owners starts from)) sets)
+  unfolding overAll placesFrom productionAt
+  over-below zero from h sets u = u
+  over-below (suc count) from h sets u =
+      over-below count (from + 1) (omega arith) _ (step-below own nulls _ sets (owners-below .each from (omega arith)) u)
+
+  abbrev round : List ℕ → List ℕ
+  round sets = overAll (firstStep own nulls) (productionsBy many bs owners starts) sets
+
+  rounds-below : (times : ℕ) (sets : List ℕ) → UsedBelow below sets → UsedBelow below (rounds times round sets)
+  unfolding rounds
+  rounds-below zero sets u = u
+  rounds-below (suc times) sets u = rounds-below times (round sets) (over-below many 0 (omega arith) sets u)
+
+  empty-below : UsedBelow below (replicate 64 0)
+  empty-below = record { small = owners-below .small; none = λ n l. empty-at n }
+
+  -- no round gives to a nonterminal that has no production
+  pub round-below : UsedBelow below (round (replicate 64 0))
+  round-below = over-below many 0 (omega arith) (replicate 64 0) empty-below
+
+  -- nor do all
+  pub sets-below : UsedBelow below (setsOf own nulls (productionsBy many bs owners starts))
+  unfolding setsOf
+  sets-below = rounds-below 64 (replicate 64 0) empty-below
+
 -- the sets of one round from empty ones
-pub round-lent : {nulls : ℕ} {g : List Production} {kinds calls : List ℕ} → RoundTaken nulls g (replicate 64 0) (replicate 64 0) kinds calls
-    → SetsLent calls kinds
-round-lent {nulls} {g} r =
-    let many : (own : Item → ℕ) → length (overAll (firstStep own nulls) g (replicate 64 0)) ≡ 64 =
+pub round-closable : {nulls : ℕ} (bs starts : List ℕ) {owners : List ℕ} {below many : ℕ} → OwnersBelow below many owners → {kinds calls : List ℕ}
+    → RoundTaken nulls (productionsBy many bs owners starts) (replicate 64 0) (replicate 64 0) kinds calls → Closable below calls kinds
+round-closable {nulls} bs starts {owners} {below} {many} o r =
+    let g : List Production = productionsBy many bs owners starts in
+    let size : (own : Item → ℕ) → length (overAll (firstStep own nulls) g (replicate 64 0)) ≡ 64 =
     λ own. length-over own nulls g (replicate 64 0) ∙ length-replicate {A = ℕ} 64 0 in
-    record { calls-many = ap length (r .calls-are) ∙ many callOf; kinds-many = ap length (r .kinds-are) ∙ many openingOf }
+    record {
+      lent = record { calls-many = ap length (r .calls-are) ∙ size callOf; kinds-many = ap length (r .kinds-are) ∙ size openingOf };
+      calls-below = rw (r .calls-are) (round-below o callOf nulls bs starts);
+      kinds-below = rw (r .kinds-are) (round-below o openingOf nulls bs starts);
+    }

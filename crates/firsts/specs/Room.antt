@@ -2,7 +2,7 @@
 -- nobody needs it to believe `expand`.
 use Prim.Native.Nat.{ℕ, _≤_}
 use mathlib.Core.Path.{_≡_}
-use mathlib.Core.Bool.{true, false}
+use mathlib.Core.Bool.{true}
 use mathlib.Core.List.{List, _++_, map}
 use lib.ListN.{length}
 use Rattle.grammar.specs.Limits.{most}

@@ -2,7 +2,7 @@
 --
 -- First sets and left calls come from one round over the productions and a closure of what it found: nonterminals are taken one by one as
 -- callees, and what a callee gives is joined to what each caller gives. After all of them the sets are those that rounds would settle.
-use Prim.Native.Nat.{ℕ, _<_, _≤_}
+use Prim.Native.Nat.{ℕ, zero, suc, _<_, _≤_}
 use mathlib.Core.Path.{_≡_}
 use mathlib.Core.Bool.{Bool, true, false}
 use mathlib.Core.List.{List}
@@ -57,10 +57,21 @@ pub record UsedBelow (many : ℕ) (sets : List ℕ) : Type 0 where
   pub small : many ≤ most .nonterminals
   pub none : (n : ℕ) → many ≤ n → getD sets n 0 ≡ 0
 
--- a number that is neither below a nor below b
-pub record Above (a b r : ℕ) : Type 0 where
-  pub first : a ≤ r
-  pub second : b ≤ r
+-- what the first n sets have together
+unfoldable pub unionOf : ℕ → List ℕ → ℕ
+unionOf zero sets = 0
+unionOf (suc n) sets = bitOr (unionOf n sets) (getD sets n 0)
+
+-- the first m productions of an index are of nonterminals below `many`
+pub record OwnersBelow (many m : ℕ) (owners : List ℕ) : Type 0 where
+  pub small : many ≤ most .nonterminals
+  pub each : (j : ℕ) → j < m → getD owners j 0 < many
+
+-- two arrays of sets, empty from `many` on
+pub record Closable (many : ℕ) (calls kinds : List ℕ) : Type 0 where
+  pub lent : SetsLent calls kinds
+  pub calls-below : UsedBelow many calls
+  pub kinds-below : UsedBelow many kinds
 
 -- two arrays of sets, for the next callee
 pub record StepLent (many : ℕ) (calls kinds : List ℕ) : Type 0 where

@@ -4,17 +4,17 @@
 use super::items::gather;
 use super::items::set_at;
 use grammar::limits::EACH_NONTERMINAL;
-use grammar::limits::NONTERMINALS;
 use grammar::reader::byte;
 use kinds::has;
 use kinds::join;
 use productions::index::offset;
+ghost use Prim.Native.Nat.{_≤_};
 ghost use mathlib.Core.Path.{_≡_};
 ghost use lib.Bits.{bitOr};
 ghost use lib.ListN.{length, getD, set};
 ghost use Rattle.grammar.specs.Limits.{most};
 ghost use Rattle.kinds.specs.Kinds.{hasKind};
-ghost use Rattle.firsts.specs.SetCalls.{StepTaken, RoundTaken, BothSets, joinedIf, SetsLent, StepLent, UsedBelow, Above, CalleeTaken, ClosedBoth};
+ghost use Rattle.firsts.specs.SetCalls.{StepTaken, RoundTaken, BothSets, joinedIf, StepLent, unionOf, OwnersBelow, Closable, CalleeTaken, ClosedBoth};
 ghost use Rattle.productions.specs.Index.{productionAt, productionsBy};
 
 // Joins what was found to the set of nonterminal n.
@@ -93,60 +93,57 @@ fn take_callee(calls: &mut [u64], kinds: &mut [u64], many: u8, k: u8)
     }
 }
 
-// One more than the highest nonterminal with a set that is not empty.
-fn used(sets: &[u64]) -> u8
-    requires { ⌜ length (now sets) ≡ most .nonterminals ⌝ }
-    ensures { λ r. ⌜ UsedBelow r (now (sets .entry)) ⌝ }
+// The nonterminals that those below `many` call.
+fn callees(calls: &[u64], many: u8) -> u64
+    requires { ⌜ many ≤ length (now calls) ⌝ }
+    ensures { λ r. ⌜ r ≡ unionOf many (now (calls .entry)) ⌝ }
 {
-    let mut n: u8 = NONTERMINALS;
-    while 0 < n {
-        let i = (n - 1) as usize;
-        let set = sets[i];
-        if 0 < set {
-            return n;
-        }
-        n -= 1;
+    let mut all: u64 = 0;
+    let mut n: u8 = 0;
+    while n < many {
+        let set = calls[n as usize];
+        all = join(all, set);
+        n += 1;
     }
-    0
+    all
 }
 
-// The larger of two numbers.
-fn larger(a: u8, b: u8) -> u8
-    ensures { λ r. ⌜ Above a b r ⌝ }
-{
-    if a < b { b } else { a }
-}
-
-// Closes the calls over themselves, and the kinds over the calls. This rules out that a callee's callee is lost.
-fn close(calls: &mut [u64], kinds: &mut [u64])
-    requires { ⌜ SetsLent (now calls) (now kinds) ⌝ }
+// Closes the calls over themselves, and the kinds over the calls; only nonterminals below `many` have any. A nonterminal that nobody calls
+// gives nothing to others. This rules out that a callee's callee is lost.
+fn close(calls: &mut [u64], kinds: &mut [u64], many: u8)
+    requires { ⌜ Closable many (now calls) (now kinds) ⌝ }
     ensures { λ r. ⌜ ClosedBoth (most .nonterminals) (now (calls .entry)) (now (kinds .entry)) (now (calls .exit)) (now (kinds .exit)) ⌝ }
 {
-    let callers = used(calls);
-    let givers = used(kinds);
-    let many = larger(callers, givers);
+    let called = callees(calls, many);
     let mut k: u8 = 0;
     while k < many {
-        take_callee(calls, kinds, callers, k);
-        k += 1;
+        let taken = has(called, k);
+        if taken {
+            take_callee(calls, kinds, many, k);
+            k += 1;
+        } else {
+            k += 1;
+        }
     }
 }
 
-// The sets of all nonterminals. This rules out that what stands behind a nullable item is lost, and that a set still grows at the end.
+// The sets of all nonterminals, of which only those below `many` have productions. This rules out that what stands behind a nullable item is lost, and that a set still grows at the end.
 pub fn sets_of(
     table: &[u8],
     owners: &[u8],
     starts: &[u16],
     m: usize,
+    many: u8,
     nulls: u64,
     kinds: &mut [u64; EACH_NONTERMINAL],
     calls: &mut [u64; EACH_NONTERMINAL],
 )
+    requires { ⌜ OwnersBelow many m (now owners) ⌝ }
     ensures { λ r. ⌜ BothSets nulls (productionsBy m (now (table .entry)) (now (owners .entry)) (now (starts .entry)))
         (now (kinds .exit)) (now (calls .exit)) ⌝ }
 {
     *kinds = [0u64; EACH_NONTERMINAL];
     *calls = [0u64; EACH_NONTERMINAL];
     first_round(table, owners, starts, m, nulls, kinds, calls);
-    close(calls, kinds);
+    close(calls, kinds, many);
 }

@@ -1,6 +1,5 @@
 -- `clashing`: no lower nonterminal has a clash, and the pairs that are left decide.
 use Prim.Native.Nat.{_-_}
-use mathlib.Core.Path.{refl}
 use Rattle.productions.specs.Room.{firstPlaceIn}
 use Rattle.clashes.specs.CheckFirsts.{anyPair}
 use Rattle.clashes.specs.Pairs.{linked, clashIn}
@@ -10,25 +9,25 @@ use Rattle.clashes.proofs.clash.clashing.Statement.{statement}
 use Rattle.clashes.proofs.clash.clashing.Tie as tie
 
 abbrev Inv-loop2 : tie.InvT-loop2
-Inv-loop2 room n seen i j₀ j = laws.Column room (firstPlaceIn room n) seen i j
+Inv-loop2 room many n seen i j₀ j = laws.Column room (firstPlaceIn room n) seen i j
 
 abbrev μ-loop2 : tie.MeasureT-loop2
-μ-loop2 room n seen i j₀ j = 256 - j
+μ-loop2 room many n seen i j₀ j = 256 - j
 
 abbrev Inv-loop : tie.InvT-loop
-Inv-loop room n seen₀ i₀ seen i = laws.Row room (firstPlaceIn room n) seen i
+Inv-loop room many n seen₀ i₀ seen i = laws.Row room (firstPlaceIn room n) seen i
 
 abbrev μ-loop : tie.MeasureT-loop
-μ-loop room n seen₀ i₀ seen i = 256 - i
+μ-loop room many n seen₀ i₀ seen i = 256 - i
 
 abbrev Inv-search : tie.InvT-search
-Inv-search room n₀ n = laws.Lowest (λ k. anyPair (clashIn room) (linked room (firstPlaceIn room k))) n
+Inv-search room many n₀ n = laws.Lowest many (λ k. anyPair (clashIn room) (linked room (firstPlaceIn room k))) n
 
 abbrev μ-search : tie.MeasureT-search
-μ-search room n₀ n = 64 - n
+μ-search room many n₀ n = many - n
 
 search-holds : tie.Need-search-holds Inv-loop2 μ-loop2 Inv-loop μ-loop Inv-search μ-search
-search-holds c = record { small = search needs; rest = refl }
+search-holds c = laws.lowest-start
 
 first-place-requires :
     tie.Need-first-place-requires Inv-loop2 μ-loop2 Inv-loop μ-loop Inv-search μ-search

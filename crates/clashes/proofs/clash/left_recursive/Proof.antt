@@ -1,6 +1,6 @@
 -- `left_recursive`: no lower nonterminal reaches itself.
 use Prim.Native.Nat.{_-_}
-use mathlib.Core.Path.{_∙_, refl}
+use mathlib.Core.Path.{_∙_}
 use lib.ListN.{getD}
 use borrow.Author.Needs.{needs}
 use Rattle.kinds.specs.Kinds.{hasKind}
@@ -9,13 +9,13 @@ use Rattle.clashes.proofs.clash.left_recursive.Statement.{statement}
 use Rattle.clashes.proofs.clash.left_recursive.Tie as tie
 
 abbrev Inv-loop : tie.InvT-loop
-Inv-loop calls n₀ n = laws.Lowest (λ k. hasKind (getD calls k 0) k) n
+Inv-loop calls many n₀ n = laws.Lowest many (λ k. hasKind (getD calls k 0) k) n
 
 abbrev μ-loop : tie.MeasureT-loop
-μ-loop calls n₀ n = 64 - n
+μ-loop calls many n₀ n = many - n
 
 loop-holds : tie.Need-loop-holds Inv-loop μ-loop
-loop-holds c = record { small = search needs; rest = refl }
+loop-holds c = laws.lowest-start
 
 returns : tie.Need-returns Inv-loop μ-loop
 returns c =
@@ -42,7 +42,8 @@ left-recursive-spec =
     Inv-loop
     μ-loop
     loop-holds
-    (λ c. search needs) (λ c κs. search needs)
+    (λ c. search needs)
+    (λ c κs. search needs)
     (λ c κs. search needs)
     returns
     (λ c. search needs)

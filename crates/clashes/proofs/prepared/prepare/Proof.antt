@@ -12,7 +12,7 @@ fill-requires c κs =
     let computed = c .before .before in
     let earlier = computed .before .before .before .before .before in
     let entry = earlier .before .before in
-    record { index = entry .pre; lent = record { size = c .fill-arg .given .0 .1; many = laws.kinds-many (computed .sets-of .ensures) } }
+    record { index = entry .pre .index; lent = record { size = c .fill-arg .given .0 .1; many = laws.kinds-many (computed .sets-of .ensures) } }
 
 slice-aggregate-left-recursive : tie.Need-slice-aggregate-left-recursive
 slice-aggregate-left-recursive c = search laws.calls-size

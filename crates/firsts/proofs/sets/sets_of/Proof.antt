@@ -6,7 +6,7 @@ use Rattle.firsts.proofs.sets.sets_of.Statement.{statement}
 use Rattle.firsts.proofs.sets.sets_of.Tie as tie
 
 close-requires : tie.Need-close-requires
-close-requires c κs = laws.round-lent (c .before .before .first-round .ensures)
+close-requires c κs = search laws.round-closable
 
 returns : tie.Need-returns
 returns c = search closed.closed-sets
