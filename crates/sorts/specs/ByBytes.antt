@@ -1,6 +1,6 @@
 -- The check of sorts on the bytes of a table, as the code makes it, for any bytes. On the bytes of a table it is `checkSorts`
 -- (proofs/SortedBytes.antt). Nobody needs this file to believe `expand`.
-use Prim.Native.Nat.{ℕ, _+_, _-_, _*_, _≤_}
+use Prim.Native.Nat.{ℕ, _+_, _-_, _*_, _<_, _≤_}
 use mathlib.Core.Path.{_≡_}
 use mathlib.Core.Bool.{true, false, _&&_}
 use mathlib.Core.List.{List, _++_}
@@ -144,6 +144,15 @@ pub record FieldChecked (bs : List ℕ) (at tag : ℕ) (v : List ℕ) (to : ℕ)
 pub record Room (v sorts stack : List ℕ) : Type 0 where
   pub variables : length sorts ≡ mostVariables
   pub places : 2 * length v + 8 ≤ length stack
+
+-- the longest table for which the middle room for places is lent
+abbrev pub middleTable : ℕ
+middleTable = 4096
+
+-- a table that is not empty, and not longer than a limit
+pub record Lengthy (table : List ℕ) (limit : ℕ) : Type 0 where
+  pub some : 0 < length table
+  pub within : length table ≤ limit
 
 -- what the check of one field asks of the table, its value, the rooms and what is known
 pub record FieldReady (k : Known) (table v sorts stack : List ℕ) : Type 0 where

@@ -36,7 +36,7 @@ ghost use lib.ListN.{length};
 ghost use Rattle.grammar.specs.Limits.{most};
 ghost use Rattle.grammar.specs.Lookup.{fieldsAt};
 ghost use Rattle.sorts.specs.ByBytes.{rootAt, unknown, verdictStep, counting, sortsFrom, sortsOf};
-ghost use Rattle.sorts.specs.ByBytes.{Countable, ItemChecked, FieldChecked, Room, FieldReady};
+ghost use Rattle.sorts.specs.ByBytes.{Countable, ItemChecked, FieldChecked, Room, FieldReady, middleTable, Lengthy};
 
 // What a field gives: what is known after it, or the verdict.
 pub enum FieldStep {
@@ -209,6 +209,37 @@ const MIDDLE_STACK: usize = 2 * MIDDLE_TABLE + 8;
 
 const LARGE_STACK: usize = 2 * LONGEST_TABLE + 8;
 
+// The sorts of a table of middle size. The room for its places is in no frame but this function's: one that calls itself is never laid into
+// its caller, and this one does so on an empty table, which it is not passed.
+fn check_middle(table: &[u8]) -> Verdict
+    requires { ⌜ Lengthy (now table) middleTable ⌝ }
+    ensures { λ r. ⌜ r ≡ sortsOf (now (table .entry)) ⌝ }
+{
+    if table.len() == 0 {
+        let other = [0u8; 1];
+        return check_middle(&other);
+    }
+    let mut heads = [0u16; EACH_NONTERMINAL];
+    let mut sorts = [0u8; MOST_VARIABLES];
+    let mut stack = [0u8; MIDDLE_STACK];
+    check_fields(&mut heads, &mut sorts, &mut stack, table)
+}
+
+// The same with a room for the places of every table.
+fn check_large(table: &[u8]) -> Verdict
+    requires { ⌜ Lengthy (now table) (most .bytes) ⌝ }
+    ensures { λ r. ⌜ r ≡ sortsOf (now (table .entry)) ⌝ }
+{
+    if table.len() == 0 {
+        let other = [0u8; 1];
+        return check_large(&other);
+    }
+    let mut heads = [0u16; EACH_NONTERMINAL];
+    let mut sorts = [0u8; MOST_VARIABLES];
+    let mut stack = [0u8; LARGE_STACK];
+    check_fields(&mut heads, &mut sorts, &mut stack, table)
+}
+
 // The sorts of a table whose layout is right: refusals 7, 8, 9 and 11. A longer table is refused before.
 pub fn check_sorts(table: &[u8]) -> Verdict
     ensures { λ r. ⌜ r ≡ sortsOf (now (table .entry)) ⌝ }
@@ -216,16 +247,14 @@ pub fn check_sorts(table: &[u8]) -> Verdict
     if LONGEST_TABLE < table.len() {
         return Verdict::Passed;
     }
+    if MIDDLE_TABLE < table.len() {
+        return check_large(table);
+    }
+    if SMALL_TABLE < table.len() {
+        return check_middle(table);
+    }
     let mut heads = [0u16; EACH_NONTERMINAL];
     let mut sorts = [0u8; MOST_VARIABLES];
-    if table.len() <= SMALL_TABLE {
-        let mut stack = [0u8; SMALL_STACK];
-        return check_fields(&mut heads, &mut sorts, &mut stack, table);
-    }
-    if table.len() <= MIDDLE_TABLE {
-        let mut stack = [0u8; MIDDLE_STACK];
-        return check_fields(&mut heads, &mut sorts, &mut stack, table);
-    }
-    let mut stack = [0u8; LARGE_STACK];
+    let mut stack = [0u8; SMALL_STACK];
     check_fields(&mut heads, &mut sorts, &mut stack, table)
 }

@@ -9,14 +9,8 @@ use Rattle.sorts.proofs.check_sorts.Tie as tie
 returns : tie.Need-returns
 returns c = laws.sorts-long _ (c .if1 .taken)
 
-returns-2 : tie.Need-returns-2
-returns-2 c = c .before .before .before .check-fields .ensures ∙ laws.sorts-short _ (omega arith)
-
-returns-3 : tie.Need-returns-3
-returns-3 c = c .before .before .before .check-fields2 .ensures ∙ laws.sorts-short _ (omega arith)
-
 returns-4 : tie.Need-returns-4
-returns-4 c = c .before .before .before .check-fields3 .ensures ∙ laws.sorts-short _ (omega arith)
+returns-4 c = c .before .before .before .check-fields .ensures ∙ laws.sorts-short _ (omega arith)
 
 -- the function meets its contract
 pub check-sorts-spec : {M : Type 1} → statement M
@@ -24,16 +18,10 @@ check-sorts-spec =
     tie.close
     (tie.spec
     returns
-    (λ c. search needs)
-    (λ c. search needs)
+    (λ c κs. search needs)
     (λ c. search needs)
     (λ c κs. search needs)
-    returns-2
     (λ c. search needs)
-    (λ c. search needs)
-    (λ c. search needs)
-    (λ c κs. search needs)
-    returns-3
     (λ c. search needs)
     (λ c. search needs)
     (λ c. search needs)
