@@ -45,6 +45,7 @@ use Rattle.terms.specs.Rename.{rename}
 use Rattle.terms.specs.Print.{print}
 use Rattle.meaning.specs.Expand.{Expanded, expanded, expand}
 use Rattle.meaning.specs.Naming.{Named}
+use Rattle.meaning.specs.Each.{written}
 use Rattle.meaning.specs.Meaning.{Scans, spellOf, Means, MeansWithin, cellsOf, textLength, Cause, Accepts}
 use Rattle.meaning.specs.Hygiene.{Demand3}
 use Rattle.meaning.proofs.Stages.{expand-refused, expand-passed, means-one}
