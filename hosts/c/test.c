@@ -306,7 +306,7 @@ static void many_formulas(void) {
         r.at += 4 * made;
         free(part(&r, &skipped));
         if (table_len < 1000)
-            for (long round = 0; round < 8; round++) one_round(&d, 8 * n + round, table, table_len);
+            for (long round = 0; round < 2; round++) one_round(&d, 2 * n + round, table, table_len);
         free(table);
     }
     uint8_t table[200];

@@ -1,0 +1,206 @@
+-- Lines of an input one after the other, and what is laid for them in a room.
+use Prim.Native.Nat.{ℕ, suc, _+_, _-_, _≤_, _<_, min}
+use mathlib.Core.Path.{_≡_, refl, sym, ap, _∙_}
+use mathlib.Core.Bool.{Bool, true, false}
+use mathlib.Core.List.{List, [], _∷_, _++_, append-assoc, append-nil}
+use native.Mathlib.Decide.{decLe}
+use native.Mathlib.Omega.{arith}
+use lib.ListN.{length, getD, take, drop, length-append, length-take, length-drop, length-replicate, drop-of-length-le}
+use lib.Seq.{take-all, take-at, drop-drop, length-take-le}
+use Rattle.answers.specs.declared.Answer.{Answer}
+use Rattle.answers.specs.declared.Answer.the-variants.{Accepted, Refusing}
+use Rattle.spellings.specs.Bytes.{longestRun}
+use Rattle.spellings.proofs.BytesLaws.{by-test, run-taken, run-left, run-prefix}
+use Rattle.terms.specs.Cells.{columns}
+use Rattle.meaning.specs.Expand.{Expanded, expanded, expand}
+use Rattle.meaning.proofs.EachLaws.{expand-keeps}
+use Rattle.meaning.proofs.Lent.{Alike, lent-alike}
+use Rattle.rooms.specs.Laying.{laidEnd, laid, Lays}
+use Rattle.rooms.proofs.LayingLaws.{lays-length}
+use Rattle.phrases.specs.Output.{lentCells, lentText, textLine, toldLines, told, phraseOutput}
+use Rattle.formulas.specs.declared.lines.Laid.{Laid}
+use Rattle.formulas.specs.Output.{isLineByte, unended, linesBehind, outputs, formulasOutput, Tells}
+
+-- ------------------------------------------------------------------ one line
+
+-- expansions that are alike are told alike
+told-alike : (x y : Expanded) → Alike x y → told x ≡ told y
+unfolding textLine
+told-alike x y alike = go (x .answer) refl
+  where
+    go : (answer : Answer) → x .answer ≡ answer → told x ≡ told y
+    go (Refusing r) e = rw (e, sym (alike .answers) ∙ e) refl
+    go (Accepted cells constructors size) e =
+        let f : y .answer ≡ Accepted cells constructors size = sym (alike .answers) ∙ e in
+        let same : take size (x .text) ≡ take size (y .text) = rw (e, f) at (alike .texts) in
+        rw (e, f, same) refl
+
+-- what is told of a line's expansion is what `phrase` writes for it, whatever the cells and the text held before
+pub line-told : (table : List ℕ) → ((at : ℕ) → getD table at 0 < 256) → (line cells text : List ℕ) {answer : Answer} {cells′ text′ : List ℕ}
+    → length cells ≡ 16384 → length text ≡ 65536 → expanded answer cells′ text′ ≡ expand table line cells text
+    → toldLines answer text′ ≡ phraseOutput table line
+unfolding phraseOutput lentCells lentText
+line-told table bytes line cells text many long e =
+    ap told e
+    ∙ told-alike _ _
+    (lent-alike line cells lentCells text lentText (many ∙ sym (length-replicate {A = ℕ} 16384 0)) (long ∙ sym (length-replicate {A = ℕ} 65536 0)) table bytes)
+
+-- an expansion leaves as much text as it was lent
+pub line-text : (table line cells text : List ℕ) {answer : Answer} {cells′ text′ : List ℕ} → expanded answer cells′ text′ ≡ expand table line cells text
+    → length text′ ≡ length text
+line-text table line cells text e = ap (λ (x : Expanded). length (x .text)) e ∙ expand-keeps cells text table line .as-long
+
+-- ------------------------------------------------------------------ the lines
+
+-- how many bytes stand before the first line end, or in all
+abbrev pub run : List ℕ → ℕ
+run bytes = length (longestRun isLineByte bytes)
+
+-- no more than there are
+pub run-within : (bytes : List ℕ) → run bytes ≤ length bytes
+run-within bytes = omega (arith, ap length (run-prefix isLineByte bytes), length-take (run bytes) bytes)
+
+-- a run of what is left ends within it
+pub line-end-is : (input : List ℕ) {at count : ℕ} → at ≤ length input → count ≡ run (take (length input - at) (drop at input))
+    → (at + count ≡ at + run (drop at input)) × (at + count ≤ length input)
+line-end-is input {at} {count} h e =
+    let whole : take (length input - at) (drop at input) ≡ drop at input = take-all (length input - at) (drop at input) (omega (arith, length-drop at input)) in
+    let is : count ≡ run (drop at input) = cc (e, whole) in
+    (omega arith, omega (arith, run-within (drop at input), length-drop at input))
+
+module _ (line : List ℕ) (b : ℕ) (bytes : List ℕ) where
+  line-goes : isLineByte b ≡ true → linesBehind line (b ∷ bytes) ≡ linesBehind (line ++ b ∷ []) bytes
+  unfolding linesBehind
+  line-goes e = rw (e, linesBehind) refl
+
+  line-ends : isLineByte b ≡ false → linesBehind line (b ∷ bytes) ≡ line ∷ linesBehind [] bytes
+  unfolding linesBehind
+  line-ends e = rw (e, linesBehind) refl
+
+  run-goes : isLineByte b ≡ true → run (b ∷ bytes) ≡ suc (run bytes)
+  run-goes e = ap length (run-taken isLineByte b bytes e)
+
+  run-ends : isLineByte b ≡ false → run (b ∷ bytes) ≡ 0
+  run-ends e = ap length (run-left isLineByte b bytes e)
+
+-- a line that is ended: its bytes, and the lines behind its end
+lines-ended : (line bytes : List ℕ) → run bytes < length bytes
+    → linesBehind line bytes ≡ (line ++ take (run bytes) bytes) ∷ linesBehind [] (drop (suc (run bytes)) bytes)
+lines-ended line [] h = absurd (omega arith)
+lines-ended line (b ∷ bytes) h =
+    by-test (isLineByte b)
+    (λ e.
+    let more = run-goes line b bytes e in
+    rw (line-goes line b bytes e, more) (lines-ended (line ++ b ∷ []) bytes (omega (arith, more)) ∙ rw append-assoc refl))
+    (λ e. rw (line-ends line b bytes e, run-ends line b bytes e, append-nil) refl)
+
+-- a line that is not ended has all bytes
+lines-unended : (line bytes : List ℕ) → length bytes ≤ run bytes → linesBehind line bytes ≡ unended (line ++ bytes)
+unfolding linesBehind
+lines-unended line [] h = rw append-nil refl
+lines-unended line (b ∷ bytes) h =
+    by-test (isLineByte b)
+    (λ e.
+    line-goes line b bytes e ∙ lines-unended (line ++ b ∷ []) bytes (omega (arith, run-goes line b bytes e)) ∙ ap unended (append-assoc line (b ∷ []) bytes))
+    (λ e. absurd (omega (arith, run-ends line b bytes e)))
+
+one-line : (bytes : List ℕ) → 0 < length bytes → unended bytes ≡ bytes ∷ []
+one-line [] h = absurd (omega arith)
+one-line (b ∷ bytes) h = refl
+
+-- The first line of what is left is written, then the lines behind it.
+pub line-first : (table input : List ℕ) (at : ℕ) → at < length input
+    → formulasOutput table (drop at input)
+    ≡ phraseOutput table (take (run (drop at input)) (drop at input))
+    ++ formulasOutput table (drop (min (at + run (drop at input) + 1) (length input)) input)
+unfolding outputs linesBehind
+line-first table input at h = by (decLe (length (drop at input)) (run (drop at input)))
+  where
+    many : length (drop at input) ≡ length input - at
+    many = length-drop at input
+
+    by : Dec (length (drop at input) ≤ run (drop at input))
+        → formulasOutput table (drop at input)
+        ≡ phraseOutput table (take (run (drop at input)) (drop at input))
+        ++ formulasOutput table (drop (min (at + run (drop at input) + 1) (length input)) input)
+    by (yes all) =
+        let behind : length input ≤ min (at + run (drop at input) + 1) (length input) = omega (arith, many) in
+        rw (
+          lines-unended [] (drop at input) all,
+          one-line (drop at input) (omega (arith, many)),
+          take-all (run (drop at input)) (drop at input) all,
+          drop-of-length-le input behind,
+        )
+        refl
+    by (no some) =
+        let ended : run (drop at input) < length (drop at input) = omega arith in
+        let next : min (at + run (drop at input) + 1) (length input) ≡ at + suc (run (drop at input)) = omega (arith, many) in
+        rw (lines-ended [] (drop at input) ended, next, ← drop-drop (suc (run (drop at input))) at input) refl
+
+-- ------------------------------------------------------------------ the room
+
+-- a part that fits behind what was laid stands there whole
+lays-behind : {out : List ℕ} {n : ℕ} {part : List ℕ} {end : ℕ} {out′ : List ℕ} → Lays out n part end out′ → n + length part ≤ length out
+    → (end ≡ n + length part) × (take end out′ ≡ take n out ++ part) × (length out′ ≡ length out)
+unfolding laidEnd laid
+lays-behind {out} {n} {part} {end} {out′} lays fits =
+    let e : end ≡ n + length part = omega (arith, lays .end) in
+    let all : length (take n out ++ part) ≡ end = simp (length-append, length-take) (omega arith) in
+    let put : out′ ≡ take end (take n out ++ part) ++ drop end out = cc (lays .put, lays .end) in
+    let whole : take end (take n out ++ part) ≡ take n out ++ part = take-all end (take n out ++ part) (omega arith) in
+    let is : out′ ≡ (take n out ++ part) ++ drop end out = cc (put, whole) in
+    (e, rw is (take-at (take n out ++ part) (drop end out) end all), lays-length lays)
+
+-- The lines before an offset are laid, and with those from it on they give what all lines from the first offset on give.
+pub record Telling (table input : List ℕ) (from : ℕ) (out₀ : List ℕ) (out : List ℕ) (at n : ℕ) : Type 0 where
+  pub moved : 0 < n → from < at
+  pub begun : from ≤ at
+  pub inside : at ≤ length input
+  pub as-long : length out ≡ length out₀
+  pub within : n ≤ length out
+  pub gives : formulasOutput table (drop from input) ≡ take n out ++ formulasOutput table (drop at input)
+
+module _ (table input : List ℕ) (from : ℕ) (out₀ : List ℕ) where
+  -- nothing is laid yet
+  pub telling-start : from ≤ length input → Telling table input from out₀ out₀ from 0
+  telling-start h =
+      record { moved = λ none. absurd (omega arith); begun = omega arith; inside = h; as-long = refl; within = omega arith; gives = refl }
+
+  module _ {out : List ℕ} {at n : ℕ} (before : Telling table input from out₀ out at n) where
+    -- a line is laid behind those before
+    pub telling-next : at < length input → {stop : ℕ} → stop ≡ at + run (drop at input) → {end : ℕ} {out′ : List ℕ}
+        → Lays out n (phraseOutput table (take (stop - at) (drop at input))) end out′
+        → n + length (phraseOutput table (take (stop - at) (drop at input))) ≤ length out
+        → {next : ℕ} → next ≡ min (stop + 1) (length input)
+        → Telling table input from out₀ out′ next end
+    telling-next h {stop} runs {end} {out′} lays fits {next} ends =
+        let (e, put, long) = lays-behind lays fits in
+        let size : stop - at ≡ run (drop at input) = omega arith in
+        let own : take (stop - at) (drop at input) ≡ take (run (drop at input)) (drop at input) = rw size refl in
+        let moves : next ≡ min (at + run (drop at input) + 1) (length input) = omega arith in
+        record {
+          moved = λ some. omega (arith, before .begun);
+          begun = omega (arith, before .begun);
+          inside = omega arith;
+          as-long = long ∙ before .as-long;
+          within = omega arith;
+          gives =
+              before .gives
+              ∙ rw (line-first table input at h, ← own, ← moves, put)
+              (sym (append-assoc (take n out) (phraseOutput table (take (stop - at) (drop at input))) (formulasOutput table (drop next input))));
+        }
+
+    -- where no line is left
+    pub telling-end : length input ≤ at → Tells table input from out₀ (record { next = at; size = n }) out
+    telling-end h =
+        record { forward = λ some. omega arith; inside = before .inside; within = omega (arith, before .within, before .as-long); gives = before .gives }
+
+    -- where the room has no place for another, some are told
+    pub telling-full : 0 < n → Tells table input from out₀ (record { next = at; size = n }) out
+    telling-full some =
+        record {
+          forward = λ any. before .moved some;
+          inside = before .inside;
+          within = omega (arith, before .within, before .as-long);
+          gives = before .gives;
+        }
