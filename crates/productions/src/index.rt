@@ -6,12 +6,11 @@ use grammar::field_at;
 use grammar::limits::EACH_ALTERNATIVE;
 use grammar::reader::byte;
 use spellings::wide_short;
-ghost use Prim.Native.Nat.{_+_, _≤_};
+ghost use Prim.Native.Nat.{_+_};
 ghost use mathlib.Core.Path.{_≡_};
 ghost use lib.ListN.{getD};
-ghost use Rattle.grammar.specs.Limits.{most};
-ghost use Rattle.productions.specs.Index.{placesIn, placesOf, placesWithout};
-ghost use Rattle.productions.specs.IndexCalls.{IndexRoomFor, Index, FitsIndex, behind, redefined};
+ghost use Rattle.productions.specs.Index.{placesIn, placesWithout};
+ghost use Rattle.productions.specs.IndexCalls.{IndexRoomFor, LaidIndex, BuiltIndex, FitsIndex, behind, redefined};
 
 // The offset at a place of the index, 0 past its end.
 pub fn offset(starts: &[u16], j: usize) -> usize
@@ -27,8 +26,8 @@ pub fn offset(starts: &[u16], j: usize) -> usize
 // Lays a production behind the first k.
 fn push(owners: &mut [u8], starts: &mut [u16], k: usize, owner: u8, start: u16)
     requires { ⌜ IndexRoomFor (k + 1) (now owners) (now starts) ⌝ }
-    ensures { λ r. ⌜ placesIn (k + 1) (now (owners .exit)) (now (starts .exit))
-        ≡ behind (placesIn k (now (owners .entry)) (now (starts .entry))) owner start ⌝ }
+    ensures { λ _. ⌜ LaidIndex (behind (placesIn k (now (owners .entry)) (now (starts .entry))) owner start) (k + 1) (k + 1)
+        (now (owners .entry)) (now (starts .entry)) (now (owners .exit)) (now (starts .exit)) ⌝ }
 {
     owners[k] = owner;
     starts[k] = start;
@@ -37,7 +36,8 @@ fn push(owners: &mut [u8], starts: &mut [u16], k: usize, owner: u8, start: u16)
 // Drops the productions of nonterminal n among the first k, and tells how many are left.
 fn without(owners: &mut [u8], starts: &mut [u16], k: usize, n: u8) -> usize
     requires { ⌜ IndexRoomFor k (now owners) (now starts) ⌝ }
-    ensures { λ r. ⌜ Index (placesWithout n (placesIn k (now (owners .entry)) (now (starts .entry)))) k r (now (owners .exit)) (now (starts .exit)) ⌝ }
+    ensures { λ r. ⌜ LaidIndex (placesWithout n (placesIn k (now (owners .entry)) (now (starts .entry)))) k r
+        (now (owners .entry)) (now (starts .entry)) (now (owners .exit)) (now (starts .exit)) ⌝ }
 {
     let mut i: usize = 0;
     let mut w: usize = 0;
@@ -59,8 +59,8 @@ fn without(owners: &mut [u8], starts: &mut [u16], k: usize, n: u8) -> usize
 // The productions that the head of a definition leaves: an update drops those of its nonterminal.
 fn redefine(head: &[u8], owners: &mut [u8], starts: &mut [u16], k: usize) -> usize
     requires { ⌜ IndexRoomFor k (now owners) (now starts) ⌝ }
-    ensures { λ r. ⌜ Index (redefined (now (head .entry)) (placesIn k (now (owners .entry)) (now (starts .entry))))
-        k r (now (owners .exit)) (now (starts .exit)) ⌝ }
+    ensures { λ r. ⌜ LaidIndex (redefined (now (head .entry)) (placesIn k (now (owners .entry)) (now (starts .entry)))) k r
+        (now (owners .entry)) (now (starts .entry)) (now (owners .exit)) (now (starts .exit)) ⌝ }
 {
     let mode = byte(head, 1);
     if mode == UPDATE {
@@ -79,7 +79,7 @@ pub fn build_index(
     starts: &mut [u16; EACH_ALTERNATIVE],
 ) -> usize
     requires { ⌜ FitsIndex (now table) ⌝ }
-    ensures { λ r. ⌜ Index (placesOf (now (table .entry))) (most .alternatives) r (now (owners .exit)) (now (starts .exit)) ⌝ }
+    ensures { λ r. ⌜ BuiltIndex (now (table .entry)) r (now (owners .entry)) (now (starts .entry)) (now (owners .exit)) (now (starts .exit)) ⌝ }
 {
     let mut at: usize = 0;
     let mut n: u8 = 0;

@@ -71,13 +71,13 @@ check-firsts-requires : tie.Need-check-firsts-requires
 check-firsts-requires c κs =
     let built = c .before .before .before in
     let p = after-layout built in
-    laws.whole-index (bs p) (bytes p) (laid p) (built .build-index .ensures)
+    laws.whole-index (bs p) (bytes p) (laid p) (built .build-index .ensures .index)
 
 returns-3 : tie.Need-returns-3
 returns-3 c =
     let built = c .before .before .before .before in
     let p = after-layout built in
-    laws.into-firsts (bs p) (bytes p) (laid p) (sorted (after-sorts built)) (built .build-index .ensures) (c .check-firsts .ensures)
+    laws.into-firsts (bs p) (bytes p) (laid p) (sorted (after-sorts built)) (built .build-index .ensures .index) (c .check-firsts .ensures)
 
 -- the function meets its contract
 pub check-into-spec : {M : Type 1} → statement M

@@ -1,5 +1,6 @@
 -- `build_index`: the fields that are left give what all of them give.
 use Prim.Native.Nat.{_-_}
+use mathlib.Core.Path.{_∙_}
 use native.Mathlib.Omega.{arith}
 use borrow.Author.Needs.{needs}
 use lib.ListN.{length}
@@ -9,7 +10,7 @@ use Rattle.productions.proofs.index.build_index.Statement.{statement}
 use Rattle.productions.proofs.index.build_index.Tie as tie
 
 abbrev Inv-loop : tie.InvT-loop
-Inv-loop table owners₀ starts₀ at₀ n₀ k₀ owners starts at n k = laws.Building table at n k owners starts
+Inv-loop table owners₀ starts₀ at₀ n₀ k₀ owners starts at n k = laws.Building table owners₀ starts₀ at n k owners starts
 
 abbrev μ-loop : tie.MeasureT-loop
 μ-loop table owners₀ starts₀ at₀ n₀ k₀ owners starts at n k = length table - at
@@ -80,7 +81,10 @@ loop-less c =
     omega (arith, lies p .further (turn p .loop-test .taken), lies p .inside)
 
 loop-again : tie.Need-loop-again Inv-loop μ-loop
-loop-again c = search laws.building-head
+loop-again c =
+    let owners = c .before .before .redefine-arg2 .given .0 .1 in
+    let starts = c .before .redefine-arg3 .given .0 .1 in
+    search (laws.building-head, c .redefine .kept .1 .0 ∙ owners, c .redefine .kept .1 .1 .0 ∙ starts)
 
 loop-less-2 : tie.Need-loop-less-2 Inv-loop μ-loop
 loop-less-2 c =
@@ -88,7 +92,10 @@ loop-less-2 c =
     omega (arith, lies p .further (turn p .loop-test .taken), lies p .inside)
 
 loop-again-2 : tie.Need-loop-again-2 Inv-loop μ-loop
-loop-again-2 c = search laws.building-alternative
+loop-again-2 c =
+    let owners = c .before .before .push-arg .given .0 .1 in
+    let starts = c .before .push-arg2 .given .0 .1 in
+    search (laws.building-alternative, c .push .kept .0 ∙ owners, c .push .kept .1 .0 ∙ starts)
 
 loop-less-3 : tie.Need-loop-less-3 Inv-loop μ-loop
 loop-less-3 c =
