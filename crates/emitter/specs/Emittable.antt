@@ -20,7 +20,7 @@ use Rattle.terms.specs.Rename.{rename}
 use Rattle.terms.specs.Labelled.{labelled}
 use Rattle.terms.specs.Emit.{judged}
 use Rattle.rows.specs.Sizes.{WholeRows, rowsHeld, sizeAt, cutSize}
-use Rattle.writer.specs.Openings.{spellingRoom}
+use Rattle.writer.specs.Pool.{spellingRoom}
 use Rattle.writer.specs.Pool.{oneOf, spanned, spelledBy}
 
 -- the term at a row of those made, with the spellings of the table's outside names and the formula's words

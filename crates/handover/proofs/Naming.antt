@@ -17,7 +17,7 @@ use Rattle.tokens.specs.Tokens.{spelled}
 use Rattle.tokens.specs.declared.Scanned.the-variants.{Tokens}
 use Rattle.tokens.proofs.WordsOfScan.{scan-plain}
 use Rattle.tokens.proofs.ScannerTheorems.{tokens-counted}
-use Rattle.writer.specs.Openings.{spellingRoom}
+use Rattle.writer.specs.Pool.{spellingRoom}
 use Rattle.writer.specs.Pool.{oneOf, spanned, spelledBy, Words}
 use Rattle.writer.proofs.SpellLaws.{Once, word-length, short-words, apart-lists, spelled-lists}
 use Rattle.terms.specs.Term.{Name, outside, Term, Fields}

@@ -1,10 +1,11 @@
 -- A text has at most 46 bytes a constructor.
 use Prim.Native.Nat.{ℕ, zero, suc, _+_, _*_, _/_, _%_, _<_, _≤_}
+use mathlib.Core.Path.{_≡_}
 use mathlib.Core.Bool.{Bool, true, false}
-use mathlib.Core.List.{List, []}
+use mathlib.Core.List.{List}
 use native.Mathlib.Omega.{arith}
 use lib.Dec.{eqb}
-use lib.ListN.{length, getD, drop, length-take, length-append}
+use lib.ListN.{length, getD, drop, length-take}
 use borrow.Author.Tests.{eqb-true, eqb-false}
 use Rattle.spellings.proofs.BytesLaws.{by-test}
 use Rattle.spellings.proofs.DecimalLaws.{decimal-bound}
@@ -13,15 +14,14 @@ use Rattle.terms.specs.Term.{Name, Term, Fields, size, sizeFields}
 use Rattle.terms.specs.Rows.{nameOf, Constructor, varRow, funRow, appRow, rcdRow, dotRow, nilRow, consRow, numRow}
 use Rattle.terms.specs.Rows.{constructorOf, termBy, isCons, fieldsBy, termAt, fieldListAt}
 use Rattle.terms.specs.Rename.{newName, written}
-use Rattle.terms.specs.Print.{print}
 use Rattle.terms.specs.TextSize.{textSize, textSizeFields}
 use Rattle.terms.specs.Labelled.{nameShown, labelled, labelledFields}
 use Rattle.spellings.specs.Bytes.{longestWord}
-use Rattle.writer.specs.Openings.{spellingRoom}
-use Rattle.writer.specs.Openings.{spellIn}
+use Rattle.writer.specs.Writing.{Fits}
+use Rattle.writer.specs.Pool.{spellingRoom, spellIn, ShortSpellings}
 use Rattle.printing.specs.PrintedParts.{termPart, partText, PartFits}
+use Rattle.measuring.specs.Lengths.{termLength, TermMeasurable, Measured}
 use Rattle.printer.specs.Printed.{PrintableBy}
-use Rattle.writer.specs.Pool.{ShortSpellings}
 use Rattle.rows.specs.Sizes.{noSpell}
 use Rattle.rows.proofs.RowLaws.{as-word, as-fresh, as-outside}
 use Rattle.rows.proofs.SizeLaws.{size-spell}
@@ -97,22 +97,41 @@ spelling-short pool h number = omega (arith, h number, length-take (getD pool (n
 module _ {pool cells numbers : List ℕ} {made root : ℕ} (printable-by : PrintableBy pool cells made root numbers)
     (wide : (place : ℕ) → getD cells place 0 < 4294967296) (few : (place : ℕ) → getD numbers place 0 < 65536) where
   -- the text of a term has at most 46 bytes for each number
-  text-short : length (partText pool cells numbers (termPart made root 0) 0) ≤ length numbers * 46
-  unfolding partText
+  text-short : termLength pool cells numbers made root 0 ≤ length numbers * 46
+  unfolding termLength
   text-short =
       omega (
         arith,
         size-spell made noSpell (spellIn pool) cells root,
-        text-length (labelled numbers 0 (termAt made (spellIn pool) cells root)),
-        length-append (print (labelled numbers 0 (termAt made (spellIn pool) cells root))) [],
         short-text (spellIn pool) cells numbers (spelling-short pool (printable-by .short)) few wide made root 0,
         printable-by .marked,
       )
 
-  -- it fits where so many bytes are lent
-  pub text-within : {room : ℕ} → length numbers * 46 ≤ room → length (partText pool cells numbers (termPart made root 0) 0) ≤ room
-  text-within l = omega (arith, text-short)
+  -- the text of a term that is not too large can be measured
+  pub measurable : TermMeasurable pool cells numbers made root 0
+  measurable = record { room = omega (arith, text-short, printable-by .small); inside = omega (arith, printable-by .marked); few = printable-by .small }
 
-  -- the text of a term that is not too large is not too long
-  pub text-fits : PartFits pool cells numbers (termPart made root 0) 0 0
-  text-fits = record { room = omega (arith, text-short, printable-by .small); inside = omega (arith, printable-by .marked); few = printable-by .small }
+  fits-by : {text : List ℕ} → termLength pool cells numbers made root 0 ≤ length text → PartFits pool cells numbers (termPart made root) 0 text
+  unfolding partText termLength
+  fits-by l =
+      record {
+        room = record { room = omega (arith, text-length (labelled numbers 0 (termAt made (spellIn pool) cells root))) };
+        inside = omega (arith, printable-by .marked);
+        few = printable-by .small;
+      }
+
+  -- it fits where 46 bytes a constructor are lent
+  pub surely-fits : (text : List ℕ) → length numbers * 46 ≤ length text → PartFits pool cells numbers (termPart made root) 0 text
+  surely-fits text l = fits-by (omega (arith, text-short))
+
+  -- it fits where its length says so
+  pub measured-fits : {text : List ℕ} {needed : ℕ} → needed ≡ length (partText pool cells numbers (termPart made root) 0) → needed ≤ length text
+      → PartFits pool cells numbers (termPart made root) 0 text
+  unfolding partText termLength
+  measured-fits e l = fits-by (omega (arith, text-length (labelled numbers 0 (termAt made (spellIn pool) cells root))))
+
+-- what is measured is the length of the text
+pub measured-text : (pool cells numbers : List ℕ) (made root : ℕ) {size place count place′ : ℕ}
+    → Measured (termLength pool cells numbers made root 0) size place count place′ → count ≡ length (partText pool cells numbers (termPart made root) 0)
+unfolding partText termLength
+measured-text pool cells numbers made root m = omega (arith, m .counted, text-length (labelled numbers 0 (termAt made (spellIn pool) cells root)))

@@ -11,8 +11,11 @@ use Rattle.terms.specs.Rows.{termAt}
 use Rattle.terms.specs.Print.{print}
 use Rattle.terms.specs.Labelled.{labelled}
 use Rattle.rows.specs.Sizes.{sizeAt}
-use Rattle.writer.specs.Openings.{spellingRoom}
-use Rattle.writer.specs.Pool.{oneOf, spanned, ShortSpellings}
+use Rattle.writer.specs.Pool.{spellingRoom, oneOf, spanned, ShortSpellings}
+
+-- words for which a room between the shortest and the longest is lent
+abbrev pub moreWords : ℕ
+moreWords = 256
 
 -- the text of the term at a row, by a number of a new name for each place
 unfoldable pub textBy : (ℕ → List ℕ) → List ℕ → List ℕ → ℕ → ℕ → List ℕ

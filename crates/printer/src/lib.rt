@@ -1,4 +1,5 @@
 // Printing a term whose new names are numbered.
+use measuring::length_term;
 use printing::print_term;
 use spellings::LONGEST_WORD;
 use tokens::MOST_TOKENS;
@@ -10,12 +11,13 @@ ghost use mathlib.Core.Path.{_≡_};
 ghost use lib.ListN.{length, getD};
 ghost use Rattle.writer.specs.Pool.{spelledBy};
 ghost use Rattle.printing.specs.PrintedParts.{termPart, partText, PartFits};
-ghost use Rattle.printer.specs.Printed.{textBy, Printable, PrintableBy, Prints};
+ghost use Rattle.measuring.specs.Lengths.{TermMeasurable};
+ghost use Rattle.printer.specs.Printed.{moreWords, textBy, Printable, PrintableBy, Prints};
 
 // The most bytes that a constructor adds to a text: mkFieldCons with a label of 31 bytes takes 46.
 const LONGEST: usize = 15 + LONGEST_WORD;
 
-// Words for which shorter rooms are lent.
+// Words for which shorter rooms are lent, and those for which one between is.
 const FEW_WORDS: usize = 64;
 
 const MORE_WORDS: usize = 256;
@@ -47,23 +49,13 @@ fn narrow_numbers(s: &[u16]) -> u16
     0
 }
 
-// The length of the text of the term at a row: it is printed into nothing.
+// The length of the text of the term at a row.
 fn measure(pool: &[u8], cells: &[u32], shown: &[u16], made: usize, root: u32) -> usize
-    requires { ⌜ PartFits (now pool) (now cells) (now shown) (termPart made root 0) 0 0 ⌝ }
-    ensures { λ r. ⌜ r ≡ length (partText (now (pool .entry)) (now (cells .entry)) (now (shown .entry)) (termPart made root 0) 0) ⌝ }
+    requires { ⌜ TermMeasurable (now pool) (now cells) (now shown) made root 0 ⌝ }
+    ensures { λ r. ⌜ r ≡ length (partText (now (pool .entry)) (now (cells .entry)) (now (shown .entry)) (termPart made root) 0) ⌝ }
 {
-    let mut none = [0u8; 1];
     let mut place: usize = 0;
-    print_term(
-        &mut none[..0],
-        0,
-        &pool,
-        &cells,
-        &shown,
-        made,
-        root,
-        &mut place,
-    )
+    length_term(&pool, &cells, &shown, made, root, &mut place)
 }
 
 // The text of the term at a row, at the front of a buffer that has room for it.
@@ -75,15 +67,14 @@ fn print_whole(
     root: u32,
     text: &mut [u8],
 ) -> usize
-    requires { ⌜ PartFits (now pool) (now cells) (now shown) (termPart made root 0) 0 0 ⌝ }
-    requires { ⌜ length (partText (now pool) (now cells) (now shown) (termPart made root 0) 0) ≤ length (now text) ⌝ }
+    requires { ⌜ PartFits (now pool) (now cells) (now shown) (termPart made root) 0 (now text) ⌝ }
     ensures { λ r. ⌜
-        Prints (partText (now (pool .entry)) (now (cells .entry)) (now (shown .entry)) (termPart made root 0) 0) (now (text .entry))
+        Prints (partText (now (pool .entry)) (now (cells .entry)) (now (shown .entry)) (termPart made root) 0) (now (text .entry))
         (now (text .exit)) r
         ⌝ }
 {
     let mut place: usize = 0;
-    print_term(text, 0, &pool, &cells, &shown, made, root, &mut place)
+    print_term(text, &pool, &cells, &shown, made, root, &mut place)
 }
 
 // The text of the term at a row, at the front of a buffer, if it fits; the answer is its length. Where it could be longer than the buffer,
@@ -98,7 +89,7 @@ fn print_into(
 ) -> usize
     requires { ⌜ PrintableBy (now pool) (now cells) made root (now shown) ⌝ }
     ensures { λ r. ⌜
-        Prints (partText (now (pool .entry)) (now (cells .entry)) (now (shown .entry)) (termPart made root 0) 0) (now (text .entry))
+        Prints (partText (now (pool .entry)) (now (cells .entry)) (now (shown .entry)) (termPart made root) 0) (now (text .entry))
         (now (text .exit)) r
         ⌝ }
 {
@@ -112,6 +103,86 @@ fn print_into(
         return needed;
     }
     print_whole(pool, cells, shown, made, root, text)
+}
+
+// The text by the spellings of up to 256 words. It calls itself on what it is never passed, an empty room of words: the back end lays no such function
+// into its caller, whose frame stays without this room.
+fn print_middle(
+    table: &[u8],
+    formula: &[u8],
+    words: &[u32],
+    count: usize,
+    cells: &[u32],
+    made: usize,
+    root: u32,
+    shown: &[u16],
+    text: &mut [u8],
+) -> usize
+    requires { ⌜ Printable (now table) (now formula) (now words) count (now cells) made root (now shown) ⌝ }
+    requires { ⌜ 0 < length (now words) ⌝ }
+    requires { ⌜ count ≤ moreWords ⌝ }
+    ensures { λ r. ⌜
+        Prints
+        (textBy (spelledBy (now (table .entry)) (now (formula .entry)) (now (words .entry)) count) (now (cells .entry)) (now (shown .entry)) made root)
+        (now (text .entry)) (now (text .exit)) r
+        ⌝ }
+{
+    if words.len() == 0 {
+        let blank = [0u32; 1];
+        return print_middle(
+            table,
+            formula,
+            &blank,
+            count,
+            cells,
+            made,
+            root,
+            shown,
+            text,
+        );
+    }
+    let mut pool = [0u8; MEDIUM_POOL];
+    fill(table, formula, words, count, &mut pool);
+    print_into(&pool, cells, shown, made, root, text)
+}
+
+// The same by the spellings of any number of words.
+fn print_many(
+    table: &[u8],
+    formula: &[u8],
+    words: &[u32],
+    count: usize,
+    cells: &[u32],
+    made: usize,
+    root: u32,
+    shown: &[u16],
+    text: &mut [u8],
+) -> usize
+    requires { ⌜ Printable (now table) (now formula) (now words) count (now cells) made root (now shown) ⌝ }
+    requires { ⌜ 0 < length (now words) ⌝ }
+    ensures { λ r. ⌜
+        Prints
+        (textBy (spelledBy (now (table .entry)) (now (formula .entry)) (now (words .entry)) count) (now (cells .entry)) (now (shown .entry)) made root)
+        (now (text .entry)) (now (text .exit)) r
+        ⌝ }
+{
+    if words.len() == 0 {
+        let blank = [0u32; 1];
+        return print_many(
+            table,
+            formula,
+            &blank,
+            count,
+            cells,
+            made,
+            root,
+            shown,
+            text,
+        );
+    }
+    let mut pool = [0u8; LARGE_POOL];
+    fill(table, formula, words, count, &mut pool);
+    print_into(&pool, cells, shown, made, root, text)
 }
 
 // The text of the term at a row, at the front of a buffer, if it fits; the answer is its length. `shown` has the numbers of new names.
@@ -139,11 +210,7 @@ pub fn print_text(
         return print_into(&pool, cells, shown, made, root, text);
     }
     if count <= MORE_WORDS {
-        let mut pool = [0u8; MEDIUM_POOL];
-        fill(table, formula, words, count, &mut pool);
-        return print_into(&pool, cells, shown, made, root, text);
+        return print_middle(table, formula, words, count, cells, made, root, shown, text);
     }
-    let mut pool = [0u8; LARGE_POOL];
-    fill(table, formula, words, count, &mut pool);
-    print_into(&pool, cells, shown, made, root, text)
+    print_many(table, formula, words, count, cells, made, root, shown, text)
 }

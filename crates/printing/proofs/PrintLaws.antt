@@ -1,379 +1,439 @@
--- Printing, constructor by constructor: what the parts' walks write, the whole writes.
+-- Printing, constructor by constructor: each piece fits what remains, and all pieces are the text.
 use Prim.Native.Nat.{ℕ, suc, _+_, _-_, _^_, _<_, _≤_}
-use mathlib.Core.Path.{_≡_, refl, sym, ap, _∙_}
-use mathlib.Core.Logic.{_⊎_, inl, inr}
-use mathlib.Core.List.{List, [], _∷_, _++_, append-assoc, append-nil}
+use mathlib.Core.Path.{_≡_, refl, sym}
+use mathlib.Core.List.{List, [], _∷_}
 use native.Mathlib.Numerals.{add-one}
 use native.Mathlib.Omega.{arith}
-use lib.ListN.{length, length-append, length-replicate}
+use lib.ListN.{length}
+use mir.Syntax.{w64}
+use mir.Val as val
 use Rattle.terms.specs.Cells.{column}
-use Rattle.terms.specs.Term.{size, sizeFields, largestTerm}
+use Rattle.terms.specs.Term.{size, sizeFields}
 use Rattle.terms.specs.Rows.{termAt, fieldListAt}
 use Rattle.terms.specs.Print.{print}
 use Rattle.terms.specs.Labelled.{labelled, labelledFields}
-use Rattle.rows.specs.Sizes.{noSpell, sizeAt, sizeFieldsAt}
+use Rattle.rows.specs.Sizes.{noSpell}
 use Rattle.rows.proofs.RowLaws as rows
 use Rattle.rows.proofs.SizeLaws.{size-spell, size-some, size-some-fields}
-use Rattle.writer.specs.Openings.{opening, openingFields, closes, spellIn, termOpening, fieldsOpening, Wrote, OpeningFits, FieldsOpeningFits}
+use Rattle.writer.specs.Writing.{Fits, Written}
+use Rattle.writer.specs.Pool.{spellIn}
+use Rattle.writer.specs.Beginnings.{beginning, beginningFields, termBeginning, fieldsBeginning, BeginningFits}
+use Rattle.writer.proofs.Pieces.{remains, withRest, same-length, MadeOf, Writing, done-within}
+use Rattle.writer.proofs.Pieces.{as-fits, first-fits, first-written, next-fits, next-written, last-written}
 use Rattle.printing.specs.PrintedParts.{Part, termPart, fieldsPart, partText, partSize, PartFits, PartPrinted}
-use Rattle.writer.proofs.Pieces.{then, as-text, nothing}
-use Rattle.printing.proofs.Texts.{fun-then, app-then, rcd-then, dot-then, var-then, num-then, print-cons, print-nil}
-use Rattle.printing.proofs.Texts.{opening-part, opening-part-fields}
+use Rattle.printing.proofs.Texts.{space, close, term-made, fields-made, begins-alike}
 
--- ------------------------------------------------------------------ pieces of a part
+-- ------------------------------------------------------------------ a part whose text is begun
 
--- bytes, or a part
-pub data Piece : Type 0 where
-  text : List ℕ → Piece
-  part : Part → Piece
+module _ {pool cells numbers out : List ℕ} {whole : Part} {place : ℕ} (fits : PartFits pool cells numbers whole place out) where
+  abbrev Text : List ℕ
+  Text = partText pool cells numbers whole place
 
--- the text of pieces from a place on, and the constructors in them
-unfoldable pub piecesText : List ℕ → List ℕ → List ℕ → List Piece → ℕ → List ℕ
-piecesText pool cells numbers [] p = []
-piecesText pool cells numbers (text s ∷ ps) p = s ++ piecesText pool cells numbers ps p
-piecesText pool cells numbers (part x ∷ ps) p = partText pool cells numbers x p ++ piecesText pool cells numbers ps (p + partSize cells x)
+  -- the next piece is a part of it, which fits what remains
+  part-fits : {end inside : ℕ} {out′ : List ℕ} {inner : Part} {ps : List (List ℕ)}
+      → Writing Text out end out′ (partText pool cells numbers inner inside ∷ ps) → inside + partSize cells inner ≤ place + partSize cells whole
+      → PartFits pool cells numbers inner inside (remains end out′)
+  part-fits writing within = record { room = next-fits writing; inside = omega (arith, fits .inside); few = fits .few }
 
--- how many constructors some pieces have
-unfoldable pub piecesSize : List ℕ → List Piece → ℕ
-piecesSize cells [] = 0
-piecesSize cells (text s ∷ ps) = piecesSize cells ps
-piecesSize cells (part x ∷ ps) = partSize cells x + piecesSize cells ps
+  -- the next piece is the parenthesis, which ends it
+  ends : {end place′ : ℕ} {out′ : List ℕ} → Writing Text out end out′ (close ∷ []) → place′ ≡ place + partSize cells whole → {count : ℕ} {rest : List ℕ}
+      → Written close (remains end out′) count rest → PartPrinted pool cells numbers whole place out (end + count) place′ (withRest end out′ rest)
+  ends writing moved closed = record { wrote = last-written writing closed; moved = moved }
 
--- some of a part is written, and pieces of it are left
-pub record Printing (pool cells numbers : List ℕ) (printed-part : Part) (at place : ℕ) (out : List ℕ) (ps : List Piece) (end place′ : ℕ)
-    (out′ : List ℕ) : Type 0 where
-  -- the bytes written
-  pub done : List ℕ
-  -- the part's text is these and the pieces left
-  pub split : partText pool cells numbers printed-part place ≡ done ++ piecesText pool cells numbers ps place′
-  -- they are written from `at` to `end`
-  pub wrote : Wrote out at done end out′
-  -- the constructors passed and those left are all of the part
-  pub moved : place′ + piecesSize cells ps ≡ place + partSize cells printed-part
+  -- what was lent keeps its length
+  pub kept : {end place′ : ℕ} {out′ : List ℕ} → PartPrinted pool cells numbers whole place out end place′ out′ → length out′ ≡ length out
+  kept printed = same-length (printed .wrote) (fits .room .room)
 
-module _ {pool cells numbers : List ℕ} {printed-part : Part} {at place : ℕ} {out : List ℕ} where
-  -- the part fits, so the next piece does
-  pub next-room : {bytes : List ℕ} {ps : List Piece} {end place′ : ℕ} {out′ : List ℕ}
-      → Printing pool cells numbers printed-part at place out (text bytes ∷ ps) end place′ out′ → PartFits pool cells numbers printed-part at place
-      → end + length bytes < 2 ^ 62
-  unfolding piecesText
-  next-room {bytes} {ps} {place′ = place′} P f =
-      omega (
-        arith,
-        f .room,
-        P .wrote .end,
-        ap length (P .split),
-        length-append (P .done) (bytes ++ piecesText pool cells numbers ps place′),
-        length-append bytes (piecesText pool cells numbers ps place′),
-      )
+  -- the text's length is a number of 64 bits, as what was lent has one
+  pub length-small : {end place′ : ℕ} {out′ : List ℕ} → length out < 2 ^ 64 → PartPrinted pool cells numbers whole place out end place′ out′ → val.Fits w64 end
+  length-small small printed = record { fits = omega (arith, small, printed .wrote .within, kept printed) }
 
-  -- the part fits, so the next part of it does
-  pub next-fits : {inner : Part} {ps : List Piece} {end place′ : ℕ} {out′ : List ℕ}
-      → Printing pool cells numbers printed-part at place out (part inner ∷ ps) end place′ out′ → PartFits pool cells numbers printed-part at place
-      → PartFits pool cells numbers inner end place′
-  unfolding piecesText piecesSize
-  next-fits {inner} {ps} {place′ = place′} P f =
-      let rest : List ℕ = piecesText pool cells numbers ps (place′ + partSize cells inner) in
-      record {
-        room =
-            omega (
-              arith,
-              f .room,
-              P .wrote .end,
-              ap length (P .split),
-              length-append (P .done) (partText pool cells numbers inner place′ ++ rest),
-              length-append (partText pool cells numbers inner place′) rest,
-            );
-        inside = omega (arith, f .inside, P .moved);
-        few = f .few;
-      }
+  -- and so is the length of what is written of it
+  pub front-small : {end : ℕ} {out′ : List ℕ} {ps : List (List ℕ)} → length out < 2 ^ 64 → Writing Text out end out′ ps → val.Fits w64 end
+  front-small small writing = record { fits = omega (arith, small, done-within writing, writing .written .counted) }
 
-  -- one piece more is written
-  pub next-text : {bytes : List ℕ} {ps : List Piece} {end end′ place′ : ℕ} {out′ out″ : List ℕ}
-      → Printing pool cells numbers printed-part at place out (text bytes ∷ ps) end place′ out′ → Wrote out′ end bytes end′ out″
-      → Printing pool cells numbers printed-part at place out ps end′ place′ out″
-  unfolding piecesText piecesSize
-  next-text {bytes} {ps} {place′ = place′} P w =
-      record {
-        done = P .done ++ bytes;
-        split = P .split ∙ sym (append-assoc (P .done) bytes (piecesText pool cells numbers ps place′));
-        wrote = then (P .wrote) w;
-        moved = P .moved;
-      }
+-- ------------------------------------------------------------------ terms
 
-  -- one part more is printed
-  pub next-part : {inner : Part} {ps : List Piece} {end end′ place′ place″ : ℕ} {out′ out″ : List ℕ}
-      → Printing pool cells numbers printed-part at place out (part inner ∷ ps) end place′ out′
-      → PartPrinted pool cells numbers inner end place′ out′ end′ place″ out″
-      → Printing pool cells numbers printed-part at place out ps end′ place″ out″
-  unfolding piecesText piecesSize
-  next-part {inner} {ps} {place′ = place′} P w =
-      let s : List ℕ = partText pool cells numbers inner place′ in
-      record {
-        done = P .done ++ s;
-        split =
-            cc (P .split, w .moved, append-assoc (P .done) s (piecesText pool cells numbers ps _));
-        wrote = then (P .wrote) (w .wrote);
-        moved = omega (arith, P .moved, w .moved);
-      }
-
-  -- all is written
-  pub all-printed : {end place′ : ℕ} {out′ : List ℕ} → Printing pool cells numbers printed-part at place out [] end place′ out′
-      → PartPrinted pool cells numbers printed-part at place out end place′ out′
-  unfolding piecesText piecesSize
-  all-printed P = record { wrote = as-text (sym (P .split ∙ append-nil (P .done))) (P .wrote); moved = omega (arith, P .moved) }
-
-  -- nothing is printed yet
-  pub none-printed : Printing pool cells numbers printed-part at place out (part printed-part ∷ []) at place out
-  unfolding piecesText piecesSize
-  none-printed =
-      record {
-        done = [];
-        split = sym (append-nil (partText pool cells numbers printed-part place));
-        wrote = nothing out;
-        moved = omega arith;
-      }
-
-  -- some of the last part is printed, and pieces of it are left
-  pub next-into : {inner : Part} {qs : List Piece} {end end′ place′ place″ : ℕ} {out′ out″ : List ℕ}
-      → Printing pool cells numbers printed-part at place out (part inner ∷ []) end place′ out′
-      → Printing pool cells numbers inner end place′ out′ qs end′ place″ out″
-      → Printing pool cells numbers printed-part at place out qs end′ place″ out″
-  unfolding piecesText piecesSize
-  next-into {inner} {qs} {place′ = place′} {place″} P Q =
-      record {
-        done = P .done ++ Q .done;
-        split =
-            cc (
-              P .split,
-              append-nil (partText pool cells numbers inner place′),
-              Q .split,
-              append-assoc (P .done) (Q .done) (piecesText pool cells numbers qs place″),
-            );
-        wrote = then (P .wrote) (Q .wrote);
-        moved = omega (arith, P .moved, Q .moved);
-      }
-
--- a part is printed up to its last part, which is left
-pub record Spine (pool cells numbers : List ℕ) (whole : Part) (at place : ℕ) (out : List ℕ) (bound : ℕ) (out′ : List ℕ) (place′ end deep : ℕ)
-    (left : Part) : Type 0 where
-  -- up to there
-  pub printing : Printing pool cells numbers whole at place out (part left ∷ []) end place′ out′
-  -- the whole fits
-  pub fits : PartFits pool cells numbers whole at place
-  -- no deeper than the bound
-  pub within : deep ≤ bound
-
--- where nothing is printed yet, all is left
-pub spine-start : {pool cells numbers : List ℕ} {whole : Part} {at place : ℕ} {out : List ℕ} (bound : ℕ) → PartFits pool cells numbers whole at place
-    → Spine pool cells numbers whole at place out bound out place at bound whole
-spine-start bound fits = record { printing = none-printed; fits = fits; within = omega arith }
-
-module _ {pool cells numbers : List ℕ} {whole left : Part} {at place bound place′ end deep : ℕ} {out out′ : List ℕ}
-    (spine : Spine pool cells numbers whole at place out bound out′ place′ end deep left) where
-  -- the whole fits, so what is left does
-  pub left-fits : PartFits pool cells numbers left end place′
-  left-fits = next-fits (spine .printing) (spine .fits)
-
-  -- the next part, where pieces of it are left
-  pub spine-next : {next : Part} {deep′ end′ place″ : ℕ} {out″ : List ℕ} → Printing pool cells numbers left end place′ out′ (part next ∷ []) end′ place″ out″
-      → deep′ < deep → Spine pool cells numbers whole at place out bound out″ place″ end′ deep′ next
-  spine-next more less = record { printing = next-into (spine .printing) more; fits = spine .fits; within = omega (arith, spine .within) }
-
-  -- where all of what was left is printed, the whole is
-  pub spine-end : {end′ place″ : ℕ} {out″ : List ℕ} → Printing pool cells numbers left end place′ out′ [] end′ place″ out″
-      → PartPrinted pool cells numbers whole at place out end′ place″ out″
-  spine-end more = all-printed (next-into (spine .printing) more)
-
--- one of two that is not the second is the first
-pub not-second : {value first second : ℕ} → (value ≡ first) ⊎ (value ≡ second) → (value ≡ second → ⊥) → value ≡ first
-not-second (inl e) d = e
-not-second (inr e) d = absurd (d e)
-
--- parentheses that are left fit
-pub close-room : (closing : ℕ) {pool cells numbers : List ℕ} {printed-part : Part} {at place : ℕ} {out : List ℕ} {ps : List Piece} {end place′ : ℕ}
-    {out′ : List ℕ}
-    → Printing pool cells numbers printed-part at place out (text (closes closing) ∷ ps) end place′ out′
-    → PartFits pool cells numbers printed-part at place → end + closing < 2 ^ 62
-close-room closing left fits = omega (arith, next-room left fits, length-replicate {A = ℕ} closing 0x29)
-
--- ------------------------------------------------------------------ a row whose opening is written
-
-abbrev space : List ℕ
-space = 0x20 ∷ []
-
-abbrev close : List ℕ
-close = 0x29 ∷ []
-
-module _ {pool cells numbers : List ℕ} {depth row closing closing′ at number-place : ℕ} {out : List ℕ} {end : ℕ} {out′ : List ℕ} where
-  module _ (up : closing′ ≡ closing + 1) (wrote : Wrote out at (termOpening pool cells numbers depth row number-place) end out′) where
-    opened : (ps : List Piece)
-        → partText pool cells numbers (termPart depth row closing) number-place ≡ termOpening pool cells numbers depth row number-place ++ piecesText
-        pool cells numbers ps (number-place + 1)
-        → 1 + piecesSize cells ps ≡ sizeAt cells depth row
-        → Printing pool cells numbers (termPart depth row closing) at number-place out ps end (number-place + 1) out′
-    opened ps e counted = record { done = termOpening pool cells numbers depth row number-place; split = e; wrote = wrote; moved = omega (arith, counted) }
-
-    -- behind the opening of a term with no depth left: the parentheses
-    pub opened-shallow : depth ≡ 0
-        → Printing pool cells numbers (termPart depth row closing) at number-place out (text (closes closing′) ∷ []) end (number-place + 1) out′
-    unfolding partText termOpening termAt labelled piecesText piecesSize size
-    opened-shallow e = opened (text (closes closing′) ∷ []) (rw (e, up, add-one closing) (num-then (closes closing) 0)) (rw e refl)
-
-    module _ (some : depth ≡ 0 → ⊥) {code : ℕ} (equal : code ≡ column cells row 0) where
-      -- behind that of a function: its body
-      pub opened-fun : {part-row : ℕ} → code ≡ 0x21 → part-row ≡ column cells row 2
-          → Printing pool cells numbers (termPart depth row closing) at number-place out (part (termPart (depth - 1) part-row closing′) ∷ []) end
-          (number-place + 1) out′
-      unfolding partText termOpening labelled piecesText piecesSize size
-      opened-fun e eq =
-          opened _ (rw (eq, rows.fun-row (spellIn pool) cells depth row some equal e, add-one number-place, up, add-one closing)
-          (fun-then (closes closing) _ _))
-          (rw (eq, rows.fun-row noSpell cells depth row some equal e) (omega arith))
-
-      -- behind that of an application: its two terms, with a space between
-      pub opened-app : {part-row part-row′ : ℕ} → code ≡ 0x22 → part-row ≡ column cells row 1 → part-row′ ≡ column cells row 2
-          → Printing pool cells numbers (termPart depth row closing) at number-place out
-          (part (termPart (depth - 1) part-row 0) ∷ text space ∷ part (termPart (depth - 1) part-row′ closing′) ∷ []) end (number-place + 1) out′
-      unfolding partText termOpening labelled piecesText piecesSize size
-      opened-app {part-row} e eq eq′ =
-          opened _
-          (rw (
-            size-spell (depth - 1) noSpell (spellIn pool) cells part-row,
-            eq,
-            eq′,
-            rows.app-row (spellIn pool) cells depth row some equal e,
-            add-one number-place,
-            up,
-            add-one closing,
-          ) (app-then (closes closing) _ _))
-          (rw (eq, eq′, rows.app-row noSpell cells depth row some equal e) (omega arith))
-
-      -- behind that of a record: its fields
-      pub opened-rcd : {part-row : ℕ} → code ≡ 0x23 → part-row ≡ column cells row 1
-          → Printing pool cells numbers (termPart depth row closing) at number-place out
-          (part (fieldsPart (depth - 1) part-row) ∷ text (closes closing′) ∷ []) end (number-place + 1) out′
-      unfolding partText termOpening labelled piecesText piecesSize size
-      opened-rcd e eq =
-          opened _ (rw (eq, rows.rcd-row (spellIn pool) cells depth row some equal e, add-one number-place, up, add-one closing) (rcd-then (closes closing) _))
-          (rw (eq, rows.rcd-row noSpell cells depth row some equal e) (omega arith))
-
-      -- behind that of a selection: its term, a space and its label
-      pub opened-dot : {part-row label-row : ℕ} → code ≡ 0x24 → part-row ≡ column cells row 1 → label-row ≡ column cells row 2
-          → Printing pool cells numbers (termPart depth row closing) at number-place out
-          (part (termPart (depth - 1) part-row 0) ∷ text space ∷ text (spellIn pool label-row) ∷ text (closes closing′) ∷ []) end (number-place + 1) out′
-      unfolding partText termOpening labelled piecesText piecesSize size
-      opened-dot e eq el =
-          opened _ (rw (eq, el, rows.dot-row (spellIn pool) cells depth row some equal e, add-one number-place, up, add-one closing)
-          (dot-then (closes closing) _ _))
-          (rw (eq, rows.dot-row noSpell cells depth row some equal e) (omega arith))
-
-      -- the first part of an application or a selection fits
-      pub first-fits : {part-row : ℕ} → (code ≡ 0x22) ⊎ (code ≡ 0x24) → part-row ≡ column cells row 1
-          → PartFits pool cells numbers (termPart depth row closing) at number-place
-          → PartFits pool cells numbers (termPart (depth - 1) part-row 0) end (number-place + 1)
-      first-fits (inl e) eq fits = next-fits (opened-app e eq refl) fits
-      first-fits (inr e) eq fits = next-fits (opened-dot e eq refl) fits
-
-      -- and so does the space behind it
-      pub first-room : {part-row end′ number-place′ : ℕ} {out″ : List ℕ} → (code ≡ 0x22) ⊎ (code ≡ 0x24) → part-row ≡ column cells row 1
-          → PartFits pool cells numbers (termPart depth row closing) at number-place
-          → PartPrinted pool cells numbers (termPart (depth - 1) part-row 0) end (number-place + 1) out′ end′ number-place′ out″
-          → end′ + 1 < 2 ^ 62
-      first-room (inl e) eq fits printed = next-room (next-part (opened-app e eq refl) printed) fits
-      first-room (inr e) eq fits printed = next-room (next-part (opened-dot e eq refl) printed) fits
-
-      -- behind that of a variable or a number: the parentheses
-      pub opened-bare : (((Unit {0} × (code ≡ 0x21 → ⊥)) × ((code ≡ 0x22) ⊎ (code ≡ 0x24) → ⊥)) × (code ≡ 0x23 → ⊥))
-          → Printing pool cells numbers (termPart depth row closing) at number-place out (text (closes closing′) ∷ []) end (number-place + 1) out′
-      unfolding partText termOpening labelled piecesText piecesSize size
-      opened-bare others =
-          let fun = others .0 .0 .1 in
-          let app : code ≡ 0x22 → ⊥ = λ e. others .0 .1 (inl e) in
-          let dot : code ≡ 0x24 → ⊥ = λ e. others .0 .1 (inr e) in
-          opened (text (closes closing′) ∷ [])
-          (rw (up, add-one closing) (rows.bare-row (spellIn pool) cells depth row some equal
-          (λ t. print (labelled numbers number-place t) ++ closes closing ≡ opening (labelled numbers number-place t) ++ ((0x29 ∷ closes closing) ++ []))
-          (λ v. var-then (closes closing) _) (λ d. num-then (closes closing) d) fun app (others .1) dot))
-          (rows.bare-row noSpell cells depth row some equal (λ t. 1 + 0 ≡ size t) (λ v. refl) (λ d. refl) fun app (others .1) dot)
-
-module _ {pool cells numbers : List ℕ} {depth row at number-place : ℕ} {out : List ℕ} {end : ℕ} {out′ : List ℕ} where
-  module _ (wrote : Wrote out at (fieldsOpening pool cells depth row) end out′) where
-    opened-fields : (ps : List Piece)
-        → partText pool cells numbers (fieldsPart depth row) number-place ≡ fieldsOpening pool cells depth row ++ piecesText pool cells numbers ps
-        (number-place + 1)
-        → 1 + piecesSize cells ps ≡ sizeFieldsAt cells depth row
-        → Printing pool cells numbers (fieldsPart depth row) at number-place out ps end (number-place + 1) out′
-    opened-fields ps e m = record { done = fieldsOpening pool cells depth row; split = e; wrote = wrote; moved = omega (arith, m) }
-
-    -- behind that of a field list with no depth left: the parenthesis
-    pub opened-shallow-fields : depth ≡ 0 → Printing pool cells numbers (fieldsPart depth row) at number-place out (text close ∷ []) end (number-place + 1) out′
-    unfolding partText fieldsOpening fieldListAt labelledFields openingFields piecesText piecesSize sizeFields
-    opened-shallow-fields e = opened-fields (text close ∷ []) (rw e print-nil) (rw e refl)
-
-    module _ (some : depth ≡ 0 → ⊥) {code : ℕ} (equal : code ≡ column cells row 0) where
-      -- behind that of a field: its term, a space and the fields behind it
-      pub opened-cons : {part-row part-row′ : ℕ} → code ≡ 0x26 → part-row ≡ column cells row 2 → part-row′ ≡ column cells row 3
-          → Printing pool cells numbers (fieldsPart depth row) at number-place out
-          (part (termPart (depth - 1) part-row 0) ∷ text space ∷ part (fieldsPart (depth - 1) part-row′) ∷ text close ∷ []) end (number-place + 1) out′
-      unfolding partText fieldsOpening labelledFields openingFields piecesText piecesSize sizeFields
-      opened-cons {part-row} e eq eq′ =
-          opened-fields _
-          (rw (
-            size-spell (depth - 1) noSpell (spellIn pool) cells part-row,
-            eq,
-            eq′,
-            rows.cons-row (spellIn pool) cells depth row some equal e,
-            add-one number-place,
-            append-nil (print (labelled numbers (suc number-place) (termAt (depth - 1) (spellIn pool) cells (column cells row 2)))),
-          ) (print-cons _ _ _))
-          (rw (eq, eq′, rows.cons-row noSpell cells depth row some equal e) (omega arith))
-
-      -- behind that of the empty field list: the parenthesis
-      pub opened-nil : (code ≡ 0x26 → ⊥) → Printing pool cells numbers (fieldsPart depth row) at number-place out (text close ∷ []) end (number-place + 1) out′
-      unfolding partText fieldsOpening labelledFields openingFields piecesText piecesSize sizeFields
-      opened-nil e =
-          opened-fields (text close ∷ []) (rw (rows.nil-row (spellIn pool) cells depth row some equal e) print-nil)
-          (rw (rows.nil-row noSpell cells depth row some equal e) refl)
-
--- ------------------------------------------------------------------ the opening fits, and its place is there
-
-module _ {pool cells numbers : List ℕ} {depth row closing at number-place : ℕ} where
-  -- a term fits, so its opening does
-  pub opening-fits : {code : ℕ} → code ≡ column cells row 0 → PartFits pool cells numbers (termPart depth row closing) at number-place
-      → OpeningFits pool cells numbers depth row at number-place code
-  unfolding partText termOpening
-  opening-fits read f =
-      let t = labelled numbers number-place (termAt depth (spellIn pool) cells row) in
+module _ {pool cells numbers out : List ℕ} {depth row place : ℕ} (fits : PartFits pool cells numbers (termPart depth row) place out) where
+  -- a term fits, so what it begins with does
+  pub begin-fits : {code : ℕ} → code ≡ column cells row 0 → BeginningFits pool cells numbers depth row place code out
+  unfolding partText termBeginning
+  begin-fits read =
       record {
         read = read;
-        room = omega (arith, f .room, opening-part t, length-append (print t) (closes closing));
-        inside = omega (arith, f .inside, size-some (termAt depth noSpell cells row));
-        few = f .few;
+        room = first-fits (term-made (labelled numbers place (termAt depth (spellIn pool) cells row))) (fits .room);
+        inside = omega (arith, fits .inside, size-some (termAt depth noSpell cells row));
+        few = fits .few;
       }
 
-  -- a term that fits has a place below `largestTerm`
-  pub term-inside : PartFits pool cells numbers (termPart depth row closing) at number-place → number-place < largestTerm
-  term-inside f = omega (arith, f .inside, f .few, size-some (termAt depth noSpell cells row))
+  -- the place behind it is a number of 64 bits
+  pub term-next : val.Fits w64 (place + 1)
+  term-next = record { fits = omega (arith, fits .inside, fits .few, size-some (termAt depth noSpell cells row)) }
 
-  -- the parentheses behind a term that fits, and one more, are not too many
-  pub term-closing : PartFits pool cells numbers (termPart depth row closing) at number-place → closing + 1 < 2 ^ 64
-  unfolding partText
-  term-closing f =
-      omega (
-        arith,
-        f .room,
-        length-append (print (labelled numbers number-place (termAt depth (spellIn pool) cells row))) (closes closing),
-        length-replicate {A = ℕ} closing 0x29,
-      )
+  module _ {end : ℕ} {out′ : List ℕ} (begun : Written (termBeginning pool cells numbers depth row place) out end out′) (shallow : depth ≡ 0) where
+    shallow-made : MadeOf (partText pool cells numbers (termPart depth row) place) (termBeginning pool cells numbers depth row place ∷ close ∷ [])
+    unfolding partText termBeginning termAt labelled
+    shallow-made = rw shallow (term-made _)
 
-module _ {pool cells numbers : List ℕ} {depth row at number-place : ℕ} where
-  -- a field list fits, so its opening does
-  pub fields-opening-fits : PartFits pool cells numbers (fieldsPart depth row) at number-place → FieldsOpeningFits pool cells depth row at
-  unfolding partText fieldsOpening
-  fields-opening-fits f =
-      record { room = omega (arith, f .room, opening-part-fields numbers number-place (fieldListAt depth (spellIn pool) cells row)) }
+    shallow-begun : Writing (partText pool cells numbers (termPart depth row) place) out end out′ (close ∷ [])
+    shallow-begun = first-written shallow-made (fits .room) begun
 
-  -- a field list that fits has a place below `largestTerm`
-  pub fields-inside : PartFits pool cells numbers (fieldsPart depth row) at number-place → number-place < largestTerm
-  fields-inside f = omega (arith, f .inside, f .few, size-some-fields (fieldListAt depth noSpell cells row))
+    -- with no depth left, the parenthesis fits
+    pub shallow-close-fits : Fits close (remains end out′)
+    shallow-close-fits = next-fits shallow-begun
+
+    -- and ends the text
+    pub shallow-printed : {count : ℕ} {rest : List ℕ} → Written close (remains end out′) count rest
+        → PartPrinted pool cells numbers (termPart depth row) place out (end + count) (place + 1) (withRest end out′ rest)
+    unfolding termAt size
+    shallow-printed = ends fits shallow-begun (rw shallow refl)
+
+-- a row is read, and what its term begins with is written
+pub record TermRow (pool cells numbers : List ℕ) (depth row place : ℕ) (out : List ℕ) (code first last end : ℕ) (out′ : List ℕ) : Type 0 where
+  pub fits : PartFits pool cells numbers (termPart depth row) place out
+  pub some : depth ≡ 0 → ⊥
+  pub read : code ≡ column cells row 0
+  pub one : first ≡ column cells row 1
+  pub two : last ≡ column cells row 2
+  pub begun : Written (termBeginning pool cells numbers depth row place) out end out′
+
+module _ {pool cells numbers out : List ℕ} {depth row place code first last end : ℕ} {out′ : List ℕ}
+    (r : TermRow pool cells numbers depth row place out code first last end out′) where
+  abbrev TermText : List ℕ
+  TermText = partText pool cells numbers (termPart depth row) place
+
+  abbrev Begins : List ℕ
+  Begins = termBeginning pool cells numbers depth row place
+
+  abbrev Printed : ℕ → ℕ → List ℕ → Type 0
+  Printed length place′ out″ = PartPrinted pool cells numbers (termPart depth row) place out length place′ out″
+
+  started : {piece : List ℕ} {ps : List (List ℕ)} → MadeOf TermText (Begins ∷ piece ∷ ps) → Writing TermText out end out′ (piece ∷ ps)
+  started made = first-written made (r .fits .room) (r .begun)
+
+  -- a variable or a number
+  module _ (others : (((Unit {0} × (code ≡ 0x21 → ⊥)) × (code ≡ 0x22 → ⊥)) × (code ≡ 0x23 → ⊥)) × (code ≡ 0x24 → ⊥)) where
+    bare-made : MadeOf TermText (Begins ∷ close ∷ [])
+    unfolding partText termBeginning labelled
+    bare-made =
+        rows.bare-row (spellIn pool) cells depth row (r .some) (r .read)
+        (λ t. MadeOf (print (labelled numbers place t)) (beginning (labelled numbers place t) ∷ close ∷ []))
+        (λ v. term-made _) (λ d. term-made _) (others .0 .0 .0 .1) (others .0 .0 .1) (others .0 .1) (others .1)
+
+    bare-size : size (termAt depth noSpell cells row) ≡ 1
+    unfolding size
+    bare-size =
+        rows.bare-row noSpell cells depth row (r .some) (r .read) (λ t. size t ≡ 1) (λ v. refl) (λ d. refl) (others .0 .0 .0 .1) (others .0 .0 .1)
+        (others .0 .1) (others .1)
+
+    -- the parenthesis fits
+    pub bare-close-fits : Fits close (remains end out′)
+    bare-close-fits = next-fits (started bare-made)
+
+    -- and ends the text
+    pub bare-printed : {count : ℕ} {rest : List ℕ} → Written close (remains end out′) count rest → Printed (end + count) (place + 1) (withRest end out′ rest)
+    bare-printed = ends (r .fits) (started bare-made) (omega (arith, bare-size))
+
+  -- a function
+  module _ (is : code ≡ 0x21) where
+    fun-made : MadeOf TermText (Begins ∷ partText pool cells numbers (termPart (depth - 1) last) (place + 1) ∷ close ∷ [])
+    unfolding partText termBeginning labelled
+    fun-made = rw (r .two, rows.fun-row (spellIn pool) cells depth row (r .some) (r .read) is, add-one place) (term-made _)
+
+    fun-size : size (termAt depth noSpell cells row) ≡ 1 + partSize cells (termPart (depth - 1) last)
+    unfolding size
+    fun-size = rw (r .two, rows.fun-row noSpell cells depth row (r .some) (r .read) is) (omega arith)
+
+    -- its body fits
+    pub fun-body-fits : PartFits pool cells numbers (termPart (depth - 1) last) (place + 1) (remains end out′)
+    fun-body-fits = part-fits (r .fits) (started fun-made) (omega (arith, fun-size))
+
+    module _ {count place′ : ℕ} {rest : List ℕ}
+        (body : PartPrinted pool cells numbers (termPart (depth - 1) last) (place + 1) (remains end out′) count place′ rest) where
+      fun-closing : Writing TermText out (end + count) (withRest end out′ rest) (close ∷ [])
+      fun-closing = next-written (started fun-made) (body .wrote)
+
+      -- behind it the parenthesis fits
+      pub fun-close-fits : Fits close (remains (end + count) (withRest end out′ rest))
+      fun-close-fits = next-fits fun-closing
+
+      -- and ends the text
+      pub fun-printed : {count′ : ℕ} {rest′ : List ℕ} → Written close (remains (end + count) (withRest end out′ rest)) count′ rest′
+          → Printed (end + count + count′) place′ (withRest (end + count) (withRest end out′ rest) rest′)
+      fun-printed = ends (r .fits) fun-closing (omega (arith, body .moved, fun-size))
+
+  -- a record
+  module _ (is : code ≡ 0x23) where
+    rcd-made : MadeOf TermText (Begins ∷ partText pool cells numbers (fieldsPart (depth - 1) first) (place + 1) ∷ close ∷ [])
+    unfolding partText termBeginning labelled
+    rcd-made = rw (r .one, rows.rcd-row (spellIn pool) cells depth row (r .some) (r .read) is, add-one place) (term-made _)
+
+    rcd-size : size (termAt depth noSpell cells row) ≡ 1 + partSize cells (fieldsPart (depth - 1) first)
+    unfolding size
+    rcd-size = rw (r .one, rows.rcd-row noSpell cells depth row (r .some) (r .read) is) (omega arith)
+
+    -- its fields fit
+    pub rcd-fields-fit : PartFits pool cells numbers (fieldsPart (depth - 1) first) (place + 1) (remains end out′)
+    rcd-fields-fit = part-fits (r .fits) (started rcd-made) (omega (arith, rcd-size))
+
+    module _ {count place′ : ℕ} {rest : List ℕ}
+        (fields : PartPrinted pool cells numbers (fieldsPart (depth - 1) first) (place + 1) (remains end out′) count place′ rest) where
+      rcd-closing : Writing TermText out (end + count) (withRest end out′ rest) (close ∷ [])
+      rcd-closing = next-written (started rcd-made) (fields .wrote)
+
+      -- behind them the parenthesis fits
+      pub rcd-close-fits : Fits close (remains (end + count) (withRest end out′ rest))
+      rcd-close-fits = next-fits rcd-closing
+
+      -- and ends the text
+      pub rcd-printed : {count′ : ℕ} {rest′ : List ℕ} → Written close (remains (end + count) (withRest end out′ rest)) count′ rest′
+          → Printed (end + count + count′) place′ (withRest (end + count) (withRest end out′ rest) rest′)
+      rcd-printed = ends (r .fits) rcd-closing (omega (arith, fields .moved, rcd-size))
+
+  abbrev First : Part
+  First = termPart (depth - 1) first
+
+  -- an application
+  module _ (is : code ≡ 0x22) where
+    app-made : {place′ : ℕ} → place′ ≡ place + 1 + partSize cells First
+        → MadeOf TermText
+        (Begins ∷ partText pool cells numbers First (place + 1) ∷ space ∷ partText pool cells numbers (termPart (depth - 1) last) place′ ∷ close ∷ [])
+    unfolding partText termBeginning labelled
+    app-made moved =
+        rw (
+          moved,
+          size-spell (depth - 1) noSpell (spellIn pool) cells first,
+          r .one,
+          r .two,
+          rows.app-row (spellIn pool) cells depth row (r .some) (r .read) is,
+          add-one place,
+        ) (term-made _)
+
+    app-size : size (termAt depth noSpell cells row) ≡ 1 + partSize cells First + partSize cells (termPart (depth - 1) last)
+    unfolding size
+    app-size = rw (r .one, r .two, rows.app-row noSpell cells depth row (r .some) (r .read) is) (omega arith)
+
+    -- its first term fits
+    pub app-first-fits : PartFits pool cells numbers First (place + 1) (remains end out′)
+    app-first-fits = part-fits (r .fits) (started (app-made refl)) (omega (arith, app-size))
+
+    module _ {count place′ : ℕ} {rest : List ℕ} (term : PartPrinted pool cells numbers First (place + 1) (remains end out′) count place′ rest) where
+      abbrev Behind : List ℕ
+      Behind = withRest end out′ rest
+
+      -- all but the space, the second term and the parenthesis is written
+      pub app-second : Writing TermText out (end + count) Behind (space ∷ partText pool cells numbers (termPart (depth - 1) last) place′ ∷ close ∷ [])
+      app-second = next-written (started (app-made (term .moved))) (term .wrote)
+
+      -- behind it the space fits
+      pub app-space-fits : Fits space (remains (end + count) Behind)
+      app-space-fits = next-fits app-second
+
+      module _ {count₂ : ℕ} {rest₂ : List ℕ} (spaced : Written space (remains (end + count) Behind) count₂ rest₂) where
+        abbrev Spaced : List ℕ
+        Spaced = withRest (end + count) Behind rest₂
+
+        -- then the second term
+        pub app-last-fits : PartFits pool cells numbers (termPart (depth - 1) last) place′ (remains (end + count + count₂) Spaced)
+        app-last-fits = part-fits (r .fits) (next-written app-second spaced) (omega (arith, app-size, term .moved))
+
+        module _ {count₃ place″ : ℕ} {rest₃ : List ℕ}
+            (other : PartPrinted pool cells numbers (termPart (depth - 1) last) place′ (remains (end + count + count₂) Spaced) count₃ place″ rest₃) where
+          -- all but the parenthesis is written
+          pub app-closing : Writing TermText out (end + count + count₂ + count₃) (withRest (end + count + count₂) Spaced rest₃) (close ∷ [])
+          app-closing = next-written (next-written app-second spaced) (other .wrote)
+
+          -- behind it the parenthesis fits
+          pub app-close-fits : Fits close (remains (end + count + count₂ + count₃) (withRest (end + count + count₂) Spaced rest₃))
+          app-close-fits = next-fits app-closing
+
+          -- and ends the text
+          pub app-printed : {count₄ : ℕ} {rest₄ : List ℕ}
+              → Written close (remains (end + count + count₂ + count₃) (withRest (end + count + count₂) Spaced rest₃)) count₄ rest₄
+              → Printed (end + count + count₂ + count₃ + count₄) place″
+              (withRest (end + count + count₂ + count₃) (withRest (end + count + count₂) Spaced rest₃) rest₄)
+          app-printed = ends (r .fits) app-closing (omega (arith, other .moved, term .moved, app-size))
+
+  -- a selection
+  module _ (is : code ≡ 0x24) where
+    dot-made : MadeOf TermText (Begins ∷ partText pool cells numbers First (place + 1) ∷ space ∷ spellIn pool last ∷ close ∷ [])
+    unfolding partText termBeginning labelled
+    dot-made = rw (r .one, r .two, rows.dot-row (spellIn pool) cells depth row (r .some) (r .read) is, add-one place) (term-made _)
+
+    dot-size : size (termAt depth noSpell cells row) ≡ 1 + partSize cells First
+    unfolding size
+    dot-size = rw (r .one, rows.dot-row noSpell cells depth row (r .some) (r .read) is) (omega arith)
+
+    -- its term fits
+    pub dot-term-fits : PartFits pool cells numbers First (place + 1) (remains end out′)
+    dot-term-fits = part-fits (r .fits) (started dot-made) (omega (arith, dot-size))
+
+    module _ {count place′ : ℕ} {rest : List ℕ} (term : PartPrinted pool cells numbers First (place + 1) (remains end out′) count place′ rest) where
+      abbrev Selected : List ℕ
+      Selected = withRest end out′ rest
+
+      -- all but the space, the label and the parenthesis is written
+      pub dot-second : Writing TermText out (end + count) Selected (space ∷ spellIn pool last ∷ close ∷ [])
+      dot-second = next-written (started dot-made) (term .wrote)
+
+      -- behind it the space fits
+      pub dot-space-fits : Fits space (remains (end + count) Selected)
+      dot-space-fits = next-fits dot-second
+
+      module _ {count₂ : ℕ} {rest₂ : List ℕ} (spaced : Written space (remains (end + count) Selected) count₂ rest₂) where
+        abbrev Parted : List ℕ
+        Parted = withRest (end + count) Selected rest₂
+
+        -- then the label
+        pub dot-label-fits : Fits (spellIn pool last) (remains (end + count + count₂) Parted)
+        dot-label-fits = next-fits (next-written dot-second spaced)
+
+        module _ {count₃ : ℕ} {rest₃ : List ℕ} (label : Written (spellIn pool last) (remains (end + count + count₂) Parted) count₃ rest₃) where
+          -- all but the parenthesis is written
+          pub dot-closing : Writing TermText out (end + count + count₂ + count₃) (withRest (end + count + count₂) Parted rest₃) (close ∷ [])
+          dot-closing = next-written (next-written dot-second spaced) label
+
+          -- behind it the parenthesis fits
+          pub dot-close-fits : Fits close (remains (end + count + count₂ + count₃) (withRest (end + count + count₂) Parted rest₃))
+          dot-close-fits = next-fits dot-closing
+
+          -- and ends the text
+          pub dot-printed : {count₄ : ℕ} {rest₄ : List ℕ}
+              → Written close (remains (end + count + count₂ + count₃) (withRest (end + count + count₂) Parted rest₃)) count₄ rest₄
+              → Printed (end + count + count₂ + count₃ + count₄) place′
+              (withRest (end + count + count₂ + count₃) (withRest (end + count + count₂) Parted rest₃) rest₄)
+          dot-printed = ends (r .fits) dot-closing (omega (arith, term .moved, dot-size))
+
+-- ------------------------------------------------------------------ field lists
+
+module _ {pool cells numbers out : List ℕ} {depth row place : ℕ} (fits : PartFits pool cells numbers (fieldsPart depth row) place out) where
+  -- a field list fits, so what it begins with does
+  pub begin-fields-fits : Fits (fieldsBeginning pool cells depth row) out
+  unfolding partText fieldsBeginning
+  begin-fields-fits =
+      let fields = fieldListAt depth (spellIn pool) cells row in
+      as-fits (sym (begins-alike numbers place fields)) (first-fits (fields-made (labelledFields numbers place fields)) (fits .room))
+
+  -- the place behind it is a number of 64 bits
+  pub fields-next : val.Fits w64 (place + 1)
+  fields-next = record { fits = omega (arith, fits .inside, fits .few, size-some-fields (fieldListAt depth noSpell cells row)) }
+
+  module _ {end : ℕ} {out′ : List ℕ} (begun : Written (fieldsBeginning pool cells depth row) out end out′) (shallow : depth ≡ 0) where
+    shallow-made-fields : MadeOf (partText pool cells numbers (fieldsPart depth row) place) (fieldsBeginning pool cells depth row ∷ close ∷ [])
+    unfolding partText fieldsBeginning fieldListAt labelledFields beginningFields
+    shallow-made-fields = rw shallow (fields-made _)
+
+    shallow-begun-fields : Writing (partText pool cells numbers (fieldsPart depth row) place) out end out′ (close ∷ [])
+    shallow-begun-fields = first-written shallow-made-fields (fits .room) begun
+
+    -- with no depth left, the parenthesis fits
+    pub shallow-close-fits-fields : Fits close (remains end out′)
+    shallow-close-fits-fields = next-fits shallow-begun-fields
+
+    -- and ends the text
+    pub shallow-printed-fields : {count : ℕ} {rest : List ℕ} → Written close (remains end out′) count rest
+        → PartPrinted pool cells numbers (fieldsPart depth row) place out (end + count) (place + 1) (withRest end out′ rest)
+    unfolding fieldListAt sizeFields
+    shallow-printed-fields = ends fits shallow-begun-fields (rw shallow refl)
+
+-- a row is read, and what its field list begins with is written
+pub record FieldsRow (pool cells numbers : List ℕ) (depth row place : ℕ) (out : List ℕ) (code end : ℕ) (out′ : List ℕ) : Type 0 where
+  pub fits : PartFits pool cells numbers (fieldsPart depth row) place out
+  pub some : depth ≡ 0 → ⊥
+  pub read : code ≡ column cells row 0
+  pub begun : Written (fieldsBeginning pool cells depth row) out end out′
+
+module _ {pool cells numbers out : List ℕ} {depth row place code end : ℕ} {out′ : List ℕ} (r : FieldsRow pool cells numbers depth row place out code end out′)
+  where
+    abbrev FieldsText : List ℕ
+    FieldsText = partText pool cells numbers (fieldsPart depth row) place
+
+    abbrev FieldsBegin : List ℕ
+    FieldsBegin = fieldsBeginning pool cells depth row
+
+    abbrev FieldsPrinted : ℕ → ℕ → List ℕ → Type 0
+    FieldsPrinted length place′ out″ = PartPrinted pool cells numbers (fieldsPart depth row) place out length place′ out″
+
+    started-fields : {piece : List ℕ} {ps : List (List ℕ)} → MadeOf FieldsText (FieldsBegin ∷ piece ∷ ps) → Writing FieldsText out end out′ (piece ∷ ps)
+    started-fields made = first-written made (r .fits .room) (r .begun)
+
+    -- the empty field list
+    module _ (other : code ≡ 0x26 → ⊥) where
+      nil-made : MadeOf FieldsText (FieldsBegin ∷ close ∷ [])
+      unfolding partText fieldsBeginning labelledFields beginningFields
+      nil-made = rw (rows.nil-row (spellIn pool) cells depth row (r .some) (r .read) other) (fields-made _)
+
+      -- the parenthesis fits
+      pub nil-close-fits : Fits close (remains end out′)
+      nil-close-fits = next-fits (started-fields nil-made)
+
+      -- and ends the text
+      pub nil-printed : {count : ℕ} {rest : List ℕ} → Written close (remains end out′) count rest
+          → FieldsPrinted (end + count) (place + 1) (withRest end out′ rest)
+      unfolding sizeFields
+      nil-printed = ends (r .fits) (started-fields nil-made) (rw (rows.nil-row noSpell cells depth row (r .some) (r .read) other) refl)
+
+    -- a field
+    module _ (is : code ≡ 0x26) {part : ℕ} (two : part ≡ column cells row 2) {others : ℕ} (three : others ≡ column cells row 3) where
+      abbrev Inner : Part
+      Inner = termPart (depth - 1) part
+
+      cons-made : {place′ : ℕ} → place′ ≡ place + 1 + partSize cells Inner
+          → MadeOf FieldsText
+          (FieldsBegin ∷ partText pool cells numbers Inner (place + 1) ∷ space
+          ∷ partText pool cells numbers (fieldsPart (depth - 1) others) place′ ∷ close ∷ [])
+      unfolding partText fieldsBeginning labelledFields beginningFields
+      cons-made moved =
+          rw (
+            moved,
+            size-spell (depth - 1) noSpell (spellIn pool) cells part,
+            two,
+            three,
+            rows.cons-row (spellIn pool) cells depth row (r .some) (r .read) is,
+            add-one place,
+          ) (fields-made _)
+
+      cons-size : sizeFields (fieldListAt depth noSpell cells row) ≡ 1 + partSize cells Inner + partSize cells (fieldsPart (depth - 1) others)
+      unfolding sizeFields
+      cons-size = rw (two, three, rows.cons-row noSpell cells depth row (r .some) (r .read) is) (omega arith)
+
+      -- its term fits
+      pub cons-term-fits : PartFits pool cells numbers Inner (place + 1) (remains end out′)
+      cons-term-fits = part-fits (r .fits) (started-fields (cons-made refl)) (omega (arith, cons-size))
+
+      module _ {count place′ : ℕ} {rest : List ℕ} (term : PartPrinted pool cells numbers Inner (place + 1) (remains end out′) count place′ rest) where
+        abbrev Held : List ℕ
+        Held = withRest end out′ rest
+
+        cons-second : Writing FieldsText out (end + count) Held (space ∷ partText pool cells numbers (fieldsPart (depth - 1) others) place′ ∷ close ∷ [])
+        cons-second = next-written (started-fields (cons-made (term .moved))) (term .wrote)
+
+        -- behind it the space fits
+        pub cons-space-fits : Fits space (remains (end + count) Held)
+        cons-space-fits = next-fits cons-second
+
+        module _ {count₂ : ℕ} {rest₂ : List ℕ} (spaced : Written space (remains (end + count) Held) count₂ rest₂) where
+          abbrev Next : List ℕ
+          Next = withRest (end + count) Held rest₂
+
+          -- then the fields behind it
+          pub cons-fields-fit : PartFits pool cells numbers (fieldsPart (depth - 1) others) place′ (remains (end + count + count₂) Next)
+          cons-fields-fit = part-fits (r .fits) (next-written cons-second spaced) (omega (arith, cons-size, term .moved))
+
+          module _ {count₃ place″ : ℕ} {rest₃ : List ℕ}
+              (fields : PartPrinted pool cells numbers (fieldsPart (depth - 1) others) place′ (remains (end + count + count₂) Next) count₃ place″ rest₃)
+            where
+              -- all but the parenthesis is written
+              pub cons-closing : Writing FieldsText out (end + count + count₂ + count₃) (withRest (end + count + count₂) Next rest₃) (close ∷ [])
+              cons-closing = next-written (next-written cons-second spaced) (fields .wrote)
+
+              -- behind them the parenthesis fits
+              pub cons-close-fits : Fits close (remains (end + count + count₂ + count₃) (withRest (end + count + count₂) Next rest₃))
+              cons-close-fits = next-fits cons-closing
+
+              -- and ends the text
+              pub cons-printed : {count₄ : ℕ} {rest₄ : List ℕ}
+                  → Written close (remains (end + count + count₂ + count₃) (withRest (end + count + count₂) Next rest₃)) count₄ rest₄
+                  → FieldsPrinted (end + count + count₂ + count₃ + count₄) place″
+                  (withRest (end + count + count₂ + count₃) (withRest (end + count + count₂) Next rest₃) rest₄)
+              cons-printed = ends (r .fits) cons-closing (omega (arith, fields .moved, term .moved, cons-size))

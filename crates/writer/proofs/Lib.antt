@@ -1,5 +1,5 @@
-pub mod WriteLaws
 pub mod Pieces
-pub mod OpeningLaws
+pub mod WriteLaws
+pub mod BeginningLaws
 pub mod PoolLaws
 pub mod SpellLaws

@@ -1,67 +1,71 @@
--- Writes one behind the other: a text that is written piece by piece.
-use Prim.Native.Nat.{ℕ, zero, suc, _+_, _-_, _^_, _<_, _≤_}
+-- A text that is written piece by piece, each piece at the front of what remains of the buffer.
+use Prim.Native.Nat.{ℕ, _+_, _-_, _≤_}
 use mathlib.Core.Path.{_≡_, refl, sym, ap, _∙_}
-use mathlib.Core.List.{List, [], _∷_, _++_, append-assoc}
-use native.Mathlib.Nat.{sub-self}
+use mathlib.Core.List.{List, [], _∷_, _++_, append-assoc, append-nil}
 use native.Mathlib.Omega.{arith}
-use lib.ListN.{length, length-append, length-replicate}
-use Rattle.rows.proofs.ListLaws.{sets-append}
-use Rattle.writer.specs.Openings.{closes, Wrote}
+use lib.ListN.{length, take, drop, length-append, length-drop, drop-of-length-le}
+use lib.Seq.{take-at, drop-at, take-all, drop-drop}
+use borrow.Rule.Slice.PartMut.{putMid, midOf}
+use Rattle.writer.specs.Writing.{Fits, Written}
 
--- bytes, and others behind them
-pub then : {out out₁ out₂ : List ℕ} {at end₁ end₂ : ℕ} {front behind : List ℕ} → Wrote out at front end₁ out₁ → Wrote out₁ end₁ behind end₂ out₂
-    → Wrote out at (front ++ behind) end₂ out₂
-then {out} {out₁} {out₂} {at} {end₁} {end₂} {front} {behind} h k =
-    let n : length (front ++ behind) ≡ length front + length behind = length-append front behind in
-    record {
-      end = omega (arith, h .end, k .end);
-      same = k .same ∙ h .same;
-      put =
-          λ l.
-          let first : at + length front ≤ length out = omega arith in
-          let second : end₁ + length behind ≤ length out₁ = omega (arith, h .end, h .same) in
-          cc (k .put second, h .put first, h .end, sets-append out at front behind);
-    }
+-- what remains of a buffer behind so many bytes, as it is lent
+abbrev pub remains : ℕ → List ℕ → List ℕ
+remains end out = midOf end (length out - end) out
 
--- what is written as a text is written as an equal one
-pub as-text : {out out′ : List ℕ} {at end : ℕ} {front behind : List ℕ} → front ≡ behind → Wrote out at front end out′ → Wrote out at behind end out′
-as-text {out} {out′} {at} {end} e h = rw e at h
+-- the buffer when that is back
+abbrev pub withRest : ℕ → List ℕ → List ℕ → List ℕ
+withRest end out rest = putMid end (length out - end) out rest
 
--- nothing is written
-pub nothing : {at : ℕ} (out : List ℕ) → Wrote out at [] at out
-nothing {at} out = record { end = omega arith; same = refl; put = λ h. refl }
+-- a text that stands in front is as long as its writer answers, and so within the buffer
+pub stands : {text out out′ : List ℕ} {count : ℕ} → count ≡ length text → out′ ≡ text ++ drop (length text) out → Written text out count out′
+stands {text} {out} counted placed =
+    record { counted = counted; placed = placed; within = omega (arith, counted, ap length placed, length-append text (drop (length text) out)) }
 
-closes-end : (count : ℕ) → closes count ++ 0x29 ∷ [] ≡ closes (suc count)
-closes-end zero = refl
-closes-end (suc count) = ap (λ s. 0x29 ∷ s) (closes-end count)
+module _ {front out out′ : List ℕ} {end : ℕ} (written : Written front out end out′) (fits : length front ≤ length out) where
+  -- the buffer keeps its length
+  pub same-length : length out′ ≡ length out
+  same-length =
+      omega (
+        arith,
+        ap length (written .placed),
+        length-append front (drop (length front) out),
+        length-drop (length front) out,
+      )
 
--- of some closing parentheses some are left
-pub record Closing (out : List ℕ) (at count : ℕ) (out′ : List ℕ) (end left : ℕ) : Type 0 where
-  -- no more than all
-  pub within : left ≤ count
-  -- the others are written from `at` to `end`
-  pub wrote : Wrote out at (closes (count - left)) end out′
+  -- what remains begins behind the text
+  behind : drop end out′ ≡ drop (length front) out
+  behind = ap (drop end) (written .placed) ∙ drop-at front (drop (length front) out) end (sym (written .counted))
 
--- all are left
-pub closing-start : (at count : ℕ) (out : List ℕ) → Closing out at count out at count
-closing-start at count out = record { within = omega arith; wrote = rw (sub-self count) (nothing out) }
+  before : take end out′ ≡ front
+  before = ap (take end) (written .placed) ∙ take-at front (drop (length front) out) end (sym (written .counted))
 
-module _ {out out′ : List ℕ} {at count end left : ℕ} (closing : Closing out at count out′ end left) where
-  -- all are not too long, so the next one is not
-  pub closing-room : at + count < 2 ^ 62 → 0 < left → end + 1 < 2 ^ 62
-  closing-room room some = omega (arith, closing .wrote .end, closing .within, length-replicate {A = ℕ} (count - left) 0x29)
+  left : length (drop end out′) ≡ length out′ - end
+  left = length-drop end out′
 
-  -- one more is written
-  pub closing-next : {out″ : List ℕ} {end′ : ℕ} → 0 < left → Wrote out′ end (0x29 ∷ []) end′ out″ → Closing out at count out″ end′ (left - 1)
-  closing-next some one =
-      let up : count - (left - 1) ≡ suc (count - left) = omega (arith, closing .within) in
-      record { within = omega (arith, closing .within); wrote = as-text (closes-end (count - left) ∙ ap closes (sym up)) (then (closing .wrote) one) }
+  -- all of it is lent
+  pub lent : remains end out′ ≡ drop (length front) out
+  lent = take-all (length out′ - end) (drop end out′) (omega (arith, left)) ∙ behind
 
-  -- where none is left, all are written
-  pub closing-end : left ≤ 0 → Wrote out at (closes count) end out′
-  closing-end none =
-      let all : count - left ≡ count = omega arith in
-      as-text (ap closes all) (closing .wrote)
+  nothing-else : drop (length out′ - end) (drop end out′) ≡ []
+  nothing-else =
+      let all : length (drop end out′) ≤ length out′ - end = omega (arith, left) in
+      drop-of-length-le (drop end out′) all
+
+  -- a text, and another that is written in what remains behind it
+  pub then : {piece rest : List ℕ} {count : ℕ} → Written piece (remains end out′) count rest
+      → Written (front ++ piece) out (end + count) (withRest end out′ rest)
+  then {piece} {rest} {count} more =
+      let sum : length (front ++ piece) ≡ length front + length piece = length-append front piece in
+      stands (omega (arith, written .counted, more .counted))
+      (cc (
+        before,
+        nothing-else,
+        more .placed,
+        lent,
+        append-nil (piece ++ drop (length piece) (drop (length front) out)),
+        append-assoc front piece (drop (length front + length piece) out),
+        drop-drop (length piece) (length front) out,
+      ))
 
 -- pieces of a text, joined
 abbrev pub joined : List (List ℕ) → List ℕ
@@ -69,35 +73,72 @@ joined [] = []
 joined (a ∷ []) = a
 joined (a ∷ b ∷ ps) = a ++ joined (b ∷ ps)
 
--- some of a text is written, and pieces of it are left
-pub record Going (out : List ℕ) (at : ℕ) (text : List ℕ) (end : ℕ) (out′ : List ℕ) (pieces : List (List ℕ)) : Type 0 where
-  -- what is written
-  pub done : List ℕ
-  -- the text is that and the pieces left
-  pub split : text ≡ done ++ joined pieces
-  -- it is written from `at` to `end`
-  pub wrote : Wrote out at done end out′
-
--- one piece more is written, and others are left
-pub go-next : {out out₁ out₂ : List ℕ} {at end₁ end₂ : ℕ} {piece next text : List ℕ} {ps : List (List ℕ)}
-    → Going out at text end₁ out₁ (piece ∷ next ∷ ps) → Wrote out₁ end₁ piece end₂ out₂ → Going out at text end₂ out₂ (next ∷ ps)
-go-next {piece = piece} {next = next} {ps = ps} g w =
-    record { done = g .done ++ piece; split = g .split ∙ sym (append-assoc (g .done) piece (joined (next ∷ ps))); wrote = then (g .wrote) w }
-
--- the last piece is written: the text is
-pub go-last : {out out₁ out₂ : List ℕ} {at end₁ end₂ : ℕ} {piece text : List ℕ}
-    → Going out at text end₁ out₁ (piece ∷ []) → Wrote out₁ end₁ piece end₂ out₂ → Wrote out at text end₂ out₂
-go-last g w = as-text (sym (g .split)) (then (g .wrote) w)
+-- a text is made of pieces
+pub record MadeOf (text : List ℕ) (pieces : List (List ℕ)) : Type 0 where
+  pub whole : text ≡ joined pieces
 
 length-first : (piece : List ℕ) (ps : List (List ℕ)) → length piece ≤ length (joined (piece ∷ ps))
 length-first piece [] = omega arith
 length-first piece (b ∷ ps) = omega (arith, length-append piece (joined (b ∷ ps)))
 
--- the text is not too long, so the next piece is not
-pub go-room : {out out₁ : List ℕ} {at end₁ : ℕ} {piece text : List ℕ} {ps : List (List ℕ)}
-    → Going out at text end₁ out₁ (piece ∷ ps) → at + length text < 2 ^ 62 → end₁ + length piece < 2 ^ 62
-go-room {piece = piece} {ps = ps} g h = omega (arith, g .wrote .end, ap length (g .split), length-append (g .done) (joined (piece ∷ ps)), length-first piece ps)
+-- some of a text is written, and pieces of it are left
+pub record Writing (text out : List ℕ) (end : ℕ) (out′ : List ℕ) (pieces : List (List ℕ)) : Type 0 where
+  -- the whole fits
+  pub fits : Fits text out
+  -- what is written
+  pub done : List ℕ
+  -- the text is that and the pieces left
+  pub split : text ≡ done ++ joined pieces
+  -- it stands in front
+  pub written : Written done out end out′
 
--- nothing is written yet
-pub go-start : {at : ℕ} {piece text : List ℕ} {ps : List (List ℕ)} (out : List ℕ) → text ≡ joined (piece ∷ ps) → Going out at text at out (piece ∷ ps)
-go-start out e = record { done = []; split = e; wrote = nothing out }
+-- what fits as a text fits as an equal one
+pub as-fits : {text text′ out : List ℕ} → text ≡ text′ → Fits text′ out → Fits text out
+as-fits e fits = record { room = omega (arith, ap length e, fits .room) }
+
+-- what is written as a text is written as an equal one
+pub as-text : {text text′ out out′ : List ℕ} {end : ℕ} → text ≡ text′ → Written text out end out′ → Written text′ out end out′
+as-text e written = rw e at written
+
+-- the first piece fits, if the whole does
+pub first-fits : {piece text out : List ℕ} {ps : List (List ℕ)} → MadeOf text (piece ∷ ps) → Fits text out → Fits piece out
+first-fits {piece} {ps = ps} made fits = record { room = omega (arith, ap length (made .whole), length-first piece ps, fits .room) }
+
+-- the first piece is written, and others are left
+pub first-written : {piece next text out out′ : List ℕ} {end : ℕ} {ps : List (List ℕ)} → MadeOf text (piece ∷ next ∷ ps) → Fits text out
+    → Written piece out end out′ → Writing text out end out′ (next ∷ ps)
+first-written {piece} made fits written = record { fits = fits; done = piece; split = made .whole; written = written }
+
+module _ {text out out′ : List ℕ} {end : ℕ} {ps : List (List ℕ)} (writing : Writing text out end out′ ps) where
+  all : length text ≡ length (writing .done) + length (joined ps)
+  all = ap length (writing .split) ∙ length-append (writing .done) (joined ps)
+
+  -- what is written fits
+  pub done-within : length (writing .done) ≤ length out
+  done-within = omega (arith, all, writing .fits .room)
+
+module _ {text out out′ piece : List ℕ} {end : ℕ} {ps : List (List ℕ)} (writing : Writing text out end out′ (piece ∷ ps)) where
+  -- the next piece fits what remains
+  pub next-fits : Fits piece (remains end out′)
+  next-fits =
+      record {
+        room = rw (lent (writing .written) (done-within writing), length-drop) (omega (arith, all writing, writing .fits .room, length-first piece ps));
+      }
+
+-- the next piece is written, and others are left
+pub next-written : {text out out′ piece next rest : List ℕ} {end count : ℕ} {ps : List (List ℕ)} → Writing text out end out′ (piece ∷ next ∷ ps)
+    → Written piece (remains end out′) count rest
+    → Writing text out (end + count) (withRest end out′ rest) (next ∷ ps)
+next-written {piece = piece} {next = next} {ps = ps} writing more =
+    record {
+      fits = writing .fits;
+      done = writing .done ++ piece;
+      split = writing .split ∙ sym (append-assoc (writing .done) piece (joined (next ∷ ps)));
+      written = then (writing .written) (done-within writing) more;
+    }
+
+-- the last piece is written: the text is
+pub last-written : {text out out′ piece rest : List ℕ} {end count : ℕ} → Writing text out end out′ (piece ∷ [])
+    → Written piece (remains end out′) count rest
+    → Written text out (end + count) (withRest end out′ rest)
+last-written writing more = as-text (sym (writing .split)) (then (writing .written) (done-within writing) more)

@@ -14,7 +14,7 @@ use Rattle.grammar.specs.Lookup.{lexiconOf}
 use Rattle.grammar.proofs.ReaderLaws.{getD-past}
 use Rattle.tokens.specs.Tokens.{spelled}
 use Rattle.terms.specs.Names.{Distinct}
-use Rattle.writer.specs.Openings.{spellingRoom}
+use Rattle.writer.specs.Pool.{spellingRoom}
 use Rattle.writer.specs.Pool.{firstWord}
 use Rattle.spellings.specs.Bytes.{longestWord}
 use Rattle.writer.specs.Pool.{oneOf, Words, spelledBy}

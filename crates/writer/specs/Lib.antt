@@ -1,2 +1,3 @@
-pub mod Openings
+pub mod Writing
 pub mod Pool
+pub mod Beginnings

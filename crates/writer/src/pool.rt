@@ -1,6 +1,6 @@
 // Spellings by their numbers, in a room.
-use crate::writing::byte_at;
-use crate::writing::copy_at;
+use crate::writing::write_byte;
+use crate::writing::write_bytes;
 use grammar::codes::KEYWORD_TAG;
 use grammar::codes::OUTSIDE_TAG;
 use grammar::limits::MOST_OUTSIDES;
@@ -16,8 +16,7 @@ ghost use lib.ListN.{length};
 ghost use lib.Seq.{sets};
 ghost use Rattle.grammar.specs.Lookup.{lexiconOf};
 ghost use Rattle.tokens.specs.Tokens.{mostTokens};
-ghost use Rattle.writer.specs.Openings.{spellingRoom, spellIn};
-ghost use Rattle.writer.specs.Pool.{firstWord, Pooled, noneOf, oneOf, filledTo, Fillable};
+ghost use Rattle.writer.specs.Pool.{spellingRoom, spellIn, firstWord, oneOf, storedFrom, filled, Fillable};
 
 // The bytes of a spelling number: the length of a spelling, and the longest spelling.
 pub const SPELLING_ROOM: usize = LONGEST_WORD + 1;
@@ -26,7 +25,7 @@ pub const SPELLING_ROOM: usize = LONGEST_WORD + 1;
 pub const OUTSIDES: usize = MOST_OUTSIDES as usize;
 
 // The spelling of a spelling number.
-pub(crate) fn spelling(pool: &[u8], n: u32) -> &[u8]
+pub fn spelling(pool: &[u8], n: u32) -> &[u8]
     ensures { λ r. ⌜ now r ≡ spellIn (now (pool .entry)) n ⌝ }
 {
     let i = (n as usize) * SPELLING_ROOM;
@@ -47,16 +46,15 @@ fn store(pool: &mut [u8], i: usize, s: &[u8])
     ensures { λ _. ⌜ now (pool .exit) ≡ sets (now (pool .entry)) (i * spellingRoom) (length (now (s .entry)) ∷ now (s .entry)) ⌝ }
 {
     let at = i * SPELLING_ROOM;
-    let first = byte_at(pool, at, narrow(s.len()));
-    copy_at(pool, first, s);
+    let first = at + write_byte(&mut pool[at..], narrow(s.len()));
+    write_bytes(&mut pool[first..], s);
 }
 
 // The table's outside names.
 fn fill_outsides(table: &[u8], pool: &mut [u8])
     requires { ⌜ firstWord * spellingRoom ≤ length (now pool) ⌝ }
-    requires { ⌜ Pooled (now pool) noneOf ⌝ }
     requires { ⌜ ((m : ℕ) → length (oneOf (lexiconOf (now table) .outsides) m) < spellingRoom) ⌝ }
-    ensures { λ _. ⌜ Pooled (now (pool .exit)) (oneOf (lexiconOf (now (table .entry)) .outsides)) ⌝ }
+    ensures { λ _. ⌜ now (pool .exit) ≡ storedFrom (now (pool .entry)) 0 (lexiconOf (now (table .entry)) .outsides) ⌝ }
 {
     let start = grammar::after_leading(table, KEYWORD_TAG);
     let mut at = start;
@@ -86,10 +84,7 @@ fn fill_outsides(table: &[u8], pool: &mut [u8])
 // The table's outside names, and the formula's words, whose offsets and lengths stand in `words`.
 pub fn fill(table: &[u8], formula: &[u8], words: &[u32], count: usize, pool: &mut [u8])
     requires { ⌜ Fillable (now table) (now formula) (now words) count (now pool) ⌝ }
-    ensures { λ _. ⌜
-        Pooled (now (pool .exit))
-        (filledTo (lexiconOf (now (table .entry)) .outsides) (now (formula .entry)) (now (words .entry)) count)
-        ⌝ }
+    ensures { λ _. ⌜ now (pool .exit) ≡ filled (now (table .entry)) (now (formula .entry)) (now (words .entry)) count (now (pool .entry)) ⌝ }
 {
     fill_outsides(table, pool);
     let mut i: usize = 0;

@@ -1,13 +1,11 @@
--- `print_term` and `print_fields`: what a constructor begins with, then its parts; the last part takes the parenthesis along. The depth bound
--- falls from a constructor to its parts.
-use Prim.Native.Nat.{ℕ, _+_, _-_, _<_}
-use mathlib.Core.Path.{refl, _∙_}
-use native.Mathlib.Nat.{sub-self}
+-- `print_term` and `print_fields`: what a constructor begins with, its parts and the parenthesis, each in what remains. The depth bound falls from a
+-- constructor to its parts.
+use Prim.Native.Nat.{ℕ, _<_}
 use native.Mathlib.Omega.{arith}
 use borrow.Author.Needs.{needs}
 use borrow.Fn.Kinds.{In}
 use borrow.Fn.PlainCycle.{Measures, is, falls, and}
-use Rattle.printing.specs.PrintedParts.{termPart}
+use Rattle.writer.proofs.Pieces.{next-written}
 use Rattle.printing.proofs.PrintLaws as laws
 use Rattle.printing.proofs.print_fields.Reads as print-fields
 use Rattle.printing.proofs.print_fields.Kinds as print-fields-kinds
@@ -16,19 +14,18 @@ use Rattle.printing.proofs.print_term.Reads as print-term
 use Rattle.printing.proofs.print_term.Kinds as print-term-kinds
 use Rattle.printing.proofs.+print_fields+print_term.Lts-print_term as term-lts
 use Rattle.rows.proofs.column.Reads as column-reads
-use Rattle.writer.proofs.openings.label_at.Reads as label-at-reads
-use Rattle.writer.proofs.openings.open_fields.Reads as open-fields-reads
-use Rattle.writer.proofs.openings.open_term.Reads as open-term-reads
-use Rattle.writer.proofs.writing.byte_at.Reads as byte-at-reads
-use Rattle.writer.proofs.writing.close_at.Reads as close-at-reads
+use Rattle.writer.proofs.beginnings.begin_fields.Reads as begin-fields-reads
+use Rattle.writer.proofs.beginnings.begin_term.Reads as begin-term-reads
+use Rattle.writer.proofs.beginnings.write_label.Reads as write-label-reads
+use Rattle.writer.proofs.writing.write_byte.Reads as write-byte-reads
 use Rattle.printing.proofs.+print_fields+print_term.{statement}
 use Rattle.printing.proofs.+print_fields+print_term.Tie.{close}
 
 abbrev μ-fields : Measures 8 print-fields-kinds.ps ℕ
-μ-fields κs a = let from-cells = a .1 .1 .1 in from-cells .1 .1 .0
+μ-fields κs a = a .1 .1 .1 .1 .0
 
 abbrev μ-term : Measures 8 print-term-kinds.ps ℕ
-μ-term κs a = let from-cells = a .1 .1 .1 in from-cells .1 .1 .0
+μ-term κs a = a .1 .1 .1 .1 .0
 
 abbrev fields-at : ℕ → In 8 print-fields-kinds.ps
 fields-at t = and 8 print-fields-kinds.ps (is 8 print-fields-kinds.ps μ-fields t) print-fields.Pre
@@ -42,14 +39,12 @@ term-at t = and 8 print-term-kinds.ps (is 8 print-term-kinds.ps μ-term t) print
 abbrev term-below : ℕ → In 8 print-term-kinds.ps
 term-below t = and 8 print-term-kinds.ps (falls 8 print-term-kinds.ps _<_ μ-term t) print-term.Pre
 
--- ------------------------------------------------------------------ field lists
-
 abbrev fields-claims : ℕ → fields-lts.Claims
 fields-claims t = (
-  open-fields-reads.Asked,
-  open-fields-reads.Learnt,
-  byte-at-reads.Asked,
-  byte-at-reads.Learnt,
+  begin-fields-reads.Asked,
+  begin-fields-reads.Learnt,
+  write-byte-reads.Asked,
+  write-byte-reads.Learnt,
   column-reads.Asked,
   column-reads.Learnt,
   term-below t,
@@ -57,618 +52,594 @@ fields-claims t = (
   fields-below t,
   print-fields.Post,
 )
-
--- places, each from a later one
-abbrev else1 : {measure : ℕ} → fields-lts.After-column (fields-claims measure) (fields-at measure) print-fields.Post
-    → fields-lts.Else1 (fields-claims measure) (fields-at measure) print-fields.Post
-else1 p = p .before .before
-
-abbrev then2 : {measure : ℕ} → fields-lts.After-column2 (fields-claims measure) (fields-at measure) print-fields.Post
-    → fields-lts.Then2 (fields-claims measure) (fields-at measure) print-fields.Post
-then2 p = p .before .before
-
-abbrev after-column3 : {measure : ℕ} → fields-lts.After-print-fields-arg2 (fields-claims measure) (fields-at measure) print-fields.Post
-    → fields-lts.After-column3 (fields-claims measure) (fields-at measure) print-fields.Post
-after-column3 p = p .before .before
-
-abbrev after-print-term : {measure : ℕ} → fields-lts.After-byte-at-arg2 (fields-claims measure) (fields-at measure) print-fields.Post
-    → fields-lts.After-print-term (fields-claims measure) (fields-at measure) print-fields.Post
-after-print-term p = p .before .before .before
-
-abbrev after-print-fields : {measure : ℕ} → fields-lts.After-byte-at-arg3 (fields-claims measure) (fields-at measure) print-fields.Post
-    → fields-lts.After-print-fields (fields-claims measure) (fields-at measure) print-fields.Post
-after-print-fields p = p .before .before .before
-
-abbrev after-column : {measure : ℕ} → fields-lts.After-column2 (fields-claims measure) (fields-at measure) print-fields.Post
-    → fields-lts.After-column (fields-claims measure) (fields-at measure) print-fields.Post
-after-column p = (then2 p) .before
-
-abbrev after-column2 : {measure : ℕ} → fields-lts.After-print-term (fields-claims measure) (fields-at measure) print-fields.Post
-    → fields-lts.After-column2 (fields-claims measure) (fields-at measure) print-fields.Post
-after-column2 p = p .before .before .before
-
-abbrev after-open-fields′ : {measure : ℕ} → fields-lts.Then1 (fields-claims measure) (fields-at measure) print-fields.Post
-    → fields-lts.After-open-fields (fields-claims measure) (fields-at measure) print-fields.Post
-after-open-fields′ p = p .before .before .before
-
-abbrev after-print-term′ : {measure : ℕ} → fields-lts.After-byte-at2 (fields-claims measure) (fields-at measure) print-fields.Post
-    → fields-lts.After-print-term (fields-claims measure) (fields-at measure) print-fields.Post
-after-print-term′ p = after-print-term (p .before)
-
-abbrev after-byte-at2 : {measure : ℕ} → fields-lts.After-column3 (fields-claims measure) (fields-at measure) print-fields.Post
-    → fields-lts.After-byte-at2 (fields-claims measure) (fields-at measure) print-fields.Post
-after-byte-at2 p = p .before .before .before .before
-
-abbrev at-start : {measure : ℕ} → fields-lts.After-open-fields (fields-claims measure) (fields-at measure) print-fields.Post
-    → fields-lts.Start (fields-claims measure) (fields-at measure) print-fields.Post
-at-start p = p .before .before .before .before
-
-abbrev after-open-fields : {measure : ℕ} → fields-lts.After-column (fields-claims measure) (fields-at measure) print-fields.Post
-    → fields-lts.After-open-fields (fields-claims measure) (fields-at measure) print-fields.Post
-after-open-fields p = (else1 p) .before .before .before
-
-fields-open-fields-requires : (measure : ℕ) → fields-lts.Need-open-fields-requires (fields-claims measure) (fields-at measure) print-fields.Post
-fields-open-fields-requires t c κs = laws.fields-opening-fits (c .before .before .before .pre .1)
-
-fields-add-place : (measure : ℕ) → fields-lts.Need-add-place (fields-claims measure) (fields-at measure) print-fields.Post
-fields-add-place t c =
-    let entry = at-start (c .before .before) in
-    omega (arith, laws.fields-inside (entry .pre .1))
-
-fields-byte-at-requires : (measure : ℕ) → fields-lts.Need-byte-at-requires (fields-claims measure) (fields-at measure) print-fields.Post
-fields-byte-at-requires t c κs =
-    let at-open-fields = after-open-fields′ (c .before) in
-    let entry = at-start at-open-fields in
-    laws.next-room
-    (laws.opened-shallow-fields (at-open-fields .open-fields .ensures) (c .before .if1 .taken))
-    (entry .pre .1)
-
-fields-same-length : (measure : ℕ) → fields-lts.Need-same-length (fields-claims measure) (fields-at measure) print-fields.Post
-fields-same-length t c =
-    let byte-at-place = c .before .before in
-    let at-open-fields = after-open-fields′ (byte-at-place .before .before) in
-    byte-at-place .byte-at .ensures .same ∙ at-open-fields .open-fields .ensures .same
-
-fields-returns : (measure : ℕ) → fields-lts.Need-returns (fields-claims measure) (fields-at measure) print-fields.Post
-fields-returns t c =
-    let byte-at-place = c .before .before in
-    let at-if1 = byte-at-place .before .before in
-    let at-open-fields = after-open-fields′ at-if1 in
-    laws.all-printed
-    (laws.next-text
-    (laws.opened-shallow-fields (at-open-fields .open-fields .ensures) (at-if1 .if1 .taken))
-    (byte-at-place .byte-at .ensures))
-
-fields-sub-deep : (measure : ℕ) → fields-lts.Need-sub-deep (fields-claims measure) (fields-at measure) print-fields.Post
-fields-sub-deep t c = omega (arith, c .if1 .left)
-
-fields-column-requires : (measure : ℕ) → fields-lts.Need-column-requires (fields-claims measure) (fields-at measure) print-fields.Post
-fields-column-requires t c κs = search needs
-
-fields-column-requires-2 : (measure : ℕ) → fields-lts.Need-column-requires-2 (fields-claims measure) (fields-at measure) print-fields.Post
-fields-column-requires-2 t c κs = search needs
-
-fields-print-term-requires : (measure : ℕ) → fields-lts.Need-print-term-requires (fields-claims measure) (fields-at measure) print-fields.Post
-fields-print-term-requires t c κs =
-    let column2-place = c .before .before in
-    let at-if2 = then2 column2-place in
-    let at-column = after-column column2-place in
-    let at-if1 = else1 at-column in
-    let at-open-fields = after-open-fields at-column in
-    let entry = at-start at-open-fields in (
-      omega (arith, entry .pre .0),
-      laws.next-fits
-          (laws.opened-cons (at-open-fields .open-fields .ensures) (at-if1 .if1 .left) (at-column .column .ensures) (at-if2 .if2 .taken)
-          (column2-place .column2 .ensures) refl)
-          (entry .pre .1),
-    )
-
-fields-byte-at-requires-2 : (measure : ℕ) → fields-lts.Need-byte-at-requires-2 (fields-claims measure) (fields-at measure) print-fields.Post
-fields-byte-at-requires-2 t c κs =
-    let print-term-place = after-print-term c in
-    let at-column2 = after-column2 print-term-place in
-    let at-if2 = then2 at-column2 in
-    let at-column = after-column at-column2 in
-    let at-if1 = else1 at-column in
-    let at-open-fields = after-open-fields at-column in
-    let entry = at-start at-open-fields in
-    laws.next-room
-    (laws.next-part
-    (laws.opened-cons (at-open-fields .open-fields .ensures) (at-if1 .if1 .left) (at-column .column .ensures) (at-if2 .if2 .taken)
-    (at-column2 .column2 .ensures) refl)
-    (print-term-place .print-term .ensures))
-    (entry .pre .1)
-
-fields-column-requires-3 : (measure : ℕ) → fields-lts.Need-column-requires-3 (fields-claims measure) (fields-at measure) print-fields.Post
-fields-column-requires-3 t c κs = search needs
-
-fields-print-fields-requires : (measure : ℕ) → fields-lts.Need-print-fields-requires (fields-claims measure) (fields-at measure) print-fields.Post
-fields-print-fields-requires t c κs =
-    let column3-place = after-column3 c in
-    let at-byte-at2 = after-byte-at2 column3-place in
-    let at-print-term = after-print-term′ at-byte-at2 in
-    let at-column2 = after-column2 at-print-term in
-    let at-if2 = then2 at-column2 in
-    let at-column = after-column at-column2 in
-    let at-if1 = else1 at-column in
-    let at-open-fields = after-open-fields at-column in
-    let entry = at-start at-open-fields in (
-      omega (arith, entry .pre .0),
-      laws.next-fits
-          (laws.next-text
-          (laws.next-part
-          (laws.opened-cons (at-open-fields .open-fields .ensures) (at-if1 .if1 .left) (at-column .column .ensures) (at-if2 .if2 .taken)
-          (at-column2 .column2 .ensures) (column3-place .column3 .ensures))
-          (at-print-term .print-term .ensures))
-          (at-byte-at2 .byte-at2 .ensures))
-          (entry .pre .1),
-    )
-
-fields-byte-at-requires-3 : (measure : ℕ) → fields-lts.Need-byte-at-requires-3 (fields-claims measure) (fields-at measure) print-fields.Post
-fields-byte-at-requires-3 t c κs =
-    let print-fields-place = after-print-fields c in
-    let at-column3 = after-column3 (print-fields-place .before) in
-    let at-byte-at2 = after-byte-at2 at-column3 in
-    let at-print-term = after-print-term′ at-byte-at2 in
-    let at-column2 = after-column2 at-print-term in
-    let at-if2 = then2 at-column2 in
-    let at-column = after-column at-column2 in
-    let at-if1 = else1 at-column in
-    let at-open-fields = after-open-fields at-column in
-    let entry = at-start at-open-fields in
-    laws.next-room
-    (laws.next-part
-    (laws.next-text
-    (laws.next-part
-    (laws.opened-cons (at-open-fields .open-fields .ensures) (at-if1 .if1 .left) (at-column .column .ensures) (at-if2 .if2 .taken)
-    (at-column2 .column2 .ensures) (at-column3 .column3 .ensures))
-    (at-print-term .print-term .ensures))
-    (at-byte-at2 .byte-at2 .ensures))
-    (print-fields-place .print-fields .ensures))
-    (entry .pre .1)
-
-fields-same-length-2 : (measure : ℕ) → fields-lts.Need-same-length-2 (fields-claims measure) (fields-at measure) print-fields.Post
-fields-same-length-2 t c =
-    let byte-at3-place = c .before .before in
-    let at-print-fields = after-print-fields (byte-at3-place .before) in
-    let at-byte-at2 = after-byte-at2 (after-column3 (at-print-fields .before)) in
-    let at-print-term = after-print-term′ at-byte-at2 in
-    let at-open-fields = after-open-fields (after-column (after-column2 at-print-term)) in
-    byte-at3-place .byte-at3 .ensures .same ∙ at-print-fields .print-fields .ensures .wrote .same ∙ at-byte-at2 .byte-at2 .ensures .same
-    ∙ at-print-term .print-term .ensures .wrote .same ∙ at-open-fields .open-fields .ensures .same
-
-fields-returns-2 : (measure : ℕ) → fields-lts.Need-returns-2 (fields-claims measure) (fields-at measure) print-fields.Post
-fields-returns-2 t c =
-    let byte-at3-place = c .before .before in
-    let at-print-fields = after-print-fields (byte-at3-place .before) in
-    let at-column3 = after-column3 (at-print-fields .before) in
-    let at-byte-at2 = after-byte-at2 at-column3 in
-    let at-print-term = after-print-term′ at-byte-at2 in
-    let at-column2 = after-column2 at-print-term in
-    let at-if2 = then2 at-column2 in
-    let at-column = after-column at-column2 in
-    let at-if1 = else1 at-column in
-    let at-open-fields = after-open-fields at-column in
-    laws.all-printed
-    (laws.next-text
-    (laws.next-part
-    (laws.next-text
-    (laws.next-part
-    (laws.opened-cons (at-open-fields .open-fields .ensures) (at-if1 .if1 .left) (at-column .column .ensures) (at-if2 .if2 .taken)
-    (at-column2 .column2 .ensures) (at-column3 .column3 .ensures))
-    (at-print-term .print-term .ensures))
-    (at-byte-at2 .byte-at2 .ensures))
-    (at-print-fields .print-fields .ensures))
-    (byte-at3-place .byte-at3 .ensures))
-
-fields-byte-at-requires-4 : (measure : ℕ) → fields-lts.Need-byte-at-requires-4 (fields-claims measure) (fields-at measure) print-fields.Post
-fields-byte-at-requires-4 t c κs =
-    let column-place = c .before .before in
-    let at-if1 = else1 column-place in
-    let at-open-fields = after-open-fields column-place in
-    let entry = at-start at-open-fields in
-    laws.next-room
-    (laws.opened-nil (at-open-fields .open-fields .ensures) (at-if1 .if1 .left) (column-place .column .ensures) (c .before .if2 .left))
-    (entry .pre .1)
-
-fields-same-length-3 : (measure : ℕ) → fields-lts.Need-same-length-3 (fields-claims measure) (fields-at measure) print-fields.Post
-fields-same-length-3 t c =
-    let byte-at4-place = c .before .before in
-    let at-open-fields = after-open-fields (byte-at4-place .before .before .before) in
-    byte-at4-place .byte-at4 .ensures .same ∙ at-open-fields .open-fields .ensures .same
-
-fields-returns-3 : (measure : ℕ) → fields-lts.Need-returns-3 (fields-claims measure) (fields-at measure) print-fields.Post
-fields-returns-3 t c =
-    let byte-at4-place = c .before .before in
-    let at-if2 = byte-at4-place .before .before in
-    let at-column = at-if2 .before in
-    let at-if1 = else1 at-column in
-    let at-open-fields = after-open-fields at-column in
-    laws.all-printed
-    (laws.next-text
-    (laws.opened-nil (at-open-fields .open-fields .ensures) (at-if1 .if1 .left) (at-column .column .ensures) (at-if2 .if2 .left))
-    (byte-at4-place .byte-at4 .ensures))
-
--- ------------------------------------------------------------------ terms
 
 abbrev term-claims : ℕ → term-lts.Claims
 term-claims t = (
   column-reads.Asked,
   column-reads.Learnt,
-  open-term-reads.Asked,
-  open-term-reads.Learnt,
-  close-at-reads.Asked,
-  close-at-reads.Learnt,
+  begin-term-reads.Asked,
+  begin-term-reads.Learnt,
+  write-byte-reads.Asked,
+  write-byte-reads.Learnt,
   term-below t,
   print-term.Post,
-  byte-at-reads.Asked,
-  byte-at-reads.Learnt,
-  label-at-reads.Asked,
-  label-at-reads.Learnt,
   fields-below t,
   print-fields.Post,
+  write-label-reads.Asked,
+  write-label-reads.Learnt,
 )
 
-abbrev term-inv : term-lts.InvT-loop
-term-inv out₀ at pool cells shown bound row place₀ end₀ deep₀ part₀ out place end deep part =
-    laws.Spine (pool .now) (cells .now) (shown .now) (termPart bound row 0) at place₀ out₀ bound out place end deep (termPart deep part (bound - deep))
-
-abbrev term-μ : term-lts.MeasureT-loop
-term-μ out₀ at pool cells shown bound row place₀ end₀ deep₀ part₀ out place end deep part = deep
+-- ------------------------------------------------------------------ field lists
 
 -- places, each from a later one
-abbrev term-code : {measure : ℕ} → term-lts.After-open-term (term-claims measure) (term-at measure) print-term.Post term-inv term-μ
-    → term-lts.After-column (term-claims measure) (term-at measure) print-term.Post term-inv term-μ
+abbrev fields-some : {t : ℕ} → fields-lts.After-column (fields-claims t) (fields-at t) print-fields.Post
+    → fields-lts.Else1 (fields-claims t) (fields-at t) print-fields.Post
+fields-some p = p .before .before
+
+abbrev fields-begun : {t : ℕ} → fields-lts.Else1 (fields-claims t) (fields-at t) print-fields.Post
+    → fields-lts.After-begin-fields (fields-claims t) (fields-at t) print-fields.Post
+fields-begun p = p .before .before .before
+
+abbrev fields-entry : {t : ℕ} → fields-lts.After-begin-fields (fields-claims t) (fields-at t) print-fields.Post
+    → fields-lts.Start (fields-claims t) (fields-at t) print-fields.Post
+fields-entry p = p .before .before .before .before
+
+abbrev fields-from : {t : ℕ} → fields-lts.After-column (fields-claims t) (fields-at t) print-fields.Post
+    → fields-lts.Start (fields-claims t) (fields-at t) print-fields.Post
+fields-from p = fields-entry (fields-begun (fields-some p))
+
+abbrev cons-is : {t : ℕ} → fields-lts.After-column3 (fields-claims t) (fields-at t) print-fields.Post
+    → fields-lts.Then2 (fields-claims t) (fields-at t) print-fields.Post
+cons-is p = p .before .before .before .before
+
+abbrev cons-read : {t : ℕ} → fields-lts.After-print-term (fields-claims t) (fields-at t) print-fields.Post
+    → fields-lts.After-column3 (fields-claims t) (fields-at t) print-fields.Post
+cons-read p = p .before .before .before
+
+abbrev cons-printed : {t : ℕ} → fields-lts.After-write-byte2 (fields-claims t) (fields-at t) print-fields.Post
+    → fields-lts.After-print-term (fields-claims t) (fields-at t) print-fields.Post
+cons-printed p = p .before .before .before .before
+
+abbrev cons-spaced : {t : ℕ} → fields-lts.After-print-fields (fields-claims t) (fields-at t) print-fields.Post
+    → fields-lts.After-write-byte2 (fields-claims t) (fields-at t) print-fields.Post
+cons-spaced p = p .before .before .before .before .before
+
+abbrev cons-others : {t : ℕ} → fields-lts.After-write-byte3 (fields-claims t) (fields-at t) print-fields.Post
+    → fields-lts.After-print-fields (fields-claims t) (fields-at t) print-fields.Post
+cons-others p = p .before .before .before .before
+
+abbrev cons-from : {t : ℕ} → fields-lts.After-print-fields (fields-claims t) (fields-at t) print-fields.Post
+    → fields-lts.Start (fields-claims t) (fields-at t) print-fields.Post
+cons-from p = fields-from (cons-is (cons-read (cons-printed (cons-spaced p))) .before)
+
+-- the row that is read
+fields-row : (t : ℕ) (p : fields-lts.After-column (fields-claims t) (fields-at t) print-fields.Post)
+    → laws.FieldsRow (fields-from p .args .pool .now .now) (fields-from p .args .cells .now .now) (fields-from p .args .shown .now .now)
+    (fields-from p .args .bound) (fields-from p .args .row) (fields-from p .args .place .now) (fields-from p .args .out .now) (p .column .result)
+    (fields-begun (fields-some p) .begin-fields .result) (fields-begun (fields-some p) .begin-fields .last .0)
+fields-row t p =
+    record {
+      fits = fields-from p .pre .1;
+      some = fields-some p .if1 .left;
+      read = p .column .ensures;
+      begun = fields-begun (fields-some p) .begin-fields .ensures;
+    }
+
+fields-print-term-requires : (t : ℕ) → fields-lts.Need-print-term-requires (fields-claims t) (fields-at t) print-fields.Post
+fields-print-term-requires t c κs =
+    let read = c .before .before in
+    let is-cons = cons-is read in (
+      omega (arith, fields-from (is-cons .before) .pre .0, fields-some (is-cons .before) .if1 .left),
+      laws.cons-term-fits (fields-row t (is-cons .before)) (is-cons .if2 .taken) (read .before .before .column2 .ensures) (read .column3 .ensures),
+    )
+
+fields-write-byte-requires-2 : (t : ℕ) → fields-lts.Need-write-byte-requires-2 (fields-claims t) (fields-at t) print-fields.Post
+fields-write-byte-requires-2 t c κs =
+    let printed = c .before .before .before in
+    let read = cons-read printed in
+    let is-cons = cons-is read in
+    laws.cons-space-fits (fields-row t (is-cons .before)) (is-cons .if2 .taken) (read .before .before .column2 .ensures) (read .column3 .ensures)
+    (printed .print-term .ensures)
+
+fields-print-fields-requires : (t : ℕ) → fields-lts.Need-print-fields-requires (fields-claims t) (fields-at t) print-fields.Post
+fields-print-fields-requires t c κs =
+    let spaced = c .before .before .before .before in
+    let printed = cons-printed spaced in
+    let read = cons-read printed in
+    let is-cons = cons-is read in (
+      omega (arith, fields-from (is-cons .before) .pre .0, fields-some (is-cons .before) .if1 .left),
+      laws.cons-fields-fit (fields-row t (is-cons .before)) (is-cons .if2 .taken) (read .before .before .column2 .ensures) (read .column3 .ensures)
+          (printed .print-term .ensures) (spaced .write-byte2 .ensures),
+    )
+
+fields-part-write-byte-start-3 : (t : ℕ) → fields-lts.Need-part-write-byte-start-3 (fields-claims t) (fields-at t) print-fields.Post
+fields-part-write-byte-start-3 t c =
+    let others = c .before .before in
+    let spaced = cons-spaced others in
+    let printed = cons-printed spaced in
+    let read = cons-read printed in
+    let is-cons = cons-is read in
+    laws.cons-closing (fields-row t (is-cons .before)) (is-cons .if2 .taken) (read .before .before .column2 .ensures) (read .column3 .ensures)
+    (printed .print-term .ensures) (spaced .write-byte2 .ensures) (others .print-fields .ensures) .written .within
+
+fields-add-end : (t : ℕ) → fields-lts.Need-add-end (fields-claims t) (fields-at t) print-fields.Post
+fields-add-end t c =
+    let others = c .before .before in
+    let spaced = cons-spaced others in
+    let printed = cons-printed spaced in
+    let read = cons-read printed in
+    let is-cons = cons-is read in
+    laws.front-small (cons-from others .pre .1) (cons-from others .good .0 .0)
+    (laws.cons-closing (fields-row t (is-cons .before)) (is-cons .if2 .taken) (read .before .before .column2 .ensures) (read .column3 .ensures)
+    (printed .print-term .ensures) (spaced .write-byte2 .ensures) (others .print-fields .ensures))
+
+fields-write-byte-requires-3 : (t : ℕ) → fields-lts.Need-write-byte-requires-3 (fields-claims t) (fields-at t) print-fields.Post
+fields-write-byte-requires-3 t c κs =
+    let others = c .before .before .before in
+    let spaced = cons-spaced others in
+    let printed = cons-printed spaced in
+    let read = cons-read printed in
+    let is-cons = cons-is read in
+    laws.cons-close-fits (fields-row t (is-cons .before)) (is-cons .if2 .taken) (read .before .before .column2 .ensures) (read .column3 .ensures)
+    (printed .print-term .ensures) (spaced .write-byte2 .ensures) (others .print-fields .ensures)
+
+fields-returns-2 : (t : ℕ) → fields-lts.Need-returns-2 (fields-claims t) (fields-at t) print-fields.Post
+fields-returns-2 t c =
+    let closed = c .before .before in
+    let others = cons-others closed in
+    let spaced = cons-spaced others in
+    let printed = cons-printed spaced in
+    let read = cons-read printed in
+    let is-cons = cons-is read in
+    laws.cons-printed (fields-row t (is-cons .before)) (is-cons .if2 .taken) (read .before .before .column2 .ensures) (read .column3 .ensures)
+    (printed .print-term .ensures) (spaced .write-byte2 .ensures) (others .print-fields .ensures) (closed .write-byte3 .ensures)
+
+fields-add-result-2 : (t : ℕ) → fields-lts.Need-add-result-2 (fields-claims t) (fields-at t) print-fields.Post
+fields-add-result-2 t c =
+    let entry = cons-from (cons-others (c .before .before)) in
+    laws.length-small (entry .pre .1) (entry .good .0 .0) (fields-returns-2 t c)
+
+fields-same-length-2 : (t : ℕ) → fields-lts.Need-same-length-2 (fields-claims t) (fields-at t) print-fields.Post
+fields-same-length-2 t c = laws.kept (cons-from (cons-others (c .before .before)) .pre .1) (fields-returns-2 t c)
+
+fields-write-byte-requires-4 : (t : ℕ) → fields-lts.Need-write-byte-requires-4 (fields-claims t) (fields-at t) print-fields.Post
+fields-write-byte-requires-4 t c κs =
+    let is-nil = c .before in
+    laws.nil-close-fits (fields-row t (is-nil .before)) (is-nil .if2 .left)
+
+fields-returns-3 : (t : ℕ) → fields-lts.Need-returns-3 (fields-claims t) (fields-at t) print-fields.Post
+fields-returns-3 t c =
+    let closed = c .before .before in
+    let is-nil = closed .before .before in
+    laws.nil-printed (fields-row t (is-nil .before)) (is-nil .if2 .left) (closed .write-byte4 .ensures)
+
+-- ------------------------------------------------------------------ terms
+
+-- places, each from a later one
+abbrev term-some : {t : ℕ} → term-lts.After-column3 (term-claims t) (term-at t) print-term.Post
+    → term-lts.Else1 (term-claims t) (term-at t) print-term.Post
+term-some p = p .before .before .before .before
+
+abbrev term-begun : {t : ℕ} → term-lts.Else1 (term-claims t) (term-at t) print-term.Post
+    → term-lts.After-begin-term (term-claims t) (term-at t) print-term.Post
+term-begun p = p .before .before .before
+
+abbrev term-code : {t : ℕ} → term-lts.After-begin-term (term-claims t) (term-at t) print-term.Post
+    → term-lts.After-column (term-claims t) (term-at t) print-term.Post
 term-code p = p .before .before .before
 
-abbrev term-turn : {measure : ℕ} → term-lts.After-open-term (term-claims measure) (term-at measure) print-term.Post term-inv term-μ
-    → term-lts.At-loop (term-claims measure) (term-at measure) print-term.Post term-inv term-μ
-term-turn p = p .before .before .before .before .before
+abbrev term-entry : {t : ℕ} → term-lts.After-column (term-claims t) (term-at t) print-term.Post
+    → term-lts.Start (term-claims t) (term-at t) print-term.Post
+term-entry p = p .before .before .before .before
 
-abbrev term-start : {measure : ℕ} → term-lts.At-loop (term-claims measure) (term-at measure) print-term.Post term-inv term-μ
-    → term-lts.Start (term-claims measure) (term-at measure) print-term.Post term-inv term-μ
-term-start p = p .before .before
+abbrev term-from : {t : ℕ} → term-lts.After-column3 (term-claims t) (term-at t) print-term.Post
+    → term-lts.Start (term-claims t) (term-at t) print-term.Post
+term-from p = term-entry (term-code (term-begun (term-some p)))
 
-abbrev term-opened : {measure : ℕ} → term-lts.Else1 (term-claims measure) (term-at measure) print-term.Post term-inv term-μ
-    → term-lts.After-open-term (term-claims measure) (term-at measure) print-term.Post term-inv term-μ
-term-opened p = p .before .before .before
+-- the row that is read
+term-row : (t : ℕ) (p : term-lts.After-column3 (term-claims t) (term-at t) print-term.Post)
+    → laws.TermRow (term-from p .args .pool .now .now) (term-from p .args .cells .now .now) (term-from p .args .shown .now .now)
+    (term-from p .args .bound) (term-from p .args .row) (term-from p .args .place .now) (term-from p .args .out .now)
+    (term-code (term-begun (term-some p)) .column .result) (p .before .before .column2 .result) (p .column3 .result)
+    (term-begun (term-some p) .begin-term .result) (term-begun (term-some p) .begin-term .last .0)
+term-row t p =
+    record {
+      fits = term-from p .pre .1;
+      some = term-some p .if1 .left;
+      read = term-code (term-begun (term-some p)) .column .ensures;
+      one = p .before .before .column2 .ensures;
+      two = p .column3 .ensures;
+      begun = term-begun (term-some p) .begin-term .ensures;
+    }
 
-abbrev term-some : {measure : ℕ} → term-lts.After-column2 (term-claims measure) (term-at measure) print-term.Post term-inv term-μ
-    → term-lts.Else1 (term-claims measure) (term-at measure) print-term.Post term-inv term-μ
-term-some p = p .before .before
-
-abbrev pair-first : {measure : ℕ} → term-lts.After-print-term (term-claims measure) (term-at measure) print-term.Post term-inv term-μ
-    → term-lts.At-match-keys2 (term-claims measure) (term-at measure) print-term.Post term-inv term-μ
-pair-first p = p .before .before .before
-
-abbrev pair-behind : {measure : ℕ} → term-lts.After-byte-at (term-claims measure) (term-at measure) print-term.Post term-inv term-μ
-    → term-lts.After-print-term (term-claims measure) (term-at measure) print-term.Post term-inv term-μ
-pair-behind p = p .before .before .before .before
-
-abbrev pair-space : {measure : ℕ} → term-lts.After-column4 (term-claims measure) (term-at measure) print-term.Post term-inv term-μ
-    → term-lts.After-byte-at (term-claims measure) (term-at measure) print-term.Post term-inv term-μ
-pair-space p = p .before .before .before .before
-
-abbrev rcd-inner : {measure : ℕ} → term-lts.After-print-fields (term-claims measure) (term-at measure) print-term.Post term-inv term-μ
-    → term-lts.At-match-keys3 (term-claims measure) (term-at measure) print-term.Post term-inv term-μ
-rcd-inner p = p .before .before .before
-
-term-loop-holds : (measure : ℕ) → term-lts.Need-loop-holds (term-claims measure) (term-at measure) print-term.Post term-inv term-μ
-term-loop-holds t c = rw (sub-self (c .before .args .bound)) (laws.spine-start _ (c .before .pre .1))
-
-term-column-requires : (measure : ℕ) → term-lts.Need-column-requires (term-claims measure) (term-at measure) print-term.Post term-inv term-μ
-term-column-requires t c κs = search needs
-
-term-open-term-requires : (measure : ℕ) → term-lts.Need-open-term-requires (term-claims measure) (term-at measure) print-term.Post term-inv term-μ
-term-open-term-requires t c κs =
-    let read = c .before .before in
-    laws.opening-fits (read .column .ensures) (laws.left-fits (read .before .before .loop .inv))
-
-term-add-place : (measure : ℕ) → term-lts.Need-add-place (term-claims measure) (term-at measure) print-term.Post term-inv term-μ
-term-add-place t c = omega (arith, laws.term-inside (laws.left-fits ((term-turn (c .before .before)) .loop .inv)))
-
-term-sub-closing : (measure : ℕ) → term-lts.Need-sub-closing (term-claims measure) (term-at measure) print-term.Post term-inv term-μ
-term-sub-closing t c = omega (arith, (term-turn (c .before .before)) .loop .inv .within)
-
-term-add-closing : (measure : ℕ) → term-lts.Need-add-closing (term-claims measure) (term-at measure) print-term.Post term-inv term-μ
-term-add-closing t c = omega (arith, laws.term-closing (laws.left-fits ((term-turn (c .before .before)) .loop .inv)))
-
-term-close-at-requires : (measure : ℕ) → term-lts.Need-close-at-requires (term-claims measure) (term-at measure) print-term.Post term-inv term-μ
-term-close-at-requires t c κs =
-    let then1 = c .before in
-    let opened = then1 .before .before .before in
-    let turn = term-turn opened in
-    laws.close-room _
-    (laws.opened-shallow refl (opened .open-term .ensures) (then1 .if1 .taken))
-    (laws.left-fits (turn .loop .inv))
-
-term-returns : (measure : ℕ) → term-lts.Need-returns (term-claims measure) (term-at measure) print-term.Post term-inv term-μ
-term-returns t c =
-    let closed = c .before .before in
-    let then1 = closed .before .before in
-    let opened = then1 .before .before .before in
-    let turn = term-turn opened in
-    laws.spine-end (turn .loop .inv)
-    (laws.next-text
-    (laws.opened-shallow refl (opened .open-term .ensures) (then1 .if1 .taken))
-    (closed .close-at .ensures))
-
-term-same-length : (measure : ℕ) → term-lts.Need-same-length (term-claims measure) (term-at measure) print-term.Post term-inv term-μ
-term-same-length t c = term-returns t c .wrote .same
-
-term-sub-deep : (measure : ℕ) → term-lts.Need-sub-deep (term-claims measure) (term-at measure) print-term.Post term-inv term-μ
-term-sub-deep t c = omega (arith, c .if1 .left)
-
-term-column-requires-2 : (measure : ℕ) → term-lts.Need-column-requires-2 (term-claims measure) (term-at measure) print-term.Post term-inv term-μ
-term-column-requires-2 t c κs = search needs
-
-term-column-requires-3 : (measure : ℕ) → term-lts.Need-column-requires-3 (term-claims measure) (term-at measure) print-term.Post term-inv term-μ
-term-column-requires-3 t c κs = search needs
-
-term-loop-less : (measure : ℕ) → term-lts.Need-loop-less (term-claims measure) (term-at measure) print-term.Post term-inv term-μ
-term-loop-less t c =
-    let else1 = term-some (c .before .before .before) in
-    omega (arith, else1 .if1 .left)
-
-term-loop-again : (measure : ℕ) → term-lts.Need-loop-again (term-claims measure) (term-at measure) print-term.Post term-inv term-μ
-term-loop-again t c =
-    let matched = c .before .before in
-    let else1 = term-some (matched .before) in
-    let opened = term-opened else1 in
-    let turn = term-turn opened in
-    laws.spine-next (turn .loop .inv)
-    (laws.opened-fun (omega (arith, turn .loop .inv .within, else1 .if1 .left))
-    (opened .open-term .ensures) (else1 .if1 .left) ((term-code opened) .column .ensures) (matched .match .keys1) (c .column3 .ensures))
-    (omega (arith, else1 .if1 .left))
-
-term-print-term-requires : (measure : ℕ) → term-lts.Need-print-term-requires (term-claims measure) (term-at measure) print-term.Post term-inv term-μ
-term-print-term-requires t c κs =
-    let matched = c .before .before in
-    let else1 = term-some (matched .before) in
-    let opened = term-opened else1 in
-    let turn = term-turn opened in (
-      omega (arith, (term-start turn) .pre .0, turn .loop .inv .within, else1 .if1 .left),
-      laws.first-fits refl (opened .open-term .ensures) (else1 .if1 .left) ((term-code opened) .column .ensures) (matched .match .keys2)
-          (matched .before .column2 .ensures) (laws.left-fits (turn .loop .inv)),
-    )
-
-term-byte-at-requires : (measure : ℕ) → term-lts.Need-byte-at-requires (term-claims measure) (term-at measure) print-term.Post term-inv term-μ
-term-byte-at-requires t c κs =
-    let printed = c .before .before .before in
-    let matched = pair-first printed in
-    let else1 = term-some (matched .before) in
-    let opened = term-opened else1 in
-    let turn = term-turn opened in
-    laws.first-room refl (opened .open-term .ensures) (else1 .if1 .left) ((term-code opened) .column .ensures) (matched .match .keys2)
-    (matched .before .column2 .ensures) (laws.left-fits (turn .loop .inv)) (printed .print-term .ensures)
-
-term-column-requires-4 : (measure : ℕ) → term-lts.Need-column-requires-4 (term-claims measure) (term-at measure) print-term.Post term-inv term-μ
-term-column-requires-4 t c κs = search needs
-
-term-label-at-requires : (measure : ℕ) → term-lts.Need-label-at-requires (term-claims measure) (term-at measure) print-term.Post term-inv term-μ
-term-label-at-requires t c κs =
-    let is-dot = c .before in
-    let last = is-dot .before in
-    let spaced = pair-space last in
-    let printed = pair-behind spaced in
-    let matched = pair-first printed in
-    let else1 = term-some (matched .before) in
-    let opened = term-opened else1 in
-    let turn = term-turn opened in
-    laws.next-room
-    (laws.next-text
-    (laws.next-part
-    (laws.opened-dot refl
-    (opened .open-term .ensures) (else1 .if1 .left) ((term-code opened) .column .ensures)
-    (is-dot .if2 .taken) (matched .before .column2 .ensures) (last .column4 .ensures))
-    (printed .print-term .ensures))
-    (spaced .byte-at .ensures))
-    (laws.left-fits (turn .loop .inv))
-
-term-close-at-requires-2 : (measure : ℕ) → term-lts.Need-close-at-requires-2 (term-claims measure) (term-at measure) print-term.Post term-inv term-μ
-term-close-at-requires-2 t c κs =
-    let labelled = c .before .before .before in
-    let is-dot = labelled .before .before in
-    let last = is-dot .before in
-    let spaced = pair-space last in
-    let printed = pair-behind spaced in
-    let matched = pair-first printed in
-    let else1 = term-some (matched .before) in
-    let opened = term-opened else1 in
-    let turn = term-turn opened in
-    laws.close-room _
-    (laws.next-text
-    (laws.next-text
-    (laws.next-part
-    (laws.opened-dot refl
-    (opened .open-term .ensures) (else1 .if1 .left) ((term-code opened) .column .ensures)
-    (is-dot .if2 .taken) (matched .before .column2 .ensures) (last .column4 .ensures))
-    (printed .print-term .ensures))
-    (spaced .byte-at .ensures))
-    (labelled .label-at .ensures))
-    (laws.left-fits (turn .loop .inv))
-
-term-returns-2 : (measure : ℕ) → term-lts.Need-returns-2 (term-claims measure) (term-at measure) print-term.Post term-inv term-μ
-term-returns-2 t c =
-    let closed = c .before .before in
-    let labelled = closed .before .before .before .before in
-    let is-dot = labelled .before .before in
-    let last = is-dot .before in
-    let spaced = pair-space last in
-    let printed = pair-behind spaced in
-    let matched = pair-first printed in
-    let else1 = term-some (matched .before) in
-    let opened = term-opened else1 in
-    let turn = term-turn opened in
-    laws.spine-end (turn .loop .inv)
-    (laws.next-text
-    (laws.next-text
-    (laws.next-text
-    (laws.next-part
-    (laws.opened-dot refl
-    (opened .open-term .ensures) (else1 .if1 .left) ((term-code opened) .column .ensures)
-    (is-dot .if2 .taken) (matched .before .column2 .ensures) (last .column4 .ensures))
-    (printed .print-term .ensures))
-    (spaced .byte-at .ensures))
-    (labelled .label-at .ensures))
-    (closed .close-at2 .ensures))
-
-term-same-length-2 : (measure : ℕ) → term-lts.Need-same-length-2 (term-claims measure) (term-at measure) print-term.Post term-inv term-μ
-term-same-length-2 t c = term-returns-2 t c .wrote .same
-
-term-loop-less-2 : (measure : ℕ) → term-lts.Need-loop-less-2 (term-claims measure) (term-at measure) print-term.Post term-inv term-μ
-term-loop-less-2 t c =
-    let matched = pair-first (pair-behind (pair-space (c .before))) in
-    let else1 = term-some (matched .before) in
-    omega (arith, else1 .if1 .left)
-
-term-loop-again-2 : (measure : ℕ) → term-lts.Need-loop-again-2 (term-claims measure) (term-at measure) print-term.Post term-inv term-μ
-term-loop-again-2 t c =
-    let last = c .before in
-    let spaced = pair-space last in
-    let printed = pair-behind spaced in
-    let matched = pair-first printed in
-    let else1 = term-some (matched .before) in
-    let opened = term-opened else1 in
-    let turn = term-turn opened in
-    let is-app = laws.not-second (matched .match .keys2) (c .if2 .left) in
-    laws.spine-next (turn .loop .inv)
-    (laws.next-text
-    (laws.next-part
-    (laws.opened-app (omega (arith, turn .loop .inv .within, else1 .if1 .left))
-    (opened .open-term .ensures) (else1 .if1 .left) ((term-code opened) .column .ensures) is-app (matched .before .column2 .ensures) (last .column4 .ensures))
-    (printed .print-term .ensures))
-    (spaced .byte-at .ensures))
-    (omega (arith, else1 .if1 .left))
-
-term-print-fields-requires : (measure : ℕ) → term-lts.Need-print-fields-requires (term-claims measure) (term-at measure) print-term.Post term-inv term-μ
-term-print-fields-requires t c κs =
-    let matched = c .before .before in
-    let else1 = term-some (matched .before) in
-    let opened = term-opened else1 in
-    let turn = term-turn opened in (
-      omega (arith, (term-start turn) .pre .0, turn .loop .inv .within, else1 .if1 .left),
-      laws.next-fits
-          (laws.opened-rcd refl
-          (opened .open-term .ensures) (else1 .if1 .left) ((term-code opened) .column .ensures) (matched .match .keys3) (matched .before .column2 .ensures))
-          (laws.left-fits (turn .loop .inv)),
-    )
-
-term-close-at-requires-3 : (measure : ℕ) → term-lts.Need-close-at-requires-3 (term-claims measure) (term-at measure) print-term.Post term-inv term-μ
-term-close-at-requires-3 t c κs =
-    let printed = c .before .before .before in
-    let matched = rcd-inner printed in
-    let else1 = term-some (matched .before) in
-    let opened = term-opened else1 in
-    let turn = term-turn opened in
-    laws.close-room _
-    (laws.next-part
-    (laws.opened-rcd refl
-    (opened .open-term .ensures) (else1 .if1 .left) ((term-code opened) .column .ensures) (matched .match .keys3) (matched .before .column2 .ensures))
-    (printed .print-fields .ensures))
-    (laws.left-fits (turn .loop .inv))
-
-term-returns-3 : (measure : ℕ) → term-lts.Need-returns-3 (term-claims measure) (term-at measure) print-term.Post term-inv term-μ
-term-returns-3 t c =
-    let closed = c .before .before in
-    let printed = closed .before .before .before .before in
-    let matched = rcd-inner printed in
-    let else1 = term-some (matched .before) in
-    let opened = term-opened else1 in
-    let turn = term-turn opened in
-    laws.spine-end (turn .loop .inv)
-    (laws.next-text
-    (laws.next-part
-    (laws.opened-rcd refl
-    (opened .open-term .ensures) (else1 .if1 .left) ((term-code opened) .column .ensures) (matched .match .keys3) (matched .before .column2 .ensures))
-    (printed .print-fields .ensures))
-    (closed .close-at3 .ensures))
-
-term-same-length-3 : (measure : ℕ) → term-lts.Need-same-length-3 (term-claims measure) (term-at measure) print-term.Post term-inv term-μ
-term-same-length-3 t c = term-returns-3 t c .wrote .same
-
-term-close-at-requires-4 : (measure : ℕ) → term-lts.Need-close-at-requires-4 (term-claims measure) (term-at measure) print-term.Post term-inv term-μ
-term-close-at-requires-4 t c κs =
+term-write-byte-requires-8 : (t : ℕ) → term-lts.Need-write-byte-requires-8 (term-claims t) (term-at t) print-term.Post
+term-write-byte-requires-8 t c κs =
     let matched = c .before in
-    let else1 = term-some (matched .before) in
-    let opened = term-opened else1 in
-    let turn = term-turn opened in
-    laws.close-room _
-    (laws.opened-bare refl
-    (opened .open-term .ensures) (else1 .if1 .left) ((term-code opened) .column .ensures) (matched .match .rest))
-    (laws.left-fits (turn .loop .inv))
+    laws.bare-close-fits (term-row t (matched .before)) (matched .match .rest)
 
-term-returns-4 : (measure : ℕ) → term-lts.Need-returns-4 (term-claims measure) (term-at measure) print-term.Post term-inv term-μ
-term-returns-4 t c =
+term-returns-6 : (t : ℕ) → term-lts.Need-returns-6 (term-claims t) (term-at t) print-term.Post
+term-returns-6 t c =
     let closed = c .before .before in
     let matched = closed .before .before in
-    let else1 = term-some (matched .before) in
-    let opened = term-opened else1 in
-    let turn = term-turn opened in
-    laws.spine-end (turn .loop .inv)
-    (laws.next-text
-    (laws.opened-bare refl
-    (opened .open-term .ensures) (else1 .if1 .left) ((term-code opened) .column .ensures) (matched .match .rest))
-    (closed .close-at4 .ensures))
+    laws.bare-printed (term-row t (matched .before)) (matched .match .rest) (closed .write-byte8 .ensures)
 
-term-same-length-4 : (measure : ℕ) → term-lts.Need-same-length-4 (term-claims measure) (term-at measure) print-term.Post term-inv term-μ
-term-same-length-4 t c = term-returns-4 t c .wrote .same
+-- a function
+
+term-print-term-requires : (t : ℕ) → term-lts.Need-print-term-requires (term-claims t) (term-at t) print-term.Post
+term-print-term-requires t c κs =
+    let matched = c .before .before in (
+      omega (arith, term-from (matched .before) .pre .0, term-some (matched .before) .if1 .left),
+      laws.fun-body-fits (term-row t (matched .before)) (matched .match .keys1),
+    )
+
+term-write-byte-requires-2 : (t : ℕ) → term-lts.Need-write-byte-requires-2 (term-claims t) (term-at t) print-term.Post
+term-write-byte-requires-2 t c κs =
+    let body = c .before .before .before in
+    let matched = body .before .before .before in
+    laws.fun-close-fits (term-row t (matched .before)) (matched .match .keys1) (body .print-term .ensures)
+
+term-returns-2 : (t : ℕ) → term-lts.Need-returns-2 (term-claims t) (term-at t) print-term.Post
+term-returns-2 t c =
+    let closed = c .before .before in
+    let body = closed .before .before .before .before in
+    let matched = body .before .before .before in
+    laws.fun-printed (term-row t (matched .before)) (matched .match .keys1) (body .print-term .ensures) (closed .write-byte2 .ensures)
+
+term-add-result-2 : (t : ℕ) → term-lts.Need-add-result-2 (term-claims t) (term-at t) print-term.Post
+term-add-result-2 t c =
+    let body = (c .before .before) .before .before .before .before in
+    let entry = term-from (body .before .before .before .before) in
+    laws.length-small (entry .pre .1) (entry .good .0 .0) (term-returns-2 t c)
+
+-- a record
+
+term-print-fields-requires : (t : ℕ) → term-lts.Need-print-fields-requires (term-claims t) (term-at t) print-term.Post
+term-print-fields-requires t c κs =
+    let matched = c .before .before in (
+      omega (arith, term-from (matched .before) .pre .0, term-some (matched .before) .if1 .left),
+      laws.rcd-fields-fit (term-row t (matched .before)) (matched .match .keys3),
+    )
+
+term-write-byte-requires-5 : (t : ℕ) → term-lts.Need-write-byte-requires-5 (term-claims t) (term-at t) print-term.Post
+term-write-byte-requires-5 t c κs =
+    let fields = c .before .before .before in
+    let matched = fields .before .before .before in
+    laws.rcd-close-fits (term-row t (matched .before)) (matched .match .keys3) (fields .print-fields .ensures)
+
+term-returns-4 : (t : ℕ) → term-lts.Need-returns-4 (term-claims t) (term-at t) print-term.Post
+term-returns-4 t c =
+    let closed = c .before .before in
+    let fields = closed .before .before .before .before in
+    let matched = fields .before .before .before in
+    laws.rcd-printed (term-row t (matched .before)) (matched .match .keys3) (fields .print-fields .ensures) (closed .write-byte5 .ensures)
+
+term-add-result-4 : (t : ℕ) → term-lts.Need-add-result-4 (term-claims t) (term-at t) print-term.Post
+term-add-result-4 t c =
+    let fields = (c .before .before) .before .before .before .before in
+    let entry = term-from (fields .before .before .before .before) in
+    laws.length-small (entry .pre .1) (entry .good .0 .0) (term-returns-4 t c)
+
+-- an application
+abbrev app-first : {t : ℕ} → term-lts.After-write-byte3 (term-claims t) (term-at t) print-term.Post
+    → term-lts.After-print-term2 (term-claims t) (term-at t) print-term.Post
+app-first p = p .before .before .before .before
+
+abbrev app-spaced : {t : ℕ} → term-lts.After-print-term3 (term-claims t) (term-at t) print-term.Post
+    → term-lts.After-write-byte3 (term-claims t) (term-at t) print-term.Post
+app-spaced p = p .before .before .before .before .before
+
+abbrev app-last : {t : ℕ} → term-lts.After-write-byte4 (term-claims t) (term-at t) print-term.Post
+    → term-lts.After-print-term3 (term-claims t) (term-at t) print-term.Post
+app-last p = p .before .before .before .before
+
+abbrev app-from : {t : ℕ} → term-lts.After-print-term2 (term-claims t) (term-at t) print-term.Post
+    → term-lts.Start (term-claims t) (term-at t) print-term.Post
+app-from p = term-from (p .before .before .before .before)
+
+term-print-term-requires-2 : (t : ℕ) → term-lts.Need-print-term-requires-2 (term-claims t) (term-at t) print-term.Post
+term-print-term-requires-2 t c κs =
+    let matched = c .before .before in (
+      omega (arith, term-from (matched .before) .pre .0, term-some (matched .before) .if1 .left),
+      laws.app-first-fits (term-row t (matched .before)) (matched .match .keys2),
+    )
+
+term-write-byte-requires-3 : (t : ℕ) → term-lts.Need-write-byte-requires-3 (term-claims t) (term-at t) print-term.Post
+term-write-byte-requires-3 t c κs =
+    let first = c .before .before .before in
+    let matched = first .before .before .before in
+    laws.app-space-fits (term-row t (matched .before)) (matched .match .keys2) (first .print-term2 .ensures)
+
+term-add-next : (t : ℕ) → term-lts.Need-add-next (term-claims t) (term-at t) print-term.Post
+term-add-next t c =
+    let spaced = c .before .before in
+    let first = app-first spaced in
+    let matched = first .before .before .before in
+    let entry = app-from first in
+    laws.front-small (entry .pre .1) (entry .good .0 .0)
+    (next-written (laws.app-second (term-row t (matched .before)) (matched .match .keys2) (first .print-term2 .ensures)) (spaced .write-byte3 .ensures))
+
+term-print-term-requires-3 : (t : ℕ) → term-lts.Need-print-term-requires-3 (term-claims t) (term-at t) print-term.Post
+term-print-term-requires-3 t c κs =
+    let spaced = c .before .before .before .before in
+    let first = app-first spaced in
+    let matched = first .before .before .before in (
+      omega (arith, term-from (matched .before) .pre .0, term-some (matched .before) .if1 .left),
+      laws.app-last-fits (term-row t (matched .before)) (matched .match .keys2) (first .print-term2 .ensures) (spaced .write-byte3 .ensures),
+    )
+
+term-part-write-byte-start-4 : (t : ℕ) → term-lts.Need-part-write-byte-start-4 (term-claims t) (term-at t) print-term.Post
+term-part-write-byte-start-4 t c =
+    let last = c .before .before in
+    let spaced = app-spaced last in
+    let first = app-first spaced in
+    let matched = first .before .before .before in
+    laws.app-closing (term-row t (matched .before)) (matched .match .keys2) (first .print-term2 .ensures) (spaced .write-byte3 .ensures)
+    (last .print-term3 .ensures) .written .within
+
+term-sub-write-byte-4 : (t : ℕ) → term-lts.Need-sub-write-byte-4 (term-claims t) (term-at t) print-term.Post
+term-sub-write-byte-4 t c = term-part-write-byte-start-4 t c
+
+term-add-end-2 : (t : ℕ) → term-lts.Need-add-end-2 (term-claims t) (term-at t) print-term.Post
+term-add-end-2 t c =
+    let last = c .before .before in
+    let spaced = app-spaced last in
+    let first = app-first spaced in
+    let matched = first .before .before .before in
+    let entry = app-from first in
+    laws.front-small (entry .pre .1) (entry .good .0 .0)
+    (laws.app-closing (term-row t (matched .before)) (matched .match .keys2) (first .print-term2 .ensures) (spaced .write-byte3 .ensures)
+    (last .print-term3 .ensures))
+
+term-write-byte-requires-4 : (t : ℕ) → term-lts.Need-write-byte-requires-4 (term-claims t) (term-at t) print-term.Post
+term-write-byte-requires-4 t c κs =
+    let last = c .before .before .before in
+    let spaced = app-spaced last in
+    let first = app-first spaced in
+    let matched = first .before .before .before in
+    laws.app-close-fits (term-row t (matched .before)) (matched .match .keys2) (first .print-term2 .ensures) (spaced .write-byte3 .ensures)
+    (last .print-term3 .ensures)
+
+term-returns-3 : (t : ℕ) → term-lts.Need-returns-3 (term-claims t) (term-at t) print-term.Post
+term-returns-3 t c =
+    let closed = c .before .before in
+    let last = app-last closed in
+    let spaced = app-spaced last in
+    let first = app-first spaced in
+    let matched = first .before .before .before in
+    laws.app-printed (term-row t (matched .before)) (matched .match .keys2) (first .print-term2 .ensures) (spaced .write-byte3 .ensures)
+    (last .print-term3 .ensures) (closed .write-byte4 .ensures)
+
+term-add-result-3 : (t : ℕ) → term-lts.Need-add-result-3 (term-claims t) (term-at t) print-term.Post
+term-add-result-3 t c =
+    let entry = app-from (app-first (app-spaced (app-last (c .before .before)))) in
+    laws.length-small (entry .pre .1) (entry .good .0 .0) (term-returns-3 t c)
+
+term-same-length-3 : (t : ℕ) → term-lts.Need-same-length-3 (term-claims t) (term-at t) print-term.Post
+term-same-length-3 t c =
+    let entry = app-from (app-first (app-spaced (app-last (c .before .before)))) in
+    laws.kept (entry .pre .1) (term-returns-3 t c)
+
+-- a selection
+abbrev dot-first : {t : ℕ} → term-lts.After-write-byte6 (term-claims t) (term-at t) print-term.Post
+    → term-lts.After-print-term4 (term-claims t) (term-at t) print-term.Post
+dot-first p = p .before .before .before .before
+
+abbrev dot-spaced : {t : ℕ} → term-lts.After-write-label (term-claims t) (term-at t) print-term.Post
+    → term-lts.After-write-byte6 (term-claims t) (term-at t) print-term.Post
+dot-spaced p = p .before .before .before .before
+
+abbrev dot-last : {t : ℕ} → term-lts.After-write-byte7 (term-claims t) (term-at t) print-term.Post
+    → term-lts.After-write-label (term-claims t) (term-at t) print-term.Post
+dot-last p = p .before .before .before .before
+
+abbrev dot-from : {t : ℕ} → term-lts.After-print-term4 (term-claims t) (term-at t) print-term.Post
+    → term-lts.Start (term-claims t) (term-at t) print-term.Post
+dot-from p = term-from (p .before .before .before .before)
+
+term-print-term-requires-4 : (t : ℕ) → term-lts.Need-print-term-requires-4 (term-claims t) (term-at t) print-term.Post
+term-print-term-requires-4 t c κs =
+    let matched = c .before .before in (
+      omega (arith, term-from (matched .before) .pre .0, term-some (matched .before) .if1 .left),
+      laws.dot-term-fits (term-row t (matched .before)) (matched .match .keys4),
+    )
+
+term-write-byte-requires-6 : (t : ℕ) → term-lts.Need-write-byte-requires-6 (term-claims t) (term-at t) print-term.Post
+term-write-byte-requires-6 t c κs =
+    let first = c .before .before .before in
+    let matched = first .before .before .before in
+    laws.dot-space-fits (term-row t (matched .before)) (matched .match .keys4) (first .print-term4 .ensures)
+
+term-add-next-2 : (t : ℕ) → term-lts.Need-add-next-2 (term-claims t) (term-at t) print-term.Post
+term-add-next-2 t c =
+    let spaced = c .before .before in
+    let first = dot-first spaced in
+    let matched = first .before .before .before in
+    let entry = dot-from first in
+    laws.front-small (entry .pre .1) (entry .good .0 .0)
+    (next-written (laws.dot-second (term-row t (matched .before)) (matched .match .keys4) (first .print-term4 .ensures)) (spaced .write-byte6 .ensures))
+
+term-write-label-requires : (t : ℕ) → term-lts.Need-write-label-requires (term-claims t) (term-at t) print-term.Post
+term-write-label-requires t c κs =
+    let spaced = c .before .before .before in
+    let first = dot-first spaced in
+    let matched = first .before .before .before in
+    laws.dot-label-fits (term-row t (matched .before)) (matched .match .keys4) (first .print-term4 .ensures) (spaced .write-byte6 .ensures)
+
+term-add-end-4 : (t : ℕ) → term-lts.Need-add-end-4 (term-claims t) (term-at t) print-term.Post
+term-add-end-4 t c =
+    let last = c .before .before in
+    let spaced = dot-spaced last in
+    let first = dot-first spaced in
+    let matched = first .before .before .before in
+    let entry = dot-from first in
+    laws.front-small (entry .pre .1) (entry .good .0 .0)
+    (laws.dot-closing (term-row t (matched .before)) (matched .match .keys4) (first .print-term4 .ensures) (spaced .write-byte6 .ensures)
+    (last .write-label .ensures))
+
+term-write-byte-requires-7 : (t : ℕ) → term-lts.Need-write-byte-requires-7 (term-claims t) (term-at t) print-term.Post
+term-write-byte-requires-7 t c κs =
+    let last = c .before .before .before in
+    let spaced = dot-spaced last in
+    let first = dot-first spaced in
+    let matched = first .before .before .before in
+    laws.dot-close-fits (term-row t (matched .before)) (matched .match .keys4) (first .print-term4 .ensures) (spaced .write-byte6 .ensures)
+    (last .write-label .ensures)
+
+term-returns-5 : (t : ℕ) → term-lts.Need-returns-5 (term-claims t) (term-at t) print-term.Post
+term-returns-5 t c =
+    let closed = c .before .before in
+    let last = dot-last closed in
+    let spaced = dot-spaced last in
+    let first = dot-first spaced in
+    let matched = first .before .before .before in
+    laws.dot-printed (term-row t (matched .before)) (matched .match .keys4) (first .print-term4 .ensures) (spaced .write-byte6 .ensures)
+    (last .write-label .ensures) (closed .write-byte7 .ensures)
+
+term-add-result-5 : (t : ℕ) → term-lts.Need-add-result-5 (term-claims t) (term-at t) print-term.Post
+term-add-result-5 t c =
+    let entry = dot-from (dot-first (dot-spaced (dot-last (c .before .before)))) in
+    laws.length-small (entry .pre .1) (entry .good .0 .0) (term-returns-5 t c)
+
+term-same-length-5 : (t : ℕ) → term-lts.Need-same-length-5 (term-claims t) (term-at t) print-term.Post
+term-same-length-5 t c =
+    let entry = dot-from (dot-first (dot-spaced (dot-last (c .before .before)))) in
+    laws.kept (entry .pre .1) (term-returns-5 t c)
 
 -- the functions meet their contracts
 pub +print-fields+print-term-spec : {M : Type 1} → statement M
 +print-fields+print-term-spec = close μ-fields μ-term (λ t. fields-lts.spec (fields-claims t)
     (fields-at t)
     print-fields.Post
-    (fields-open-fields-requires t)
-    (fields-add-place t)
-    (fields-byte-at-requires t)
-    (fields-same-length t)
-    (fields-returns t)
-    (fields-sub-deep t)
-    (fields-column-requires t)
-    (fields-column-requires-2 t)
+    (λ c κs. search laws.begin-fields-fits)
+    (λ c. search laws.fields-next)
+    (λ c. omega arith)
+    (λ c. omega arith)
+    (λ c. omega arith)
+    (λ c κs. search laws.shallow-close-fits-fields)
+    (λ c. omega arith)
+    (λ c. omega arith)
+    (λ c. search laws.shallow-printed-fields)
+    (λ c. omega arith)
+    (λ c κs. search needs)
+    (λ c κs. search needs)
+    (λ c κs. search needs)
+    (λ c. omega arith)
+    (λ c. omega arith)
+    (λ c. omega arith)
     (fields-print-term-requires t)
-    (fields-byte-at-requires-2 t)
-    (fields-column-requires-3 t)
+    (λ c. omega arith)
+    (λ c. omega arith)
+    (λ c. omega arith)
+    (λ c. omega arith)
+    (fields-write-byte-requires-2 t)
+    (λ c. omega arith)
+    (λ c. omega arith)
+    (λ c. omega arith)
+    (λ c. omega arith)
     (fields-print-fields-requires t)
-    (fields-byte-at-requires-3 t)
+    (fields-add-end t)
+    (λ c. omega arith)
+    (fields-part-write-byte-start-3 t)
+    (λ c. omega arith)
+    (fields-write-byte-requires-3 t)
+    (fields-add-result-2 t)
     (fields-same-length-2 t)
     (fields-returns-2 t)
-    (fields-byte-at-requires-4 t)
-    (fields-same-length-3 t)
+    (λ c. omega arith)
+    (λ c. omega arith)
+    (λ c. omega arith)
+    (fields-write-byte-requires-4 t)
+    (λ c. omega arith)
+    (λ c. omega arith)
     (fields-returns-3 t))
     λ t. term-lts.spec (term-claims t)
     (term-at t)
     print-term.Post
-    term-inv
-    term-μ
-    (term-loop-holds t)
-    (term-column-requires t)
-    (term-open-term-requires t)
-    (term-add-place t)
-    (term-sub-closing t)
-    (term-add-closing t)
-    (term-close-at-requires t)
-    (term-same-length t)
-    (term-returns t)
-    (term-sub-deep t)
-    (term-column-requires-2 t)
-    (term-column-requires-3 t)
-    (term-loop-less t)
-    (term-loop-again t)
+    (λ c κs. search needs)
+    (λ c κs. search laws.begin-fits)
+    (λ c. search laws.term-next)
+    (λ c. omega arith)
+    (λ c. omega arith)
+    (λ c. omega arith)
+    (λ c κs. search laws.shallow-close-fits)
+    (λ c. omega arith)
+    (λ c. omega arith)
+    (λ c. search laws.shallow-printed)
+    (λ c. omega arith)
+    (λ c κs. search needs)
+    (λ c κs. search needs)
+    (λ c. omega arith)
+    (λ c. omega arith)
+    (λ c. omega arith)
     (term-print-term-requires t)
-    (term-byte-at-requires t)
-    (term-column-requires-4 t)
-    (term-label-at-requires t)
-    (term-close-at-requires-2 t)
-    (term-same-length-2 t)
-    (term-returns-2 t)
-    (term-loop-less-2 t)
-    (term-loop-again-2 t)
+    (λ c. omega arith)
+    (λ c. omega arith)
+    (λ c. omega arith)
+    (λ c. omega arith)
+    (term-write-byte-requires-2 t)
+    (term-add-result-2 t)
+    (λ c. omega arith)
+    (λ c. omega arith)
+    (λ c. omega arith)
+    (term-print-term-requires-2 t)
+    (λ c. omega arith)
+    (λ c. omega arith)
+    (λ c. omega arith)
+    (λ c. omega arith)
+    (term-write-byte-requires-3 t)
+    (term-add-next t)
+    (λ c. omega arith)
+    (λ c. omega arith)
+    (λ c. omega arith)
+    (term-print-term-requires-3 t)
+    (term-add-end-2 t)
+    (term-sub-write-byte-4 t)
+    (term-part-write-byte-start-4 t)
+    (λ c. omega arith)
+    (term-write-byte-requires-4 t)
+    (term-add-result-3 t)
+    (λ c. omega arith)
+    (λ c. omega arith)
+    (λ c. omega arith)
     (term-print-fields-requires t)
-    (term-close-at-requires-3 t)
+    (λ c. omega arith)
+    (λ c. omega arith)
+    (λ c. omega arith)
+    (λ c. omega arith)
+    (term-write-byte-requires-5 t)
+    (term-add-result-4 t)
+    (λ c. omega arith)
+    (λ c. omega arith)
+    (λ c. omega arith)
+    (term-print-term-requires-4 t)
+    (λ c. omega arith)
+    (λ c. omega arith)
+    (λ c. omega arith)
+    (λ c. omega arith)
+    (term-write-byte-requires-6 t)
+    (term-add-next-2 t)
+    (λ c. omega arith)
+    (λ c. omega arith)
+    (λ c. omega arith)
+    (term-write-label-requires t)
+    (term-add-end-4 t)
+    (λ c. omega arith)
+    (λ c. omega arith)
+    (λ c. omega arith)
+    (term-write-byte-requires-7 t)
+    (term-add-result-5 t)
+    (λ c. omega arith)
+    (λ c. omega arith)
+    (λ c. omega arith)
+    (term-write-byte-requires-8 t)
+    (λ c. omega arith)
+    (λ c. omega arith)
+    (term-returns-2 t)
     (term-same-length-3 t)
     (term-returns-3 t)
-    (term-close-at-requires-4 t)
-    (term-same-length-4 t)
+    (λ c. omega arith)
     (term-returns-4 t)
+    (term-same-length-5 t)
+    (term-returns-5 t)
+    (λ c. omega arith)
+    (term-returns-6 t)

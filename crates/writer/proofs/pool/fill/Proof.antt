@@ -3,19 +3,12 @@ use Prim.Native.Nat.{_-_}
 use mathlib.Core.Path.{_∙_}
 use native.Mathlib.Omega.{arith}
 use borrow.Author.Needs.{needs}
-use Rattle.grammar.specs.Lookup.{lexiconOf}
 use Rattle.writer.proofs.PoolLaws as laws
 use Rattle.writer.proofs.pool.fill.Statement.{statement}
 use Rattle.writer.proofs.pool.fill.Tie as tie
-use Rattle.writer.proofs.pool.fill.Reads as reads
-use Rattle.writer.proofs.pool.fill.Lts as lts
-use Rattle.grammar.proofs.reader.part.Reads as part-reads
-use Rattle.writer.proofs.pool.fill_outsides.Reads as fill-outsides-reads
-use Rattle.spellings.proofs.wide_number.Reads as wide-number-reads
-use Rattle.writer.proofs.pool.store.Reads as store-reads
 
 abbrev Inv-loop : tie.InvT-loop
-Inv-loop table formula words count pool₀ i₀ pool i = laws.Storing (lexiconOf table .outsides) formula words pool₀ pool count i
+Inv-loop table formula words count pool₀ i₀ pool i = laws.Storing formula words pool₀ pool count i
 
 abbrev μ-loop : tie.MeasureT-loop
 μ-loop table formula words count pool₀ i₀ pool i = count - i
@@ -45,10 +38,10 @@ at-start p = (after-fill-outsides′ (p .before)) .before .before .before .befor
 fill-outsides-requires : tie.Need-fill-outsides-requires Inv-loop μ-loop
 fill-outsides-requires c κs =
     let entry = c .before .before .before .before .before in
-    (omega (arith, entry .pre .room), (entry .pre .none, entry .pre .outsidesFit))
+    (omega (arith, entry .pre .room), entry .pre .outsidesFit)
 
 loop-holds : tie.Need-loop-holds Inv-loop μ-loop
-loop-holds c = laws.storing-start _ _ _ _ ((after-fill-outsides c) .fill-outsides .ensures)
+loop-holds c = laws.storing-start _ _ _ _
 
 mul-wide-number : tie.Need-mul-wide-number Inv-loop μ-loop
 mul-wide-number c =
@@ -104,9 +97,9 @@ store-requires c κs =
     let at-fill-outsides = after-fill-outsides′ at-loop in
     let entry = at-start at-loop-test in (
       (
-        (laws.word-short (lexiconOf (entry .args .table .now) .outsides) (entry .args .formula .now) (entry .args .words .now)
+        (laws.word-short (entry .args .formula .now) (entry .args .words .now)
             (at-loop .loop .i) (entry .args .count) (entry .pre .wordsFit) (at-loop-test .loop-test .taken)
-            (laws.word-is (lexiconOf (entry .args .table .now) .outsides) (entry .args .formula .now) (entry .args .words .now) (at-loop .loop .i)
+            (laws.word-is (entry .args .formula .now) (entry .args .words .now) (at-loop .loop .i)
             (wide-number-place .wide-number .ensures) (wide-number2-place .wide-number2 .ensures) (c .part .ensures))),
         (omega (
           arith,
@@ -139,22 +132,10 @@ loop-again c =
     let at-wide-number = after-wide-number at-wide-number2 in
     let at-loop-test = in-loop at-wide-number in
     let at-loop = at-loop-test .before in
-    let at-fill-outsides = after-fill-outsides′ at-loop in
     let entry = at-start at-loop-test in
     laws.storing-next (at-loop .loop .inv) (at-loop-test .loop-test .taken)
-    (laws.word-is (lexiconOf (entry .args .table .now) .outsides) (entry .args .formula .now) (entry .args .words .now) (at-loop .loop .i)
-    (at-wide-number .wide-number .ensures) (at-wide-number2 .wide-number2 .ensures) (at-part .part .ensures))
-    (laws.word-short (lexiconOf (entry .args .table .now) .outsides) (entry .args .formula .now) (entry .args .words .now)
-    (at-loop .loop .i) (entry .args .count) (entry .pre .wordsFit) (at-loop-test .loop-test .taken)
-    (laws.word-is (lexiconOf (entry .args .table .now) .outsides) (entry .args .formula .now) (entry .args .words .now) (at-loop .loop .i)
-    (at-wide-number .wide-number .ensures) (at-wide-number2 .wide-number2 .ensures) (at-part .part .ensures)))
-    (omega (
-      arith,
-      at-loop-test .loop-test .taken,
-      (at-loop .loop .inv) .long,
-      at-fill-outsides .fill-outsides .kept .1 .0,
-      entry .pre .room,
-    )) (store-place .store .ensures)
+    (laws.word-is (entry .args .formula .now) (entry .args .words .now) (at-loop .loop .i)
+    (at-wide-number .wide-number .ensures) (at-wide-number2 .wide-number2 .ensures) (at-part .part .ensures)) (store-place .store .ensures)
 
 same-length : tie.Need-same-length Inv-loop μ-loop
 same-length c = (c .before .loop .inv) .long ∙ (after-fill-outsides′ (c .before)) .fill-outsides .kept .1 .0

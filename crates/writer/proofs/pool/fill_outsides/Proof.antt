@@ -8,15 +8,9 @@ use Rattle.grammar.proofs.LookupLaws.{front-inside}
 use Rattle.writer.proofs.PoolLaws as laws
 use Rattle.writer.proofs.pool.fill_outsides.Statement.{statement}
 use Rattle.writer.proofs.pool.fill_outsides.Tie as tie
-use Rattle.writer.proofs.pool.fill_outsides.Reads as reads
-use Rattle.writer.proofs.pool.fill_outsides.Lts as lts
-use Rattle.grammar.proofs.after_leading.Reads as after-leading-reads
-use Rattle.grammar.proofs.front_at.Reads as front-at-reads
-use Rattle.grammar.proofs.reader.part.Reads as part-reads
-use Rattle.writer.proofs.pool.store.Reads as store-reads
 
 abbrev Inv-loop : tie.InvT-loop
-Inv-loop table pool₀ start at₀ i₀ pool at i = laws.Filling table pool₀ pool start at i
+Inv-loop table pool₀ start at₀ i₀ pool at i = laws.Filling table pool₀ pool at i
 
 abbrev μ-loop : tie.MeasureT-loop
 μ-loop table pool₀ start at₀ i₀ pool at i = 64 - i
@@ -41,7 +35,7 @@ abbrev after-after-leading : tie.After-front-at Inv-loop μ-loop → tie.After-a
 after-after-leading p = (at-loop p) .before
 
 loop-holds : tie.Need-loop-holds Inv-loop μ-loop
-loop-holds c = laws.filling-start _ _ (c .after-leading .result) ((at-start c) .pre .1 .0)
+loop-holds c = laws.filling-start _ _ _ (c .after-leading .ensures)
 
 same-length : tie.Need-same-length Inv-loop μ-loop
 same-length c = ((at-loop (c .before .before)) .loop .inv) .long
@@ -50,7 +44,7 @@ returns : tie.Need-returns Inv-loop μ-loop
 returns c =
     let front-at-place = c .before .before in
     let turn = at-loop front-at-place in
-    laws.filling-out (turn .loop .inv) ((after-after-leading front-at-place) .after-leading .ensures)
+    laws.filling-out (turn .loop .inv)
     Nothing (sym (c .enum-told .given .1) ∙ front-at-place .front-at .ensures) tt
 
 same-length-2 : tie.Need-same-length-2 Inv-loop μ-loop
@@ -60,7 +54,7 @@ returns-2 : tie.Need-returns-2 Inv-loop μ-loop
 returns-2 c =
     let front-at-place = c .before .before in
     let turn = at-loop front-at-place in
-    laws.filling-out (turn .loop .inv) ((after-after-leading front-at-place) .after-leading .ensures)
+    laws.filling-out (turn .loop .inv)
     Short (sym (c .enum-told2 .given .1) ∙ front-at-place .front-at .ensures) tt
 
 same-length-3 : tie.Need-same-length-3 Inv-loop μ-loop
@@ -71,8 +65,7 @@ returns-3 c =
     let front-place = c .before .before in
     let front-at-place = after-front-at front-place in
     let turn = at-loop front-at-place in
-    let at-after-leading = after-after-leading front-at-place in
-    laws.filling-out (turn .loop .inv) (at-after-leading .after-leading .ensures) (Field _ _)
+    laws.filling-out (turn .loop .inv) (Field _ _)
     (sym (front-place .front .given .1) ∙ front-at-place .front-at .ensures) (c .if1 .taken)
 
 add-from : tie.Need-add-from Inv-loop μ-loop
@@ -95,9 +88,9 @@ store-requires c κs =
     let at-after-leading = after-after-leading front-at-place in
     let entry = at-start at-after-leading in (
       (
-        laws.value-short (at-loop .loop .inv) (at-after-leading .after-leading .ensures) (at-loop-test .loop-test .taken)
+        laws.value-short (at-loop .loop .inv) (at-loop-test .loop-test .taken)
             (sym (front-place .front .given .1) ∙ front-at-place .front-at .ensures)
-            (else1 .if1 .left) (entry .pre .1 .1) (c .part .ensures),
+            (else1 .if1 .left) (entry .pre .1) (c .part .ensures),
         omega
             (arith, at-loop-test .loop-test .taken, (at-loop .loop .inv) .long, entry .pre .0),
       ),
@@ -119,12 +112,8 @@ loop-again c =
     let at-front = after-front else1 in
     let at-front-at = after-front-at at-front in
     let at-loop-test = at-front-at .before in
-    let at-loop = at-loop at-front-at in
-    let at-after-leading = after-after-leading at-front-at in
-    let entry = at-start at-after-leading in
-    laws.filling-next (at-loop .loop .inv) (at-after-leading .after-leading .ensures) (at-loop-test .loop-test .taken)
-    (sym (at-front .front .given .1) ∙ at-front-at .front-at .ensures) (else1 .if1 .left)
-    (entry .pre .1 .1) (entry .pre .0) (part-place .part .ensures) (store-place .store .ensures)
+    laws.filling-next ((at-loop at-front-at) .loop .inv) (at-loop-test .loop-test .taken)
+    (sym (at-front .front .given .1) ∙ at-front-at .front-at .ensures) (else1 .if1 .left) (part-place .part .ensures) (store-place .store .ensures)
 
 same-length-4 : tie.Need-same-length-4 Inv-loop μ-loop
 same-length-4 c = (c .before .loop .inv) .long
