@@ -8,26 +8,27 @@ use Rattle.frames.specs.Frames.{frameSize, Standing}
 use Rattle.turns.specs.declared.Advance.{Advance}
 use Rattle.turns.specs.declared.Resumption.{Resumption}
 use Rattle.turns.specs.Turns.{Goes}
-use Rattle.calls.specs.Lent.{tokenCount, reading, Lent}
+use Rattle.steps.specs.Source.{Source}
+use Rattle.calls.specs.Lent.{reading, Lent}
 
 -- what is left of the calls that stand in a room of frames gives R
-abbrev pub StandsAt : (bs tokens cells frames : List ℕ) → Resumption → Result ℕ → Type 0
-StandsAt bs tokens cells frames from R = Standing (reading bs tokens cells) bs frames (from .level) (from .state) cells R
+abbrev pub StandsAt : Source → (tokens cells frames : List ℕ) → Resumption → Result ℕ → Type 0
+StandsAt S tokens cells frames from R = Standing (reading S tokens cells) S frames (from .level) (from .state) cells R
 
 -- what is lent, and where an expansion stands in a room of frames
-pub record MayStand (bs room memory tokens cells stack frames : List ℕ) (from : Resumption) : Type 0 where
-  pub lent : Lent bs room tokens (tokenCount tokens) stack
-  pub remembers : Remembers bs memory
+pub record MayStand (S : Source) (room memory tokens cells stack frames : List ℕ) (from : Resumption) : Type 0 where
+  pub lent : Lent S room tokens stack
+  pub remembers : Remembers (S .bytes) memory
   pub result : Result ℕ
-  pub standing : StandsAt bs tokens cells frames from result
+  pub standing : StandsAt S tokens cells frames from result
 
 -- the same, in a room that has one level more
-pub record MayGo (bs room memory tokens cells stack frames : List ℕ) (from : Resumption) : Type 0 where
-  pub stands : MayStand bs room memory tokens cells stack frames from
+pub record MayGo (S : Source) (room memory tokens cells stack frames : List ℕ) (from : Resumption) : Type 0 where
+  pub stands : MayStand S room memory tokens cells stack frames from
   pub next-fits : (from .level + 2) * frameSize ≤ length frames
 
 -- Whatever what is left of the calls gave, they have ended with it, or what is left of them, in a room that was too short, still gives it. The
 -- choices that are remembered are still the table's.
-pub record Continues (bs tokens cells frames : List ℕ) (from : Resumption) (progress : Advance) (cells′ frames′ memory′ : List ℕ) : Type 0 where
-  pub goes : (R : Result ℕ) → StandsAt bs tokens cells frames from R → Goes (reading bs tokens cells) bs R frames′ cells′ progress
-  pub remembers : Remembers bs memory′
+pub record Continues (S : Source) (tokens cells frames : List ℕ) (from : Resumption) (progress : Advance) (cells′ frames′ memory′ : List ℕ) : Type 0 where
+  pub goes : (R : Result ℕ) → StandsAt S tokens cells frames from R → Goes (reading S tokens cells) S R frames′ cells′ progress
+  pub remembers : Remembers (S .bytes) memory′

@@ -6,10 +6,10 @@ use expansion::Outcome;
 use frames::FRAME;
 use grammar::limits::MOST_VARIABLES;
 use productions::room::ROOM;
-use scanner::room::TOKEN;
 use steps::ItemStep;
 use steps::finish;
 use steps::item_step;
+use templates::rows_of;
 use turns::Advance;
 use turns::Resumption;
 use turns::begins::Begun;
@@ -19,6 +19,7 @@ use turns::paused;
 use turns::resumed;
 use turns::returned;
 use turns::valued;
+ghost use Rattle.steps.specs.Source.{source};
 ghost use Rattle.calls.specs.Calls.{MayGo, Continues};
 
 // How many calls may wait.
@@ -36,20 +37,20 @@ pub fn items(
     tokens: &[u32],
     from: Resumption,
 ) -> Advance
-    requires { ⌜ MayGo (now table) (now room) (now memory) (now tokens) (now cells) (now stack) (now frames) from ⌝ }
-    ensures { λ r. ⌜ Continues (now (table .entry)) (now (tokens .entry)) (now (cells .entry)) (now (frames .entry)) from r (now (cells .exit)) (now
-        (frames .exit)) (now (memory .exit)) ⌝ }
+    requires { ⌜ MayGo (source (now table)) (now room) (now memory) (now tokens) (now cells) (now stack) (now frames) from ⌝ }
+    ensures { λ r. ⌜ Continues (source (now (table .entry))) (now (tokens .entry)) (now (cells .entry)) (now (frames .entry)) from r (now (cells
+        .exit)) (now (frames .exit)) (now (memory .exit)) ⌝ }
 {
-    let n = tokens.len() / TOKEN;
+    let rows = rows_of(cells.len());
     let mut vars = [0u32; MOST_VARIABLES];
     let mut args = [0u32; MOST_VARIABLES];
     let mut c = resumed(frames, &mut vars, from);
     loop {
         let level = c.level;
-        let step = item_step(table, tokens, n, &vars, c, &mut args, cells, stack);
+        let step = item_step(cells, stack, &mut args, table, tokens, rows, &vars, c);
         match step {
             ItemStep::Finished => {
-                let outcome = finish(table, &vars, c, cells, stack);
+                let outcome = finish(cells, stack, table, rows, &vars, c);
                 let Outcome::Value(x, t) = outcome else {
                     return Advance::Ended(outcome);
                 };
@@ -65,16 +66,7 @@ pub fn items(
                 c = valued(&mut vars, c, x, next, t);
             }
             ItemStep::Opened(callee, given, next, t) => {
-                let begun = begin(
-                    room,
-                    memory,
-                    tokens,
-                    n,
-                    MOST_WAITING - level,
-                    callee,
-                    given,
-                    t,
-                );
+                let begun = begin(memory, room, tokens, MOST_WAITING - level, callee, given, t);
                 match begun {
                     Begun::Refused(r) => {
                         return Advance::Ended(Outcome::Halted(r));

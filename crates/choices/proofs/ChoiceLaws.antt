@@ -14,10 +14,9 @@ use borrow.Author.Tests.{eq-eqb, eqb-true, lt-ltb, le-ltb, ltb-true, ltb-false}
 use Rattle.spellings.proofs.BytesLaws.{by-test}
 use Rattle.kinds.specs.Kinds.{noKind, hasKind}
 use Rattle.grammar.proofs.ReaderLaws.{getD-past}
-use Rattle.grammar.specs.Lookup.{fieldsAt}
 use Rattle.decoding.specs.Within.{Each, each-none, each-more, Among, among-first, among-later}
 use Rattle.productions.specs.Normal.{Production}
-use Rattle.productions.specs.Index.{Place, placesOf, productionAt, wholeBody, Whole}
+use Rattle.productions.specs.Index.{Place, placesOf, productionAt, Whole}
 use Rattle.productions.specs.Room.{Entry, noEntry, noPlace, HoldsEntries, placeFrom, isOf, isNullableOf, firstIn, startIn, firstSetIn}
 use Rattle.productions.specs.Room.{firstPlaceIn, nextPlaceIn, nullablePlaceIn}
 use Rattle.productions.proofs.RoomLaws.{first-set-in, first-place-in, nullable-place-in, first-in, start-in, next-place-in}
@@ -539,15 +538,11 @@ module _ {bs room : List ℕ} (held : Held bs room) where
         unfolding chosenStart
         start-chosen = rw (sym equal, chosenStart) (start-in entries-held spot (omega (arith, entries-count, at-place)))
 
-        -- A place: the rule whose items and result stand at its offset, in a whole alternative.
+        -- A place: the rule whose items and result stand at its offset.
         pub chosen-here : choice (ready (productionsIn bs)) nonterminal kind ≡ chosen (R (getD (placesOf bs) spot somewhere))
         chosen-here =
             chosen-is ∙ rw (sym equal) (choice-inside R unfit (placesOf bs) spot at-place)
 
-        -- A whole alternative stands there.
-        pub chosen-whole : wholeBody (fieldsAt bs (startIn room spot)) ≡ true
-        chosen-whole = rw start-is (each-at (held .grammar .whole) spot at-place)
-
-        -- It stands inside the table.
-        pub chosen-inside : startIn room spot ≤ length bs
-        chosen-inside = let w : Whole bs place = each-at (held .places) spot at-place in omega (arith, start-is, w .inside)
+        -- What holds at the beginning of each production holds there.
+        pub chosen-each : (P : ℕ → Type 0) → Each (λ (p : Place). P (p .start)) (placesOf bs) → P (startIn room spot)
+        chosen-each P each = rw start-is (each-at each spot at-place)

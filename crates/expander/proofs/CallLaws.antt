@@ -1,17 +1,14 @@
 -- Laws of the root's call and of the whole formula.
-use Prim.Native.Nat.{ℕ, zero, suc, _+_, _-_, _*_, _/_, _<_, _≤_}
+use Prim.Native.Nat.{ℕ, _-_, _*_, _<_, _≤_}
 use mathlib.Core.Path.{_≡_, refl, sym, ap, _∙_, subst}
 use mathlib.Core.Bool.{Bool, true, false}
 use mathlib.Core.List.{List, []}
-use native.Mathlib.Nat.{mul-div-cancel}
 use native.Mathlib.Omega.{arith}
 use lib.Dec.{ltb}
-use lib.ListN.{length, replicate, take, drop, List·getD-append}
-use lib.Seq.{getD-take, length-take-le}
+use lib.ListN.{length, replicate, drop, List·getD-append}
 use borrow.Author.Tests.{lt-ltb, le-ltb}
 use Rattle.answers.specs.declared.Refusal.{Refusal}
 use Rattle.answers.specs.Refusals.{refusal}
-use Rattle.scanner.specs.Rooms.{tokensFrom, tokensIn, TokensFit}
 use Rattle.expansion.specs.declared.State.{State}
 use Rattle.expansion.specs.declared.Outcome.{Outcome}
 use Rattle.expansion.specs.declared.Outcome.the-variants.{Value, Halted}
@@ -24,18 +21,17 @@ use Rattle.steps.specs.declared.Activation.{Activation}
 use Rattle.steps.specs.Steps.{body}
 use Rattle.frames.specs.Frames.{frameSize, allFrames, LevelFits, Saved, withFront, resume, owed, stacked-none, Standing}
 use Rattle.frames.proofs.FrameLaws.{waits-saved, standing-same}
-use Rattle.terms.specs.Cells.{rowsLent}
-use Rattle.choices.specs.Chosen.{Remembers}
 use Rattle.turns.specs.declared.begins.Begun.{Begun}
 use Rattle.turns.specs.declared.begins.Begun.the-variants.{Entered}
 use Rattle.turns.specs.declared.Resumption.{Resumption}
 use Rattle.turns.specs.declared.Advance.{Advance}
 use Rattle.turns.specs.declared.Advance.the-variants.{Ended, Paused}
-use Rattle.calls.specs.Lent.{tokenCount, reading, lentInput, Lent}
+use Rattle.steps.specs.Source.{Source}
+use Rattle.calls.specs.Lent.{reading}
 use Rattle.calls.specs.Calls.{StandsAt, MayStand, MayGo, Continues}
 use Rattle.turns.specs.Begins.{Begins, CallBegunAt, CallEntered, chosenCall, EntersChosen, Starts}
 use Rattle.turns.specs.Turns.{Goes}
-use Rattle.expander.specs.Roots.{rootItems, RootEntered, MayGoOn, Ends}
+use Rattle.expander.specs.Roots.{rootItems, RootEntered, MayGoOn, Ends, numberedOutcome, numberedRun, Expands}
 use Rattle.turns.proofs.BeginLaws.{entry-weight}
 use Rattle.grammar.specs.Limits.{most}
 
@@ -44,14 +40,13 @@ pub holds-none : Holds (replicate 16 0) 0 []
 holds-none = record { long = refl; count = refl; same = λ i a b. absurd (omega arith) }
 
 -- The root's call is entered, with room for its items.
-pub root-entered : (input : Input) {bs : List ℕ} (root : ℕ) {call : Activation} {next : State} → CallBegunAt bs mostOpen initialState call next
-    → call ≡ chosenCall input bs root 0 initialState
-    → length bs ≤ most .bytes
-    → RootEntered bs call next
+pub root-entered : (input : Input) {S : Source} (root : ℕ) {call : Activation} {next : State} → CallBegunAt S mostOpen initialState call next
+    → call ≡ chosenCall input S root 0 initialState
+    → length (S .bytes) ≤ most .bytes
+    → RootEntered S call next
 root-entered input root e chosen h =
     record {
-      whole = e .whole;
-      inside = e .inside;
+      goes-on = e .goes-on;
       call-fits =
           record { production-small = omega (arith, e .placed); began-small = omega (arith, ap (λ (a : Activation). a .began) chosen) };
       no-variables = ap (λ (a : Activation). a .count) chosen;
@@ -59,10 +54,10 @@ root-entered input root e chosen h =
     }
 
 -- It is saved at the lowest level.
-pub standing-root : {input : Input} {bs : List ℕ} {call : Activation} {state : State} → RootEntered bs call state → (cells : List ℕ)
+pub standing-root : {input : Input} {S : Source} {call : Activation} {state : State} → RootEntered S call state → (cells : List ℕ)
     {old frames : List ℕ}
     → LevelFits frames 0 → Saved old frames 0 (replicate 16 0) call
-    → Standing input bs frames 0 state cells (rootItems input bs (call .next) state cells)
+    → Standing input S frames 0 state cells (rootItems input S (call .next) state cells)
 unfolding resume owed
 standing-root {call = call} t cells fits saved =
     record {
@@ -70,7 +65,7 @@ standing-root {call = call} t cells fits saved =
       current = record { call = call; values = [] };
       waiting = [];
       many = refl;
-      on-top = waits-saved saved (t .call-fits) (rw (t .no-variables) holds-none) (t .whole) (t .inside);
+      on-top = waits-saved saved (t .call-fits) (rw (t .no-variables) holds-none) (t .goes-on);
       counted = omega arith;
       stacked = stacked-none;
       light = omega (arith, t .light);
@@ -78,10 +73,10 @@ standing-root {call = call} t cells fits saved =
     }
 
 -- The calls that stand in a room stand in a longer one that has the same at its front.
-pub standing-copied : {input : Input} {bs short frames : List ℕ} {level : ℕ} {here : State} {cells : List ℕ} {result : Result ℕ}
+pub standing-copied : {input : Input} {S : Source} {short frames : List ℕ} {level : ℕ} {here : State} {cells : List ℕ} {result : Result ℕ}
     → length short ≤ length frames → (old : List ℕ) → frames ≡ withFront old short
-    → Standing input bs short level here cells result
-    → Standing input bs frames level here cells result
+    → Standing input S short level here cells result
+    → Standing input S frames level here cells result
 standing-copied {short = short} fit old e s =
     standing-same (record { few = s .fits .few; inside = omega (arith, s .fits .inside) })
     (λ i l. rw e (List·getD-append short (drop (length short) old) 0 i (omega (arith, s .fits .inside)))) s
@@ -100,8 +95,8 @@ pub record Copied (short frames : List ℕ) : Type 0 where
   pub less : length short < many * frameSize
 
 -- The calls that stand in the shorter room go on in the longer one, which has a level more.
-pub may-go : {bs room memory tokens cells stack short frames : List ℕ} {from : Resumption} → MayGoOn bs room memory tokens cells stack short from
-    → Copied short frames → MayGo bs room memory tokens cells stack frames from
+pub may-go : {S : Source} {room memory tokens cells stack short frames : List ℕ} {from : Resumption} → MayGoOn S room memory tokens cells stack short from
+    → Copied short frames → MayGo S room memory tokens cells stack frames from
 may-go may c =
     let on = may .stands in
     record {
@@ -116,35 +111,35 @@ may-go may c =
     }
 
 -- What they end with there, they end with.
-pub ends-copied : {bs tokens cells short frames : List ℕ} {from : Resumption} {outcome : Outcome} {cells′ : List ℕ} → Copied short frames
-    → Ends bs tokens cells frames from outcome cells′ → Ends bs tokens cells short from outcome cells′
+pub ends-copied : {S : Source} {tokens cells short frames : List ℕ} {from : Resumption} {outcome : Outcome} {cells′ : List ℕ} → Copied short frames
+    → Ends S tokens cells frames from outcome cells′ → Ends S tokens cells short from outcome cells′
 ends-copied c e = record { ends = λ R s. e .ends R (standing-copied (omega (arith, c .long, c .less)) (c .old) (c .front) s) }
 
 -- how far a loop went
-module _ {bs tokens cells frames : List ℕ} {from : Resumption} {advance : Advance} {cells′ frames′ memory′ : List ℕ}
-    (continues : Continues bs tokens cells frames from advance cells′ frames′ memory′) where
+module _ {S : Source} {tokens cells frames : List ℕ} {from : Resumption} {advance : Advance} {cells′ frames′ memory′ : List ℕ}
+    (continues : Continues S tokens cells frames from advance cells′ frames′ memory′) where
   -- It ended.
-  pub ends-here : {outcome : Outcome} → advance ≡ Ended outcome → Ends bs tokens cells frames from outcome cells′
-  ends-here e = record { ends = λ R s. subst (Goes (reading bs tokens cells) bs R frames′ cells′) e (continues .goes R s) }
+  pub ends-here : {outcome : Outcome} → advance ≡ Ended outcome → Ends S tokens cells frames from outcome cells′
+  ends-here e = record { ends = λ R s. subst (Goes (reading S tokens cells) S R frames′ cells′) e (continues .goes R s) }
 
   -- It paused, with as many cells.
   module _ {later : Resumption} (paused : advance ≡ Paused later) (same : length cells′ ≡ length cells) where
-    paused-at : (R : Result ℕ) → StandsAt bs tokens cells frames from R
-        → Standing (reading bs tokens cells) bs frames′ (later .level) (later .state) cells′ R × (length frames′ < allFrames)
-    paused-at R s = subst (Goes (reading bs tokens cells) bs R frames′ cells′) paused (continues .goes R s)
+    paused-at : (R : Result ℕ) → StandsAt S tokens cells frames from R
+        → Standing (reading S tokens cells) S frames′ (later .level) (later .state) cells′ R × (length frames′ < allFrames)
+    paused-at R s = subst (Goes (reading S tokens cells) S R frames′ cells′) paused (continues .goes R s)
 
-    stands-later : (R : Result ℕ) → StandsAt bs tokens cells frames from R → StandsAt bs tokens cells′ frames′ later R
+    stands-later : (R : Result ℕ) → StandsAt S tokens cells frames from R → StandsAt S tokens cells′ frames′ later R
     stands-later R s = rw same (paused-at R s .0)
 
     -- It goes on in a longer room.
-    pub may-go-on : {room memory stack stack′ : List ℕ} → MayStand bs room memory tokens cells stack frames from → length stack′ ≡ length stack
-        → MayGoOn bs room memory′ tokens cells′ stack′ frames′ later
+    pub may-go-on : {room memory stack stack′ : List ℕ} → MayStand S room memory tokens cells stack frames from → length stack′ ≡ length stack
+        → MayGoOn S room memory′ tokens cells′ stack′ frames′ later
     may-go-on may kept =
         let lent = may .lent in
         record {
           stands =
               record {
-                lent = record { table = lent .table; tokens-fit = lent .tokens-fit; stack-long = omega (arith, lent .stack-long) };
+                lent = record { ready = lent .ready; tokens-fit = lent .tokens-fit; stack-long = omega (arith, lent .stack-long) };
                 remembers = continues .remembers;
                 result = may .result;
                 standing = stands-later (may .result) (may .standing);
@@ -153,66 +148,30 @@ module _ {bs tokens cells frames : List ℕ} {from : Resumption} {advance : Adva
         }
 
     -- What it ends with there, it ends with.
-    pub ends-later : {outcome : Outcome} {cells″ : List ℕ} → Ends bs tokens cells′ frames′ later outcome cells″
-        → Ends bs tokens cells frames from outcome cells″
+    pub ends-later : {outcome : Outcome} {cells″ : List ℕ} → Ends S tokens cells′ frames′ later outcome cells″
+        → Ends S tokens cells frames from outcome cells″
     ends-later e = record { ends = λ R s. e .ends R (stands-later R s) }
 
 -- how a call went on
-module _ {input : Input} {bs : List ℕ} {depth nonterminal given : ℕ} {state : State} {begun : Begun} {memory : List ℕ}
-    (starts : Starts input bs depth nonterminal given state begun memory) where
+module _ {input : Input} {S : Source} {depth nonterminal given : ℕ} {state : State} {begun : Begun} {memory : List ℕ}
+    (starts : Starts input S depth nonterminal given state begun memory) where
   -- How it began, by what it answered.
-  pub begins-as : {begun′ : Begun} → begun ≡ begun′ → Begins input bs depth nonterminal state begun′
-  begins-as e = subst (Begins input bs depth nonterminal state) e (starts .begins)
+  pub begins-as : {begun′ : Begun} → begun ≡ begun′ → Begins input S depth nonterminal state begun′
+  begins-as e = subst (Begins input S depth nonterminal state) e (starts .begins)
 
   -- Where it is entered.
-  pub entry-of : {call : Activation} {next : State} → begun ≡ Entered call next → CallBegunAt bs depth state call next
-  entry-of e = subst (CallEntered bs depth state) e (starts .enters)
+  pub entry-of : {call : Activation} {next : State} → begun ≡ Entered call next → CallBegunAt S depth state call next
+  entry-of e = subst (CallEntered S depth state) e (starts .enters)
 
   -- It is the production that is chosen.
-  pub chosen-of : {call : Activation} {next : State} → begun ≡ Entered call next → call ≡ chosenCall input bs nonterminal given state
-  chosen-of e = subst (EntersChosen input bs nonterminal given state) e (starts .entered-chosen)
+  pub chosen-of : {call : Activation} {next : State} → begun ≡ Entered call next → call ≡ chosenCall input S nonterminal given state
+  chosen-of e = subst (EntersChosen input S nonterminal given state) e (starts .entered-chosen)
 
   -- What it gives there it gives.
   pub call-of : {call : Activation} {next : State} → begun ≡ Entered call next → (cells : List ℕ) {result : Result ℕ}
-      → result ≡ body (runCall (depth - 1) input) bs (call .next) input [] next cells
+      → result ≡ body (runCall (depth - 1) input) S (call .next) input [] next cells
       → result ≡ runCall depth input nonterminal [] state cells
   call-of e cells same = same ∙ begins-as e [] cells
-
--- ------------------------------------------------------------------ tokens, cut behind the last
-
-tokens-same : (many from : ℕ) (room : List ℕ) (most : ℕ) → (from + many) * 4 ≤ most → tokensFrom many (take most room) from ≡ tokensFrom many room from
-unfolding tokensFrom
-tokens-same zero from room most h = refl
-tokens-same (suc many) from room most h =
-    rw (
-      getD-take most room (from * 4) 0 (omega arith),
-      getD-take most room (from * 4 + 1) 0 (omega arith),
-      getD-take most room (from * 4 + 2) 0 (omega arith),
-      getD-take most room (from * 4 + 3) 0 (omega arith),
-      tokens-same many (from + 1) room most (omega arith),
-    )
-
-module _ (tokens : List ℕ) (n : ℕ) (fit : TokensFit tokens n) where
-  cut-count : tokenCount (take (n * 4) tokens) ≡ n
-  cut-count = ap (λ (k : ℕ). k / 4) (length-take-le (n * 4) tokens (fit .long)) ∙ (let four : 0 < 4 = omega arith in mul-div-cancel n four)
-
-  -- They are the same tokens.
-  pub cut-tokens : tokensIn (take (n * 4) tokens) (tokenCount (take (n * 4) tokens)) ≡ tokensIn tokens n
-  cut-tokens = rw cut-count (tokens-same n 0 tokens (n * 4) (omega arith))
-
-  -- So what is read is the same.
-  pub cut-reading : (bs cells : List ℕ) → reading bs (take (n * 4) tokens) cells ≡ lentInput bs tokens n (rowsLent (length cells))
-  cut-reading bs cells = rw cut-tokens
-
-  -- They fit.
-  pub cut-fits : TokensFit (take (n * 4) tokens) (tokenCount (take (n * 4) tokens))
-  cut-fits =
-      rw cut-count
-      (record {
-        long = omega (arith, length-take-le (n * 4) tokens (fit .long));
-        few = fit .few;
-        values = λ i l. rw (getD-take (n * 4) tokens (i * 4 + 3) 0 (omega arith)) (fit .values i l);
-      })
 
 -- ------------------------------------------------------------------ the whole formula
 
@@ -242,3 +201,13 @@ pub run-is : (input : Input) (root : ℕ) (cells : List ℕ) {result : Result �
     → after result (ended input) ≡ run input root cells
 unfolding run
 run-is input root cells e = rw e
+
+-- The number and values of an outcome are those of what it stands for.
+pub numbered-ran : (outcome : Outcome) (cells : List ℕ) → numberedOutcome outcome ≡ numberedRun (ran outcome cells)
+numbered-ran (Value row state) cells = refl
+numbered-ran (Halted cause) cells = refl
+
+-- So the run is answered with its number and values.
+pub expands : {S : Source} {tokens : List ℕ} {root : ℕ} (cells : List ℕ) {outcome : Outcome} {cells′ : List ℕ}
+    → ran outcome cells′ ≡ run (reading S tokens cells) root cells → Expands S tokens root cells outcome cells′
+expands cells {outcome} {cells′} e = record { result-is = e; numbered-is = numbered-ran outcome cells′ ∙ ap numberedRun e }

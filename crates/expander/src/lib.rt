@@ -25,11 +25,11 @@ ghost use mathlib.Core.List.{List};
 ghost use lib.ListN.{length};
 ghost use Rattle.expansion.specs.Run.{after};
 ghost use Rattle.expansion.specs.Outcomes.{ran};
-ghost use Rattle.expansion.specs.Expansion.{Input, ended, run};
-ghost use Rattle.terms.specs.Cells.{rowsLent};
-ghost use Rattle.calls.specs.Lent.{reading, lentInput, Lent};
+ghost use Rattle.expansion.specs.Expansion.{Input, ended};
+ghost use Rattle.steps.specs.Source.{source};
+ghost use Rattle.calls.specs.Lent.{reading, Lent};
 ghost use Rattle.calls.specs.Calls.{MayGo};
-ghost use Rattle.expander.specs.Roots.{rootItems, MayBeginRoot, MayGoOn, Ends};
+ghost use Rattle.expander.specs.Roots.{rootItems, MayBeginRoot, MayGoOn, Ends, Expands};
 
 // A formula of fewer tokens than these whose calls do not fit a shorter room most often has them all fit a middle room, or a long one.
 const FEW_TOKENS: usize = 64 * TOKEN;
@@ -48,8 +48,8 @@ fn longer_items(
     short: &[u32],
     from: Resumption,
 ) -> Outcome
-    requires { ⌜ MayGoOn (now table) (now room) (now memory) (now tokens) (now cells) (now stack) (now short) from ⌝ }
-    ensures { λ r. ⌜ Ends (now (table .entry)) (now (tokens .entry)) (now (cells .entry)) (now (short .entry)) from r (now (cells .exit)) ⌝ }
+    requires { ⌜ MayGoOn (source (now table)) (now room) (now memory) (now tokens) (now cells) (now stack) (now short) from ⌝ }
+    ensures { λ r. ⌜ Ends (source (now (table .entry))) (now (tokens .entry)) (now (cells .entry)) (now (short .entry)) from r (now (cells .exit)) ⌝ }
 {
     let few = tokens.len() < FEW_TOKENS;
     if few && short.len() < MIDDLE_FRAMES {
@@ -79,8 +79,8 @@ fn items_in(
     tokens: &[u32],
     from: Resumption,
 ) -> Outcome
-    requires { ⌜ MayGo (now table) (now room) (now memory) (now tokens) (now cells) (now stack) (now frames) from ⌝ }
-    ensures { λ r. ⌜ Ends (now (table .entry)) (now (tokens .entry)) (now (cells .entry)) (now (frames .entry)) from r (now (cells .exit)) ⌝ }
+    requires { ⌜ MayGo (source (now table)) (now room) (now memory) (now tokens) (now cells) (now stack) (now frames) from ⌝ }
+    ensures { λ r. ⌜ Ends (source (now (table .entry))) (now (tokens .entry)) (now (cells .entry)) (now (frames .entry)) from r (now (cells .exit)) ⌝ }
 {
     let progress = items(cells, stack, frames, memory, table, room, tokens, from);
     match progress {
@@ -100,9 +100,9 @@ fn root_items(
     call: Activation,
     s: State,
 ) -> Outcome
-    requires { ⌜ MayBeginRoot (now table) (now room) (now memory) (now tokens) (now stack) call s ⌝ }
-    ensures { λ r. ⌜ ran r (now (cells .exit)) ≡ rootItems (reading (now (table .entry)) (now (tokens .entry)) (now (cells .entry))) (now (table .entry))
-        (call .next) s (now (cells .entry)) ⌝ }
+    requires { ⌜ MayBeginRoot (source (now table)) (now room) (now memory) (now tokens) (now stack) call s ⌝ }
+    ensures { λ r. ⌜ ran r (now (cells .exit)) ≡ rootItems (reading (source (now (table .entry))) (now (tokens .entry)) (now (cells .entry))) (source (now
+        (table .entry))) (call .next) s (now (cells .entry)) ⌝ }
 {
     let vars = [0u32; MOST_VARIABLES];
     let mut frames = [0u32; SHORT_FRAMES];
@@ -134,39 +134,28 @@ fn ended(n: usize, outcome: Outcome) -> Outcome
 }
 
 // The expansion of a formula's tokens: a call of the root that leaves no token over. It works from the table's bytes, from the room in
-// which the check has laid its grammar, and from the room of the tokens; it does not check the table. `stack` takes a template that is
-// being evaluated; what it holds before and after is of no account.
+// which the check has laid its grammar, and from the tokens; it does not check the table. `stack` takes a template that is being
+// evaluated; what it holds before and after is of no account.
 // Ruled out are, among others, an expander that copies inner phrases unopened, one that answers invented counts of cells, and one
 // that claims 20 or 21 at its first step.
 pub fn run(
+    cells: &mut [u32],
+    stack: &mut [u32],
     table: &[u8],
     room: &[u64; ROOM],
     root: u8,
     tokens: &[u32],
-    n: usize,
-    cells: &mut [u32],
-    stack: &mut [u32],
 ) -> Outcome
-    requires { ⌜ Lent (now table) (now room) (now tokens) n (now stack) ⌝ }
-    ensures { λ r. ⌜ ran r (now (cells .exit)) ≡ run (lentInput (now (table .entry)) (now (tokens .entry)) n (rowsLent (length (now (cells .entry)))))
-        root (now (cells .entry)) ⌝ }
+    requires { ⌜ Lent (source (now table)) (now room) (now tokens) (now stack) ⌝ }
+    ensures { λ r. ⌜ Expands (source (now (table .entry))) (now (tokens .entry)) root (now (cells .entry)) r (now (cells .exit)) ⌝ }
 {
     let mut memory = [0u8; MEMORY];
-    let begun = begin_root(room, &mut memory, tokens, n, root);
+    let begun = begin_root(&mut memory, room, tokens, root);
     match begun {
         Begun::Refused(r) => Outcome::Halted(r),
         Begun::Entered(call, t) => {
-            let end = n * TOKEN;
-            let outcome = root_items(
-                cells,
-                stack,
-                &mut memory,
-                table,
-                room,
-                &tokens[..end],
-                call,
-                t,
-            );
+            let n = tokens.len() / TOKEN;
+            let outcome = root_items(cells, stack, &mut memory, table, room, tokens, call, t);
             ended(n, outcome)
         }
     }

@@ -1,7 +1,6 @@
 -- Laws of the calls that wait: how they stand in a room, and what they make of the value of the call above them.
 use Prim.Native.Nat.{ℕ, suc, _+_, _*_, _<_, _≤_}
 use mathlib.Core.Path.{_≡_, refl, sym, ap, _∙_, subst}
-use mathlib.Core.Bool.{true}
 use mathlib.Core.List.{List, [], _∷_, _++_}
 use native.Mathlib.Omega.{arith}
 use native.Mathlib.Decide.{ℕ-discrete}
@@ -9,15 +8,14 @@ use lib.ListN.{length, getD, set, take, drop, length-set, replicate}
 use lib.Seq.{getD-set-same, getD-set-other, drop-cons, take-suc, take-length, length-take-le, set-at, append-snoc}
 use native.Mathlib.Numerals.{add-one}
 use Rattle.answers.specs.declared.Refusal.{Refusal}
-use Rattle.grammar.specs.Lookup.{fieldsAt}
-use Rattle.productions.specs.Index.{wholeBody}
 use Rattle.expansion.specs.declared.State.{State}
 use Rattle.expansion.specs.Run.{Result, halt}
 use Rattle.expansion.specs.Expansion.{Input}
 use Rattle.templates.specs.Built.{Holds}
+use Rattle.steps.specs.Source.{Source, GoesOn}
 use Rattle.steps.specs.declared.Activation.{Activation}
-use Rattle.frames.specs.Frames.{frameSize, activationIn, LevelFits, CallFits, Saved, Loaded, withFront, Frame, resume, Waits, Stacked, stacked-none, stacked-one}
-use Rattle.frames.specs.Frames.{Standing}
+use Rattle.frames.specs.Frames.{frameSize, activationIn, LevelFits, CallFits, Saved, Loaded, withFront, Frame, resume, Waits}
+use Rattle.frames.specs.Frames.{Stacked, stacked-none, stacked-one, Standing}
 
 -- ------------------------------------------------------------------ 16 variables, copied one by one
 
@@ -168,11 +166,11 @@ activation-read frames level p b c n = rw (p, b, c, n)
 -- ------------------------------------------------------------------ the calls that wait
 
 -- Calls that wait pass a refusal on.
-pub resume-halt : (input : Input) (bs : List ℕ) (fs : List Frame) (refusal : Refusal) (cells : List ℕ)
-    → resume input bs fs (halt refusal cells) ≡ halt refusal cells
+pub resume-halt : (input : Input) (S : Source) (fs : List Frame) (refusal : Refusal) (cells : List ℕ)
+    → resume input S fs (halt refusal cells) ≡ halt refusal cells
 unfolding resume
-resume-halt input bs [] refusal cells = refl
-resume-halt input bs (f ∷ fs) refusal cells = resume-halt input bs fs refusal cells
+resume-halt input S [] refusal cells = refl
+resume-halt input S (f ∷ fs) refusal cells = resume-halt input S fs refusal cells
 
 -- the activation at a level, in a room that is the same there
 activation-same : (old new : List ℕ) (level : ℕ)
@@ -186,69 +184,69 @@ activation-same old new level h =
       h (level * frameSize + 19) (omega arith),
     )
 
-waits-same : {bs old new : List ℕ} {level : ℕ} {frame : Frame} → Waits bs old level frame
+waits-same : {S : Source} {old new : List ℕ} {level : ℕ} {frame : Frame} → Waits S old level frame
     → ((place : ℕ) → place < level * frameSize + frameSize → getD new place 0 ≡ getD old place 0)
-    → Waits bs new level frame
+    → Waits S new level frame
 waits-same {old = old} {new = new} {level = level} w h =
     record {
       call-is = activation-same old new level h ∙ w .call-is;
       call-fits = w .call-fits;
       counted = w .counted;
       held = λ i a b. h (level * frameSize + i) (omega arith) ∙ w .held i a b;
-      whole = w .whole;
-      inside = w .inside;
+      goes-on = w .goes-on;
     }
 
 -- what stands above them changes nothing
-pub stacked-same : {bs old new : List ℕ} {fs : List Frame} → ((place : ℕ) → place < length fs * frameSize → getD new place 0 ≡ getD old place 0)
-    → Stacked bs old fs → Stacked bs new fs
+pub stacked-same : {S : Source} {old new : List ℕ} {fs : List Frame} → ((place : ℕ) → place < length fs * frameSize → getD new place 0 ≡ getD old place 0)
+    → Stacked S old fs → Stacked S new fs
 stacked-same h stacked-none = stacked-none
 stacked-same h (stacked-one w few s) = stacked-one (waits-same w (λ i l. h i (omega arith))) few (stacked-same (λ i l. h i (omega arith)) s)
 
--- where a call goes on, how many variables it has, and that its activation fits, as its frame has them
-pub waits-next : {bs frames : List ℕ} {level : ℕ} {frame : Frame} → Waits bs frames level frame → activationIn frames level .next ≡ frame .call .next
-waits-next w = ap (λ (a : Activation). a .next) (w .call-is)
+-- what the room has of a call that waits there, as its frame has it
+module _ {S : Source} {frames : List ℕ} {level : ℕ} {frame : Frame} (waits : Waits S frames level frame) where
+  -- Where it goes on.
+  pub waits-next : activationIn frames level .next ≡ frame .call .next
+  waits-next = ap (λ (a : Activation). a .next) (waits .call-is)
 
-pub waits-count : {bs frames : List ℕ} {level : ℕ} {frame : Frame} → Waits bs frames level frame → activationIn frames level .count ≡ frame .call .count
-waits-count w = ap (λ (a : Activation). a .count) (w .call-is)
+  -- How many variables it has.
+  pub waits-count : activationIn frames level .count ≡ frame .call .count
+  waits-count = ap (λ (a : Activation). a .count) (waits .call-is)
 
-pub waits-fits : {bs frames : List ℕ} {level : ℕ} {frame : Frame} → Waits bs frames level frame → CallFits (activationIn frames level)
-waits-fits w = subst CallFits (sym (w .call-is)) (w .call-fits)
+  -- Its activation fits.
+  pub waits-fits : CallFits (activationIn frames level)
+  waits-fits = subst CallFits (sym (waits .call-is)) (waits .call-fits)
 
 -- a call that is saved
-pub waits-saved : {bs old new vars : List ℕ} {level : ℕ} {call : Activation} {values : List ℕ} → Saved old new level vars call
+pub waits-saved : {S : Source} {old new vars : List ℕ} {level : ℕ} {call : Activation} {values : List ℕ} → Saved old new level vars call
     → CallFits call
     → Holds vars (call .count) values
-    → wholeBody (fieldsAt bs (call .next)) ≡ true
-    → call .next ≤ length bs
-    → Waits bs new level (record { call = call; values = values })
-waits-saved v fits g w inside =
+    → GoesOn S (call .next)
+    → Waits S new level (record { call = call; values = values })
+waits-saved v fits g there =
     record {
       call-is = v .call-is;
       call-fits = fits;
       counted = sym (g .count);
       held = λ i a b. v .values i a ∙ g .same i a (omega (arith, g .count));
-      whole = w;
-      inside = inside;
+      goes-on = there;
     }
 
 -- one more waits
-pub stacked-more : {bs old new vars : List ℕ} {level : ℕ} {call : Activation} {values : List ℕ} {fs : List Frame} → length fs ≡ level
+pub stacked-more : {S : Source} {old new vars : List ℕ} {level : ℕ} {call : Activation} {values : List ℕ} {fs : List Frame} → length fs ≡ level
     → Saved old new level vars call
     → CallFits call
     → Holds vars (call .count) values
-    → wholeBody (fieldsAt bs (call .next)) ≡ true
-    → call .count < length bs + call .next
-    → call .next ≤ length bs
-    → Stacked bs old fs
-    → Stacked bs new (record { call = call; values = values } ∷ fs)
-stacked-more {call = call} {values = values} {fs = fs} e v fits g w few inside s =
-    stacked-one {f = record { call = call; values = values }} {fs = fs} (rw e (waits-saved v fits g w inside))
+    → GoesOn S (call .next)
+    → call .count < length (S .bytes) + call .next
+    → Stacked S old fs
+    → Stacked S new (record { call = call; values = values } ∷ fs)
+stacked-more {call = call} {values = values} {fs = fs} e v fits g there few s =
+    stacked-one {f = record { call = call; values = values }} {fs = fs} (rw e (waits-saved v fits g there))
     (omega (arith, g .count))
     (stacked-same (λ i l. v .same i (omega arith)) s)
 
 -- the variables of the innermost, read back
-pub waits-holds : {bs frames vars : List ℕ} {level : ℕ} {frame : Frame} → Waits bs frames level frame → Loaded frames level vars
+pub waits-holds : {S : Source} {frames vars : List ℕ} {level : ℕ} {frame : Frame} → Waits S frames level frame → Loaded frames level vars
     → Holds vars (activationIn frames level .count) (frame .values)
 waits-holds w l =
     record {
@@ -260,10 +258,10 @@ waits-holds w l =
 -- ------------------------------------------------------------------ where an expansion stands
 
 -- the same in another room, as far as the calls stand
-pub standing-same : {input : Input} {bs old new : List ℕ} {level : ℕ} {here : State} {cells : List ℕ} {result : Result ℕ} → LevelFits new level
+pub standing-same : {input : Input} {S : Source} {old new : List ℕ} {level : ℕ} {here : State} {cells : List ℕ} {result : Result ℕ} → LevelFits new level
     → ((place : ℕ) → place < level * frameSize + frameSize → getD new place 0 ≡ getD old place 0)
-    → Standing input bs old level here cells result
-    → Standing input bs new level here cells result
+    → Standing input S old level here cells result
+    → Standing input S new level here cells result
 standing-same f h s =
     record {
       fits = f;

@@ -2,16 +2,14 @@
 -- them to believe `expand`.
 use Prim.Native.Nat.{ℕ, _+_, _-_, _*_, _^_, _<_, _≤_}
 use mathlib.Core.Path.{_≡_}
-use mathlib.Core.Bool.{true}
 use mathlib.Core.List.{List, [], _∷_, _++_}
 use lib.ListN.{length, getD, drop}
 use Rattle.grammar.specs.Variables.{mostVariables}
-use Rattle.grammar.specs.Lookup.{fieldsAt}
-use Rattle.productions.specs.Index.{wholeBody}
 use Rattle.expansion.specs.declared.State.{State}
 use Rattle.expansion.specs.Run.{Result, after}
 use Rattle.expansion.specs.Limits.{mostOpen}
 use Rattle.expansion.specs.Expansion.{Input, runCall}
+use Rattle.steps.specs.Source.{Source, GoesOn}
 use Rattle.steps.specs.Steps.{body, weight, mostWeight}
 use Rattle.steps.specs.declared.Activation.{Activation}
 
@@ -78,40 +76,44 @@ pub record Frame : Type 0 where
   pub values : List ℕ
 
 -- what the calls that wait, the innermost first, make of what the call above them gives
-unfoldable pub resume : Input → List ℕ → List Frame → Result ℕ → Result ℕ
-resume I bs [] r = r
-resume I bs (f ∷ fs) r =
-    resume I bs fs (after r (λ x. body (runCall (mostWaiting - length fs) I) bs (f .call .next) I (f .values ++ (x ∷ []))))
+unfoldable pub resume : Input → Source → List Frame → Result ℕ → Result ℕ
+resume I S [] r = r
+resume I S (f ∷ fs) r =
+    resume I S fs (after r (λ x. body (runCall (mostWaiting - length fs) I) S (f .call .next) I (f .values ++ (x ∷ []))))
 
--- the bytes of the alternatives that they go on with
-unfoldable pub owed : List ℕ → List Frame → ℕ
-owed bs [] = 0
-owed bs (f ∷ fs) = (length bs - f .call .next) + owed bs fs
+-- the bytes from an offset of the source on
+abbrev pub ahead : Source → ℕ → ℕ
+ahead S at = length (S .bytes) - at
+
+-- those of the productions that they go on with
+unfoldable pub owed : Source → List Frame → ℕ
+owed S [] = 0
+owed S (f ∷ fs) = ahead S (f .call .next) + owed S fs
 
 -- a call stands at a level of the room
-pub record Waits (bs frames : List ℕ) (level : ℕ) (f : Frame) : Type 0 where
+pub record Waits (S : Source) (frames : List ℕ) (level : ℕ) (f : Frame) : Type 0 where
   pub call-is : activationIn frames level ≡ f .call
   pub call-fits : CallFits (f .call)
   pub counted : f .call .count ≡ length (f .values)
   pub held : (i : ℕ) → i < mostVariables → i < length (f .values) → getD frames (level * frameSize + i) 0 ≡ getD (f .values) i 0
-  pub whole : wholeBody (fieldsAt bs (f .call .next)) ≡ true
-  pub inside : f .call .next ≤ length bs
+  pub goes-on : GoesOn S (f .call .next)
 
-pub data Stacked (bs frames : List ℕ) : List Frame → Type 0 where
-  stacked-none : Stacked bs frames []
-  stacked-one : {f : Frame} {fs : List Frame} → Waits bs frames (length fs) f → length (f .values) < length bs + f .call .next → Stacked bs frames fs
-      → Stacked bs frames (f ∷ fs)
+pub data Stacked (S : Source) (frames : List ℕ) : List Frame → Type 0 where
+  stacked-none : Stacked S frames []
+  stacked-one : {f : Frame} {fs : List Frame} → Waits S frames (length fs) f → length (f .values) < length (S .bytes) + f .call .next
+      → Stacked S frames fs
+      → Stacked S frames (f ∷ fs)
 
 -- ------------------------------------------------------------------ where an expansion stands
 
 -- `level` calls wait below the one that goes on; all stand in the room, and what is left of them gives R
-pub record Standing (I : Input) (bs frames : List ℕ) (level : ℕ) (here : State) (cells : List ℕ) (R : Result ℕ) : Type 0 where
+pub record Standing (I : Input) (S : Source) (frames : List ℕ) (level : ℕ) (here : State) (cells : List ℕ) (R : Result ℕ) : Type 0 where
   pub fits : LevelFits frames level
   pub current : Frame
   pub waiting : List Frame
   pub many : length waiting ≡ level
-  pub on-top : Waits bs frames level current
-  pub counted : length (current .values) ≤ length bs + current .call .next
-  pub stacked : Stacked bs frames waiting
-  pub light : weight here + (length bs - current .call .next) + owed bs waiting ≤ mostWeight
-  pub rest : resume I bs waiting (body (runCall (mostWaiting - level) I) bs (current .call .next) I (current .values) here cells) ≡ R
+  pub on-top : Waits S frames level current
+  pub counted : length (current .values) ≤ length (S .bytes) + current .call .next
+  pub stacked : Stacked S frames waiting
+  pub light : weight here + ahead S (current .call .next) + owed S waiting ≤ mostWeight
+  pub rest : resume I S waiting (body (runCall (mostWaiting - level) I) S (current .call .next) I (current .values) here cells) ≡ R

@@ -1,8 +1,8 @@
 -- What the promises of check, scan and run come to, joined.
-use Prim.Native.Nat.{ℕ, _≤_}
+use Prim.Native.Nat.{ℕ, _*_, _≤_}
 use mathlib.Core.Path.{_≡_, sym, _∙_}
 use mathlib.Core.List.{List}
-use lib.ListN.{length}
+use lib.ListN.{length, take}
 use Rattle.grammar.specs.Limits.{most}
 use Rattle.answers.specs.declared.Refusal.{Refusal}
 use Rattle.answers.specs.declared.Verdict.{Verdict}
@@ -12,6 +12,9 @@ use Rattle.grammar.specs.Lookup.{lexiconOf}
 use Rattle.decoding.proofs.Split.{Bytes}
 use Rattle.decoding.proofs.LayoutTheorems.{decode-exactly}
 use Rattle.decoding.proofs.DecodedLexicon.{lexicon-decoded}
+use Rattle.decoding.proofs.Inverse.{decoded-layout}
+use Rattle.decoding.specs.Within.{Each}
+use Rattle.productions.specs.Index.{Place, placesOf}
 use Rattle.tokens.specs.declared.Scanned.{Scanned}
 use Rattle.tokens.specs.declared.Scanned.the-variants.{Tokens, Unscanned}
 use Rattle.scanner.specs.Rooms.{Filled, filled, scanInto, RoomFor}
@@ -25,17 +28,27 @@ use Rattle.expansion.specs.declared.Outcome.{Outcome}
 use Rattle.expansion.specs.Outcomes.{ran}
 use Rattle.parser.specs.declared.Parsed.{Parsed}
 use Rattle.parser.specs.Parse.{HoldsPassed, CheckedRoom, haltedParse, parsedInto, parseInto, runIn}
+use Rattle.steps.specs.Source.{source, GoesOn}
+use Rattle.steps.proofs.SourceLaws.{productions-from}
 use Rattle.parser.proofs.Parsing as parsing
+use Rattle.parser.proofs.Complete.{complete-places}
+use Rattle.parser.proofs.Cutting.{cut-tokens}
 use Rattle.parser.proofs.Root.{root-last}
 
 -- ------------------------------------------------------------------ the check
 
 module _ {bs : List ℕ} (bytes : Bytes bs) where
+  -- the productions of a table that passes go on where they begin
+  begun : (P : Passes bs) → Each (λ (p : Place). GoesOn (source bs) (p .start)) (placesOf bs)
+  begun P =
+      let decoded = decode-exactly bs bytes (P .table) .1 (P .encoded, P .within) in
+      complete-places bs (decoded-layout bs (P .table) decoded .0) (passed-places bytes P)
+
   -- a table that the check passes, and its room
   checked-passes : {room₀ room : List ℕ} {verdict : Verdict} → CheckedInto bs room₀ room verdict → verdict ≡ Passed → HoldsPassed bs room
   checked-passes c e =
       let P : Passes bs = check-exactly bs bytes .0 (sym (c .answer) ∙ e) in
-      record { passes = P; held = record { grammar = passed-holds bytes P c; places = passed-places bytes P } }
+      record { passes = P; ready = record { held = record { grammar = passed-holds bytes P c; places = passed-places bytes P }; begun = begun P } }
 
   -- What the check of a table gives an expansion.
   pub checked-room : {room₀ room : List ℕ} {verdict : Verdict} → CheckedInto bs room₀ room verdict → CheckedRoom bs room verdict
@@ -74,10 +87,14 @@ module _ {bs : List ℕ} (bytes : Bytes bs) where
 
           -- ------------------------------------------------------------------ the run
 
-          -- The run of the tokens in the room ends the parse.
+          -- The run of the tokens, cut behind the last, ends the parse.
           pub runs-whole : (cells : List ℕ) {outcome : Outcome} {cells′ : List ℕ}
-              → ran outcome cells′ ≡ runIn bs tokens′ many cells
+              → ran outcome cells′ ≡ runIn bs (take (many * 4) tokens′) cells
               → parsedInto (record { outcome = outcome; words = count }) tokens′ words′ cells′ ≡ parseInto syntax formula tokens words cells
           runs-whole cells {outcome} e =
               parsing.into-run syntax formula tokens words cells outcome (rw accepts at (in-lexicon fills))
-              (rw (passed-grammar bytes passes, scan-fills .tokens-are, root-last (passes .table) (passes .encoded)) at e)
+              (rw (
+                productions-from (source bs) ∙ passed-grammar bytes passes,
+                cut-tokens (scan-fills .tokens-fit) ∙ scan-fills .tokens-are,
+                root-last (passes .table) (passes .encoded),
+              ) at e)

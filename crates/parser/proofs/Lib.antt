@@ -1,3 +1,5 @@
 pub mod Parsing
 pub mod Root
+pub mod Complete
+pub mod Cutting
 pub mod Joining

@@ -7,10 +7,9 @@ use lib.ListN.{length, getD}
 use Rattle.answers.specs.declared.Refusal.{Refusal}
 use Rattle.answers.specs.declared.Verdict.{Verdict}
 use Rattle.answers.specs.declared.Verdict.the-variants.{Passed}
-use Rattle.terms.specs.Cells.{rowsLent}
 use Rattle.tokens.specs.declared.Scanned.the-variants.{Tokens, Unscanned}
 use Rattle.tokens.specs.Scan.{Lexed, scan}
-use Rattle.scanner.specs.Rooms.{TokensFit, RoomFor, Filled, filled, scanInto}
+use Rattle.scanner.specs.Rooms.{RoomFor, Filled, filled, scanInto}
 use Rattle.checker.specs.Syntax.{Syntax}
 use Rattle.checker.specs.Check.{check}
 use Rattle.checker.specs.Passes.{Passes}
@@ -18,7 +17,7 @@ use Rattle.expansion.specs.declared.Outcome.{Outcome}
 use Rattle.expansion.specs.declared.Outcome.the-variants.{Value, Halted}
 use Rattle.expansion.specs.Run.{Result, done, halt}
 use Rattle.expansion.specs.Expansion.{inputOf, run}
-use Rattle.calls.specs.Lent.{Held, lentInput}
+use Rattle.calls.specs.Lent.{source, LentTokens, Ready, reading}
 use Rattle.parser.specs.declared.Parsed.{Parsed}
 
 -- the answer, and all that was lent as it is at exit
@@ -59,7 +58,7 @@ parseInto syntax formula tokens words cells =
 -- a room holds the grammar of a table that passes
 pub record HoldsPassed (bs room : List ℕ) : Type 0 where
   pub passes : Passes bs
-  pub held : Held bs room
+  pub ready : Ready (source bs) room
 
 -- the verdict of a table's check, and of a table that passes a room that holds its grammar: what a check gives an expansion
 pub record CheckedRoom (bs room : List ℕ) (verdict : Verdict) : Type 0 where
@@ -71,17 +70,17 @@ pub record Parseable (bs room formula tokens words : List ℕ) : Type 0 where
   pub checked : HoldsPassed bs room
   pub rooms : RoomFor formula tokens words
 
--- what the run of a room's first n tokens asks
-pub record Runnable (bs room tokens : List ℕ) (n : ℕ) : Type 0 where
-  pub held : Held bs room
-  pub tokens-fit : TokensFit tokens n
+-- what the run of tokens asks
+pub record Runnable (bs room tokens : List ℕ) : Type 0 where
+  pub ready : Ready (source bs) room
+  pub tokens-fit : LentTokens tokens
 
 -- and under a table that is not empty, of so many bytes at most
-pub record RunnableWithin (most : ℕ) (bs room tokens : List ℕ) (n : ℕ) : Type 0 where
-  pub runnable : Runnable bs room tokens n
+pub record RunnableWithin (most : ℕ) (bs room tokens : List ℕ) : Type 0 where
+  pub runnable : Runnable bs room tokens
   pub some : 0 < length bs
   pub within : length bs ≤ most
 
--- the run of a room's first n tokens under a table, from the nonterminal that its last byte names
-abbrev pub runIn : List ℕ → List ℕ → ℕ → List ℕ → Result ℕ
-runIn bs tokens n cells = run (lentInput bs tokens n (rowsLent (length cells))) (getD bs (length bs - 1) 0) cells
+-- the run of tokens under a table, from the nonterminal that its last byte names
+abbrev pub runIn : List ℕ → List ℕ → List ℕ → Result ℕ
+runIn bs tokens cells = run (reading (source bs) tokens cells) (getD bs (length bs - 1) 0) cells

@@ -6,6 +6,7 @@ use grammar::limits::LONGEST_TABLE;
 use grammar::limits::MIDDLE_TABLE;
 use grammar::limits::SMALL_TABLE;
 use productions::room::ROOM;
+use scanner::room::TOKEN;
 use tokens::Scanned;
 ghost use Prim.Native.Nat.{_-_};
 ghost use mathlib.Core.Path.{_≡_};
@@ -42,67 +43,49 @@ fn last_byte(bytes: &[u8]) -> u8
     bytes[bytes.len() - 1]
 }
 
-// The run of n tokens with a room for the templates of a table of up to 4,096 bytes. It calls itself on what it is never passed, an empty table: the
+// The run of tokens with a room for the templates of a table of up to 4,096 bytes. It calls itself on what it is never passed, an empty table: the
 // back end lays no such function into its caller, whose frame stays without this room.
-fn run_middle(
-    table: &[u8],
-    room: &[u64; ROOM],
-    tokens: &[u32],
-    n: usize,
-    cells: &mut [u32],
-) -> Outcome
-    requires { ⌜ RunnableWithin 4096 (now table) (now room) (now tokens) n ⌝ }
-    ensures { λ r. ⌜ ran r (now (cells .exit)) ≡ runIn (now (table .entry)) (now (tokens .entry)) n (now (cells .entry)) ⌝ }
+fn run_middle(cells: &mut [u32], table: &[u8], room: &[u64; ROOM], tokens: &[u32]) -> Outcome
+    requires { ⌜ RunnableWithin 4096 (now table) (now room) (now tokens) ⌝ }
+    ensures { λ r. ⌜ ran r (now (cells .exit)) ≡ runIn (now (table .entry)) (now (tokens .entry)) (now (cells .entry)) ⌝ }
 {
     if table.len() == 0 {
         let root = [0u8; 1];
-        return run_middle(&root, room, tokens, n, cells);
+        return run_middle(cells, &root, room, tokens);
     }
     let root = last_byte(table);
     let mut stack = [0u32; MIDDLE_TABLE];
-    run(table, room, root, tokens, n, cells, &mut stack)
+    run(cells, &mut stack, table, room, root, tokens)
 }
 
 // The same with a room for the templates of every table.
-fn run_long(
-    table: &[u8],
-    room: &[u64; ROOM],
-    tokens: &[u32],
-    n: usize,
-    cells: &mut [u32],
-) -> Outcome
-    requires { ⌜ RunnableWithin (most .bytes) (now table) (now room) (now tokens) n ⌝ }
-    ensures { λ r. ⌜ ran r (now (cells .exit)) ≡ runIn (now (table .entry)) (now (tokens .entry)) n (now (cells .entry)) ⌝ }
+fn run_long(cells: &mut [u32], table: &[u8], room: &[u64; ROOM], tokens: &[u32]) -> Outcome
+    requires { ⌜ RunnableWithin (most .bytes) (now table) (now room) (now tokens) ⌝ }
+    ensures { λ r. ⌜ ran r (now (cells .exit)) ≡ runIn (now (table .entry)) (now (tokens .entry)) (now (cells .entry)) ⌝ }
 {
     if table.len() == 0 {
         let root = [0u8; 1];
-        return run_long(&root, room, tokens, n, cells);
+        return run_long(cells, &root, room, tokens);
     }
     let root = last_byte(table);
     let mut stack = [0u32; LONGEST_TABLE];
-    run(table, room, root, tokens, n, cells, &mut stack)
+    run(cells, &mut stack, table, room, root, tokens)
 }
 
-// The run of n tokens, with a room for the templates of a table of its size.
-fn run_tokens(
-    table: &[u8],
-    room: &[u64; ROOM],
-    tokens: &[u32],
-    n: usize,
-    cells: &mut [u32],
-) -> Outcome
-    requires { ⌜ Runnable (now table) (now room) (now tokens) n ⌝ }
-    ensures { λ r. ⌜ ran r (now (cells .exit)) ≡ runIn (now (table .entry)) (now (tokens .entry)) n (now (cells .entry)) ⌝ }
+// The run of tokens, with a room for the templates of a table of its size.
+fn run_tokens(cells: &mut [u32], table: &[u8], room: &[u64; ROOM], tokens: &[u32]) -> Outcome
+    requires { ⌜ Runnable (now table) (now room) (now tokens) ⌝ }
+    ensures { λ r. ⌜ ran r (now (cells .exit)) ≡ runIn (now (table .entry)) (now (tokens .entry)) (now (cells .entry)) ⌝ }
 {
     if table.len() <= SMALL_TABLE {
         let root = last_byte(table);
         let mut stack = [0u32; SMALL_TABLE];
-        return run(table, room, root, tokens, n, cells, &mut stack);
+        return run(cells, &mut stack, table, room, root, tokens);
     }
     if table.len() <= MIDDLE_TABLE {
-        return run_middle(table, room, tokens, n, cells);
+        return run_middle(cells, table, room, tokens);
     }
-    run_long(table, room, tokens, n, cells)
+    run_long(cells, table, room, tokens)
 }
 
 // Scans a formula under a table that passed the check, and runs its tokens, with rooms that take all tokens and all words of the formula. The promise
@@ -123,7 +106,8 @@ pub fn parse_passed(
     match scanned {
         Scanned::Unscanned(r) => halted(r),
         Scanned::Tokens(n, count) => {
-            let outcome = run_tokens(table, room, tokens, n, cells);
+            let end = n * TOKEN;
+            let outcome = run_tokens(cells, table, room, &tokens[..end]);
             Parsed {
                 outcome,
                 words: count,

@@ -37,7 +37,7 @@ use Rattle.productions.proofs.FewAlternatives.{few-alternatives}
 -- ------------------------------------------------------------------ fields stand where they say
 
 -- behind each field stand the fields that follow it
-abbrev Stands : List ℕ → RawFields → Type 0
+abbrev pub Stands : List ℕ → RawFields → Type 0
 Stands bs (end at) = Unit {0}
 Stands bs (cut at) = Unit {0}
 Stands bs (next at tag v fs) = (at + 3 + length v ≤ length bs) × (fieldsAt bs (at + 3 + length v) ≡ fs) × Stands bs fs
@@ -61,7 +61,8 @@ stands-from bs (next at′ tag v fs) at e =
     let here = stands-here bs at at′ tag v fs (frontOf (drop at bs)) refl (e ∙ fields-at bs at refl) in
     (here .0, here .1, stands-from bs fs (at′ + 3 + length v) (sym (here .1)))
 
-stands : (bs : List ℕ) → Stands bs (fieldsOf bs)
+-- So it is with the fields of a table.
+pub stands : (bs : List ℕ) → Stands bs (fieldsOf bs)
 stands bs = stands-from bs (fieldsOf bs) 0 (fields-of bs)
 
 -- ------------------------------------------------------------------ the productions there
@@ -213,12 +214,14 @@ each-without nonterminal (p ∷ ps) (each-more h hs) =
     by-test (eqb (p .nonterminal) nonterminal) (λ e. rw (e, placesWithout) (each-without nonterminal ps hs))
     (λ e. rw (e, placesWithout) (each-more h (each-without nonterminal ps hs)))
 
-each-kept : {P : Place → Type 0} (mode : Mode) (nonterminal : ℕ) (ps : List Place) → Each P ps → Each P (placesKept mode nonterminal ps)
+-- What holds of each place holds of those that are kept.
+pub each-kept : {P : Place → Type 0} (mode : Mode) (nonterminal : ℕ) (ps : List Place) → Each P ps → Each P (placesKept mode nonterminal ps)
 each-kept add nonterminal ps h = h
 each-kept extend nonterminal ps h = h
 each-kept update nonterminal ps h = each-without nonterminal ps h
 
-each-snoc : {P : Place → Type 0} {ps : List Place} {place : Place} → Each P ps → P place → Each P (ps ++ (place ∷ []))
+-- And of one more of which it holds.
+pub each-snoc : {P : Place → Type 0} {ps : List Place} {place : Place} → Each P ps → P place → Each P (ps ++ (place ∷ []))
 each-snoc each-none h = each-more h each-none
 each-snoc (each-more g gs) h = each-more g (each-snoc gs h)
 

@@ -1,50 +1,42 @@
 // The items of an alternative, read off the table's bytes, and its result.
-pub mod taking;
+mod taking;
 
 use crate::taking::take;
 use answers::Refusal;
+use answers::causes::NO_ROW;
+use answers::causes::TOKEN_DOES_NOT_FIT;
 use answers::refuse;
 use expansion::Outcome;
 use expansion::State;
-use grammar::Front;
 use grammar::codes::CALL_ITEM;
 use grammar::codes::IDE_ITEM;
 use grammar::codes::ITEM_TAG;
 use grammar::codes::KEYWORD_ITEM;
 use grammar::codes::LOCAL_ITEM;
-use grammar::codes::RESULT_TAG;
-use grammar::front_at;
 use grammar::limits::MOST_VARIABLES;
-use grammar::reader::byte;
 use grammar::sorts::Sort;
 use kinds::KEYWORD_KIND;
 use kinds::NUMBER_KIND;
 use kinds::WORD_KIND;
+use scanner::room::TOKEN;
 use scanner::room::value_at;
+use spellings::wide_byte;
 use templates::Arguments;
 use templates::Built;
+use templates::Making;
 use templates::build;
 use templates::build_arguments;
-use templates::pick;
-use templates::rows_of;
 use terms::FRESH;
 use terms::WORD;
-ghost use Prim.Native.Nat.{ℕ, _^_, _<_};
+ghost use Prim.Native.Nat.{_+_, _^_, _<_, _≤_};
 ghost use mathlib.Core.Path.{_≡_};
-ghost use mathlib.Core.List.{List};
-ghost use lib.ListN.{length, getD};
+ghost use lib.Count.{ones};
+ghost use lib.ListN.{length};
 ghost use Rattle.answers.specs.Refusals.{refusal};
-ghost use Rattle.grammar.specs.Lookup.{fieldsAt};
-ghost use Rattle.grammar.specs.Table.{Template};
-ghost use Rattle.decoding.specs.Decode.{itemOf};
-ghost use Rattle.scanner.specs.Rooms.{tokensIn};
-ghost use Rattle.productions.specs.Index.{resultOf};
-ghost use Rattle.expansion.specs.Run.{Run};
-ghost use Rattle.expansion.specs.Outcomes.{ran};
-ghost use Rattle.expansion.specs.Expansion.{Input, wordValue, freshMade, build, runItem};
-ghost use Rattle.terms.specs.Cells.{rowsLent};
-ghost use Rattle.templates.specs.Built.{Holds, withMade, built};
-ghost use Rattle.steps.specs.Steps.{MayRead, MayDo, MayStep, MayFinish, Stays, ItemAt, Steps, Advances, Spends, KeepsArray};
+ghost use Rattle.expansion.specs.Expansion.{wordValue};
+ghost use Rattle.templates.specs.Built.{withMade};
+ghost use Rattle.steps.specs.Source.{source, sizeAt};
+ghost use Rattle.steps.specs.Steps.{MayReadItem, MayStep, MayFinish, GivesFresh, ReadsItem, readStep, callStep, resultStep, ItemStepped, Finishes};
 
 // What is done at an offset: there is no item, the item refuses, it gives a value (with the offset behind it and where the expansion
 // then stands), or it calls a nonterminal with a number of arguments.
@@ -72,6 +64,14 @@ pub struct Cursor {
     pub state: State,
 }
 
+// Refusal 17: the token at an index is none of the kinds.
+pub fn misfit(at: usize, kinds: u64) -> Refusal
+    ensures { λ r. ⌜ r ≡ refusal 17 at kinds (ones kinds) ⌝ }
+{
+    let count = kinds::count(kinds);
+    refuse(TOKEN_DOES_NOT_FIT, at as u64, kinds, count as u64)
+}
+
 // A word read at a sort: a label is its spelling number, any other a name.
 fn word_value(sort: u8, v: u32) -> u32
     requires { ⌜ v < 2 ^ 30 ⌝ }
@@ -83,8 +83,7 @@ fn word_value(sort: u8, v: u32) -> u32
 // A fresh name.
 fn fresh_name(s: State) -> Outcome
     requires { ⌜ s .fresh < 2 ^ 31 ⌝ }
-    ensures { λ r. ⌜ ((cells : List ℕ) → ran r cells ≡ freshMade s cells) ⌝ }
-    ensures { λ r. ⌜ Spends s r ⌝ }
+    ensures { λ r. ⌜ GivesFresh s r ⌝ }
 {
     let fresh = s.fresh;
     Outcome::Value(
@@ -99,19 +98,18 @@ fn fresh_name(s: State) -> Outcome
 }
 
 // An item that is no call, by its kind and operand.
-fn read_item(kind: u8, operand: u8, tokens: &[u32], n: usize, s: State) -> Outcome
-    requires { ⌜ MayRead (now tokens) n s ⌝ }
-    ensures { λ r. ⌜ ((v : List ℕ) (C : ℕ → List ℕ → Run ℕ) (I : Input) (M cells : List ℕ) → I .tokens ≡ tokensIn (now (tokens .entry)) n →
-        kind ≡ getD v 0 0 → operand ≡ getD v 1 0 → (kind ≡ 4 → ⊥) → ran r cells ≡ runItem C I (itemOf v) M s cells) ⌝ }
-    ensures { λ r. ⌜ Spends s r ⌝ }
+fn read_item(tokens: &[u32], kind: u8, operand: u8, s: State) -> Outcome
+    requires { ⌜ MayReadItem (now tokens) kind s ⌝ }
+    ensures { λ r. ⌜ ReadsItem (now (tokens .entry)) kind operand s r ⌝ }
 {
     let at = s.at;
+    let n = tokens.len() / TOKEN;
     let value = value_at(tokens, n, at);
     match kind {
-        KEYWORD_ITEM => take(tokens, n, operand as u32 + KEYWORD_KIND, 0, s),
-        IDE_ITEM => take(tokens, n, WORD_KIND, word_value(operand, value), s),
+        KEYWORD_ITEM => take(tokens, operand as u32 + KEYWORD_KIND, 0, s),
+        IDE_ITEM => take(tokens, WORD_KIND, word_value(operand, value), s),
         LOCAL_ITEM => fresh_name(s),
-        _ => take(tokens, n, NUMBER_KIND, value, s),
+        _ => take(tokens, NUMBER_KIND, value, s),
     }
 }
 
@@ -119,94 +117,7 @@ fn read_item(kind: u8, operand: u8, tokens: &[u32], n: usize, s: State) -> Outco
 fn no_row(s: State) -> Refusal
     ensures { λ r. ⌜ r ≡ refusal 21 (s .at) 0 0 ⌝ }
 {
-    refuse(21, s.at as u64, 0, 0)
-}
-
-// An item, by the value of its field: `next` is the offset behind it, and `out` takes a call's arguments.
-fn do_item(
-    v: &[u8],
-    next: usize,
-    tokens: &[u32],
-    n: usize,
-    vars: &[u32; MOST_VARIABLES],
-    c: Cursor,
-    out: &mut [u32; MOST_VARIABLES],
-    cells: &mut [u32],
-    stack: &mut [u32],
-) -> ItemStep
-    requires { ⌜ MayDo (now v) (now tokens) n (c .state) (now stack) ⌝ }
-    ensures { λ r. ⌜ ((bs : List ℕ) (at : ℕ) (I : Input) (M : List ℕ) → ItemAt bs at (now (v .entry)) next → I .tokens ≡ tokensIn (now
-        (tokens .entry)) n → I .rows ≡ rowsLent (length (now (cells .entry))) → Holds (now (vars .entry)) (c .call .count) M → Steps bs at I M (c .state) (now
-        (cells .entry)) r (now (out .exit)) (now (cells .exit))) ⌝ }
-    ensures { λ r. ⌜ ((bs : List ℕ) (at : ℕ) → ItemAt bs at (now (v .entry)) next → Advances bs at (c .state) r) ⌝ }
-    ensures { λ r. ⌜ KeepsArray (now (out .entry)) r (now (out .exit)) ⌝ }
-{
-    let s = c.state;
-    let count = c.call.count;
-    let kind = byte(v, 0);
-    let operand = byte(v, 1);
-    if kind == CALL_ITEM {
-        let rows = rows_of(cells.len());
-        let made = s.made;
-        let listed = build_arguments(v, 2, vars, count, rows, made, out, cells, stack);
-        match listed {
-            Arguments::Overfull => {
-                return ItemStep::Stopped(no_row(s));
-            }
-            Arguments::Listed(given, made) => {
-                return ItemStep::Opened(operand, given, next, with_made(s, made));
-            }
-        }
-    }
-    let outcome = read_item(kind, operand, tokens, n, s);
-    match outcome {
-        Outcome::Halted(r) => ItemStep::Stopped(r),
-        Outcome::Value(x, t) => ItemStep::Taken(x, next, t),
-    }
-}
-
-// What is done at an offset of the table.
-pub fn item_step(
-    table: &[u8],
-    tokens: &[u32],
-    n: usize,
-    vars: &[u32; MOST_VARIABLES],
-    c: Cursor,
-    out: &mut [u32; MOST_VARIABLES],
-    cells: &mut [u32],
-    stack: &mut [u32],
-) -> ItemStep
-    requires { ⌜ MayStep (now table) (c .call .next) (now tokens) n (c .state) (now stack) ⌝ }
-    ensures { λ r. ⌜ ((I : Input) (M : List ℕ) → I .tokens ≡ tokensIn (now (tokens .entry)) n → I .rows ≡ rowsLent (length (now (cells .entry))) →
-        Holds (now (vars .entry)) (c .call .count) M → Steps (now (table .entry)) (c .call .next) I M (c .state) (now (cells .entry)) r (now (out .exit))
-        (now (cells .exit))) ⌝ }
-    ensures { λ r. ⌜ Advances (now (table .entry)) (c .call .next) (c .state) r ⌝ }
-    ensures { λ r. ⌜ KeepsArray (now (out .entry)) r (now (out .exit)) ⌝ }
-{
-    let at = c.call.next;
-    let front = front_at(table, at);
-    match front {
-        Front::Nothing => ItemStep::Finished,
-        Front::Short => ItemStep::Finished,
-        Front::Field(tag, size) => {
-            if tag != ITEM_TAG {
-                return ItemStep::Finished;
-            }
-            let from = at + 3;
-            let next = from + size;
-            do_item(
-                &table[from..next],
-                next,
-                tokens,
-                n,
-                vars,
-                c,
-                out,
-                cells,
-                stack,
-            )
-        }
-    }
+    refuse(NO_ROW, s.at as u64, 0, 0)
 }
 
 // The state with another number of cells made.
@@ -221,10 +132,31 @@ fn with_made(s: State, made: usize) -> State
     }
 }
 
+// A token or a fresh name, as what is done at an offset: the next item stands at another.
+fn read_step(outcome: Outcome, next: usize) -> ItemStep
+    ensures { λ r. ⌜ r ≡ readStep outcome next ⌝ }
+{
+    match outcome {
+        Outcome::Halted(r) => ItemStep::Stopped(r),
+        Outcome::Value(x, t) => ItemStep::Taken(x, next, t),
+    }
+}
+
+// The arguments of a call, as what is done at an offset.
+fn call_step(listed: Arguments, callee: u8, next: usize, s: State) -> ItemStep
+    ensures { λ r. ⌜ r ≡ callStep listed callee next s ⌝ }
+{
+    match listed {
+        Arguments::Overfull => ItemStep::Stopped(no_row(s)),
+        Arguments::Listed(given, made) => {
+            ItemStep::Opened(callee, given, next, with_made(s, made))
+        }
+    }
+}
+
 // The value of a template, as the outcome of the alternative that it is the result of.
-fn outcome_of(b: Built, s: State) -> Outcome
-    ensures { λ r. ⌜ ((cells : List ℕ) → ran r cells ≡ built s b cells) ⌝ }
-    ensures { λ r. ⌜ Stays s r ⌝ }
+fn result_step(b: Built, s: State) -> Outcome
+    ensures { λ r. ⌜ r ≡ resultStep b s ⌝ }
 {
     match b {
         Built::Made(v, _, made) => Outcome::Value(v, with_made(s, made)),
@@ -232,45 +164,70 @@ fn outcome_of(b: Built, s: State) -> Outcome
     }
 }
 
-// The first variable, which stands for a result that is not there.
-fn first_variable(vars: &[u32; MOST_VARIABLES], count: usize, s: State) -> Outcome
-    ensures { λ r. ⌜ ((I : Input) (M cells : List ℕ) → Holds (now (vars .entry)) count M → ran r cells ≡ build (Template.variable 0) I M s
-        cells) ⌝ }
-    ensures { λ r. ⌜ Stays s r ⌝ }
+// The bytes of a field before its value: its tag and its size.
+const FRONT: usize = 3;
+
+// The size of the value of a field at an offset.
+fn value_size(table: &[u8], at: usize) -> usize
+    requires { ⌜ at + 3 ≤ length (now table) ⌝ }
+    ensures { λ r. ⌜ r ≡ sizeAt (now (table .entry)) at ⌝ }
 {
-    Outcome::Value(pick(vars, count, 0), s)
+    wide_byte(table[at + 1]) * 256 + wide_byte(table[at + 2])
 }
 
-// The result of the alternative whose items end at an offset.
-pub fn finish(
-    table: &[u8],
-    vars: &[u32; MOST_VARIABLES],
-    c: Cursor,
+// What is done at an offset of the table, where a production goes on; `out` takes a call's arguments.
+pub fn item_step(
     cells: &mut [u32],
     stack: &mut [u32],
-) -> Outcome
-    requires { ⌜ MayFinish (now table) (c .call .next) (now stack) ⌝ }
-    ensures { λ r. ⌜ ((I : Input) (M : List ℕ) → I .rows ≡ rowsLent (length (now (cells .entry))) → Holds (now (vars .entry)) (c .call .count) M → ran r (now
-        (cells .exit)) ≡ build (resultOf (fieldsAt (now (table .entry)) (c .call .next))) I M (c .state) (now (cells .entry))) ⌝ }
-    ensures { λ r. ⌜ Stays (c .state) r ⌝ }
+    out: &mut [u32; MOST_VARIABLES],
+    table: &[u8],
+    tokens: &[u32],
+    rows: usize,
+    vars: &[u32; MOST_VARIABLES],
+    c: Cursor,
+) -> ItemStep
+    requires { ⌜ MayStep (source (now table)) (now tokens) rows c (now cells) (now stack) ⌝ }
+    ensures { λ r. ⌜ ItemStepped (source (now (table .entry))) (now (tokens .entry)) rows (now (vars .entry)) c (now (out .entry)) (now (cells
+        .entry)) r (now (out .exit)) (now (cells .exit)) ⌝ }
 {
     let s = c.state;
     let at = c.call.next;
-    let count = c.call.count;
-    let front = front_at(table, at);
-    match front {
-        Front::Nothing => first_variable(vars, count, s),
-        Front::Short => first_variable(vars, count, s),
-        Front::Field(tag, size) => {
-            if tag != RESULT_TAG {
-                return first_variable(vars, count, s);
-            }
-            let from = at + 3;
-            let to = from + size;
-            let rows = rows_of(cells.len());
-            let made = s.made;
-            let value = build(&table[from..to], 0, vars, count, rows, made, cells, stack);
-            outcome_of(value, s)
-        }
+    if table[at] != ITEM_TAG {
+        return ItemStep::Finished;
     }
+    let from = at + FRONT;
+    let next = from + value_size(table, at);
+    let kind = table[from];
+    let operand = table[from + 1];
+    if kind == CALL_ITEM {
+        let count = c.call.count;
+        let made = s.made;
+        let m = Making { count, rows, made };
+        let listed = build_arguments(out, cells, stack, &table[from..next], 2, vars, m);
+        return call_step(listed, operand, next, s);
+    }
+    read_step(read_item(tokens, kind, operand, s), next)
+}
+
+// The result of the production whose items end at an offset.
+pub fn finish(
+    cells: &mut [u32],
+    stack: &mut [u32],
+    table: &[u8],
+    rows: usize,
+    vars: &[u32; MOST_VARIABLES],
+    c: Cursor,
+) -> Outcome
+    requires { ⌜ MayFinish (source (now table)) rows c (now cells) (now stack) ⌝ }
+    ensures { λ r. ⌜ Finishes (source (now (table .entry))) rows (now (vars .entry)) c (now (cells .entry)) r (now (cells .exit)) ⌝ }
+{
+    let s = c.state;
+    let at = c.call.next;
+    let from = at + FRONT;
+    let to = from + value_size(table, at);
+    let count = c.call.count;
+    let made = s.made;
+    let m = Making { count, rows, made };
+    let value = build(cells, stack, &table[from..to], 0, vars, m);
+    result_step(value, s)
 }

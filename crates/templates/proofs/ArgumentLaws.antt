@@ -16,14 +16,15 @@ use Rattle.decoding.specs.Prefix.{isNameTag, templatesOf}
 use Rattle.decoding.specs.Prefix.{isTemplates, found}
 use Rattle.decoding.proofs.PrefixLaws.{name-first, name-last, byte-first, variable-first, constructor-first, unknown-first}
 use Rattle.expansion.specs.declared.State.{State}
+use Rattle.templates.specs.declared.Making.{Making}
 use Rattle.templates.specs.declared.Built.{Built}
 use Rattle.templates.specs.declared.Built.the-variants.{Made, Full}
-use Rattle.templates.specs.declared.Arguments.the-variants.{Listed}
+use Rattle.templates.specs.declared.Arguments.the-variants.{Listed, Overfull}
 use Rattle.templates.specs.declared.Head.{Head}
 use Rattle.templates.specs.declared.Head.the-variants.{Leaf}
 use Rattle.expansion.specs.Run.{Result, done, halt, return, after, _>>=_}
 use Rattle.expansion.specs.Expansion.{Input, build, buildAll}
-use Rattle.templates.specs.Built.{Holds, withMade, Ahead, templateAt, noRow, built, Evaluates, Behind, Lists}
+use Rattle.templates.specs.Built.{Holds, withMade, Ahead, templateAt, built, Behind, Builds, Lists}
 use Rattle.templates.specs.Heads.{HeadValue, Heads}
 use Rattle.templates.proofs.TemplateLaws.{regroup, first-built, template-is, others-are}
 use Rattle.templates.proofs.BuildLaws.{leaf-built}
@@ -80,7 +81,7 @@ first-of bytes at ts h e =
 -- ------------------------------------------------------------------ one by one
 
 -- `given-count` values are listed, and the templates ahead give with them what all give
-pub record Listing (bytes : List ℕ) (start : ℕ) (env : List ℕ) (variables rows made : ℕ) (cells₀ out cells : List ℕ) (at given-count count : ℕ) : Type 0 where
+pub record Listing (bytes : List ℕ) (start : ℕ) (env : List ℕ) (m : Making) (cells₀ out cells : List ℕ) (at given-count count : ℕ) : Type 0 where
   -- each value took a byte at least
   pub small : given-count + start ≤ at
   -- there are no more values than bytes
@@ -97,9 +98,9 @@ pub record Listing (bytes : List ℕ) (start : ℕ) (env : List ℕ) (variables 
   pub read : templatesOf (drop at bytes) ≡ parsed ahead
   -- the values listed and those of the templates left are what all templates give
   pub rest :
-      (input : Input) (state : State) (values : List ℕ) → input .rows ≡ rows → Holds env variables values
+      (input : Input) (state : State) (values : List ℕ) → input .rows ≡ m .rows → Holds env (m .count) values
       → after (buildAll ahead input values (withMade state count) cells) (λ ys. return (given ++ ys))
-      ≡ buildAll (found (templatesOf (drop start bytes))) input values (withMade state made) cells₀
+      ≡ buildAll (found (templatesOf (drop start bytes))) input values (withMade state (m .made)) cells₀
 
 whole-read : (read : ReadTemplates) → isTemplates read ≡ true → read ≡ parsed (found read)
 whole-read fault e = let z : _≡_ {A = ℕ} 0 1 = cc in absurd (omega arith)
@@ -110,10 +111,10 @@ same-after (done vs s cs) = refl
 same-after (halt result cs) = refl
 
 -- no template is built at the start
-pub listing-start : (bytes : List ℕ) (start : ℕ) (env : List ℕ) (variables rows made : ℕ) (cells out : List ℕ) → length out ≡ 16
+pub listing-start : (bytes : List ℕ) (start : ℕ) (env : List ℕ) (m : Making) (cells out : List ℕ) → length out ≡ 16
     → isTemplates (templatesOf (drop start bytes)) ≡ true
-    → Listing bytes start env variables rows made cells out cells start 0 made
-listing-start bytes start env variables rows made cells out l w =
+    → Listing bytes start env m cells out cells start 0 (m .made)
+listing-start bytes start env m cells out l w =
     record {
       small = omega arith;
       few = omega arith;
@@ -122,20 +123,24 @@ listing-start bytes start env variables rows made cells out l w =
       holds = record { long = l; count = refl; same = λ i a b. absurd (omega arith) };
       ahead = found (templatesOf (drop start bytes));
       read = whole-read (templatesOf (drop start bytes)) w;
-      rest = λ I s M e g. same-after (buildAll (found (templatesOf (drop start bytes))) I M (withMade s made) cells);
+      rest = λ I s M e g. same-after (buildAll (found (templatesOf (drop start bytes))) I M (withMade s (m .made)) cells);
     }
 
-module _ {bytes : List ℕ} {start : ℕ} {env : List ℕ} {variables rows made : ℕ} {cells₀ out cells : List ℕ} {at given-count count : ℕ}
-    (listing : Listing bytes start env variables rows made cells₀ out cells at given-count count) where
+-- the same with as many cells made as there are
+abbrev pub further : Making → ℕ → Making
+further m count = record { count = m .count; rows = m .rows; made = count }
+
+module _ {bytes : List ℕ} {start : ℕ} {env : List ℕ} {m : Making} {cells₀ out cells : List ℕ} {at given-count count : ℕ}
+    (listing : Listing bytes start env m cells₀ out cells at given-count count) where
   module _ (less : at < length bytes) where
     -- a template stands ahead
     pub listing-first : First bytes at (listing .ahead)
     listing-first = first-of bytes at (listing .ahead) less (listing .read)
 
-    listing-one : (result : Result ℕ) (input : Input) (state : State) (values : List ℕ) → input .rows ≡ rows → Holds env variables values
+    listing-one : (result : Result ℕ) (input : Input) (state : State) (values : List ℕ) → input .rows ≡ m .rows → Holds env (m .count) values
         → result ≡ build (templateAt bytes at) input values (withMade state count) cells
         → after (after result (λ x. buildAll (listing-first .0 .others) input values >>= λ ys. return (x ∷ ys))) (λ ys. return (listing .given ++ ys))
-        ≡ buildAll (found (templatesOf (drop start bytes))) input values (withMade state made) cells₀
+        ≡ buildAll (found (templatesOf (drop start bytes))) input values (withMade state (m .made)) cells₀
     listing-one result input state values e g h =
         cc (
           first-built (λ ys. return ys) (listing .given) input values (listing-first .0 .template) (listing-first .0 .others) result
@@ -146,28 +151,25 @@ module _ {bytes : List ℕ} {start : ℕ} {env : List ℕ} {variables rows made 
         )
 
     -- what `build` ensures of one template
-    module _ (cells′ : List ℕ) (given-built : Built)
-        (builds : (input : Input) (state : State) (values : List ℕ) → input .rows ≡ rows → Holds env variables values
-        → built state given-built cells′ ≡ build (templateAt bytes at) input values (withMade state count) cells) where
+    module _ (cells′ : List ℕ) (given-built : Built) (builds : Builds bytes at env (further m count) cells given-built cells′) where
       -- no row is left: refusal 21
-      pub listing-full : given-built ≡ Full → (input : Input) (state : State) (values : List ℕ) → input .rows ≡ rows → Holds env variables values
-          → buildAll (found (templatesOf (drop start bytes))) input values (withMade state made) cells₀ ≡ noRow state cells′
+      pub listing-full : given-built ≡ Full → (input : Input) (state : State) (values : List ℕ) → input .rows ≡ m .rows → Holds env (m .count) values
+          → Lists state Overfull out cells′ (buildAll (found (templatesOf (drop start bytes))) input values (withMade state (m .made)) cells₀)
       listing-full er input state values e g =
-          sym (listing-one (noRow state cells′) input state values e g (cc (builds input state values e g)))
+          sym (listing-one (built state Full cells′) input state values e g (cc (builds .evaluates input state values e g)))
 
       -- a template takes a byte at least
-      pub listing-less : {row after′ made′ : ℕ} → given-built ≡ Made row after′ made′ → Behind bytes at given-built → length bytes - after′ < length bytes - at
-      listing-less {row} {after′} {made′} er bh =
-          let q : Behind bytes at (Made row after′ made′) = subst (Behind bytes at) er bh in
+      pub listing-less : {row after′ made′ : ℕ} → given-built ≡ Made row after′ made′ → length bytes - after′ < length bytes - at
+      listing-less {row} {after′} {made′} er =
+          let q : Behind bytes at (Made row after′ made′) = subst (Behind bytes at) er (builds .behind) in
           omega (arith, q .0, q .1)
 
       -- one template more is built
-      pub listing-next : {row after′ made′ : ℕ} → length cells′ ≡ length cells → given-built ≡ Made row after′ made′ → Behind bytes at given-built
-          → (out′ : List ℕ)
+      pub listing-next : {row after′ made′ : ℕ} → length cells′ ≡ length cells → given-built ≡ Made row after′ made′ → (out′ : List ℕ)
           → ((values : List ℕ) → Holds out given-count values → Holds out′ (given-count + 1) (values ++ (row ∷ [])))
-          → Listing bytes start env variables rows made cells₀ out′ cells′ after′ (given-count + 1) made′
-      listing-next {row} {after′} {made′} el er bh out′ put =
-          let q : Behind bytes at (Made row after′ made′) = subst (Behind bytes at) er bh in
+          → Listing bytes start env m cells₀ out′ cells′ after′ (given-count + 1) made′
+      listing-next {row} {after′} {made′} el er out′ put =
+          let q : Behind bytes at (Made row after′ made′) = subst (Behind bytes at) er (builds .behind) in
           record {
             small = omega (arith, listing .small, q .0);
             few = omega (arith, listing .small);
@@ -180,33 +182,34 @@ module _ {bytes : List ℕ} {start : ℕ} {env : List ℕ} {variables rows made 
                 λ I s M e g.
                 regroup (λ ys. return ys) (listing .given) row (buildAll (listing-first .0 .others) I M (withMade s made′) cells′)
                 ∙ listing-one (done row (withMade s made′) cells′) I s M e g
-                (cc (builds I s M e g));
+                (cc (builds .evaluates I s M e g));
           }
 
     -- what `head_at` ensures of a template that makes no cell
     module _ (head : Head) {row next : ℕ} (equal : head ≡ Leaf row next)
-        (leads : (values : List ℕ) → Holds env variables values → HeadValue bytes at values head) (heads : Heads bytes at head) where
-      leaf : Evaluates bytes at env variables rows count cells (Made row next count) cells × Behind bytes at (Made row next count)
-      leaf = leaf-built bytes at head equal leads heads rows count cells
+        (leads : (values : List ℕ) → Holds env (m .count) values → HeadValue bytes at values head) (heads : Heads bytes at head) where
+      leaf : Builds bytes at env (further m count) cells (Made row next count) cells
+      leaf = leaf-built bytes at (further m count) head equal leads heads cells
 
       -- it takes a byte at least
       pub leaf-less : length bytes - next < length bytes - at
-      leaf-less = listing-less cells (Made row next count) (leaf .0) refl (leaf .1)
+      leaf-less = listing-less cells (Made row next count) leaf refl
 
       -- its value is one more
       pub leaf-next : (out′ : List ℕ) → ((values : List ℕ) → Holds out given-count values → Holds out′ (given-count + 1) (values ++ (row ∷ [])))
-          → Listing bytes start env variables rows made cells₀ out′ cells next (given-count + 1) count
-      leaf-next = listing-next cells (Made row next count) (leaf .0) refl refl (leaf .1)
+          → Listing bytes start env m cells₀ out′ cells next (given-count + 1) count
+      leaf-next = listing-next cells (Made row next count) leaf refl refl
 
   -- all templates are built
-  pub listing-end : length bytes ≤ at → (input : Input) (state : State) (values : List ℕ) → input .rows ≡ rows → Holds env variables values
-      → Lists state (Listed given-count count) out cells (buildAll (found (templatesOf (drop start bytes))) input values (withMade state made) cells₀)
+  pub listing-end : length bytes ≤ at → (input : Input) (state : State) (values : List ℕ) → input .rows ≡ m .rows → Holds env (m .count) values
+      → Lists state (Listed given-count count) out cells (buildAll (found (templatesOf (drop start bytes))) input values (withMade state (m .made)) cells₀)
   unfolding buildAll templatesOf
   listing-end h input state values e g =
       let d : drop at bytes ≡ [] = drop-of-length-le bytes {i = at} h in
       let f : parsed none ≡ parsed (listing .ahead) = sym (ap templatesOf d) ∙ listing .read in
-      let a : none ≡ listing .ahead = cc in (
-        listing .given,
-        cc (listing .rest input state values e g, append-nil (listing .given)),
-        listing .holds,
-      )
+      let a : none ≡ listing .ahead = cc in
+      record {
+        values = listing .given;
+        gives = cc (listing .rest input state values e g, append-nil (listing .given));
+        holds = listing .holds;
+      }

@@ -12,12 +12,13 @@ use Rattle.terms.specs.Cells.{columns, rowNumbers}
 use Rattle.decoding.specs.Prefix.{parsed, templatesOf, nameBy}
 use Rattle.decoding.specs.Within.{count}
 use Rattle.expansion.specs.declared.State.{State}
+use Rattle.templates.specs.declared.Making.{Making}
 use Rattle.templates.specs.declared.Head.{Head}
 use Rattle.templates.specs.declared.Head.the-variants.{Leaf, Node}
-use Rattle.templates.specs.declared.Built.the-variants.{Made}
+use Rattle.templates.specs.declared.Built.the-variants.{Made, Full}
 use Rattle.expansion.specs.Run.{Result, done}
 use Rattle.expansion.specs.Expansion.{Input, cell, build}
-use Rattle.templates.specs.Built.{Holds, withMade, Ahead, templateAt, othersAt, noRow, Behind}
+use Rattle.templates.specs.Built.{Holds, withMade, Ahead, templateAt, othersAt, built, Builds}
 use Rattle.templates.specs.Heads.{join, HeadValue, Past, Takes, Heads}
 use Rattle.expansion.proofs.CellLaws.{cell-row, cell-none}
 use Rattle.grammar.proofs.ReaderLaws.{getD-past}
@@ -100,12 +101,8 @@ pub record Whole : Type 0 where
   pub from : ℕ
   -- the variables' values
   pub env : List ℕ
-  -- how many there are
-  pub k : ℕ
-  -- how many rows there may be
-  pub rows : ℕ
-  -- how many were made before
-  pub made : ℕ
+  -- how many there are, how many rows there may be, and how many were made before
+  pub m : Making
   -- the cells before
   pub cells : List ℕ
   -- the size of the stack
@@ -129,8 +126,8 @@ pub record Turn : Type 0 where
 -- under any input, state and values of the variables, what is left gives what the whole template gives
 abbrev Same : Whole → (Input → State → List ℕ → Result ℕ) → Type 0
 Same W r =
-    (I : Input) (s : State) (M : List ℕ) → I .rows ≡ W .rows → Holds (W .env) (W .k) M
-    → r I s M ≡ build (templateAt (W .v) (W .from)) I M (withMade s (W .made)) (W .cells)
+    (I : Input) (s : State) (M : List ℕ) → I .rows ≡ W .m .rows → Holds (W .env) (W .m .count) M
+    → r I s M ≡ build (templateAt (W .v) (W .from)) I M (withMade s (W .m .made)) (W .cells)
 
 -- what is left, with the constructors that are open, gives what the whole template gives
 pub record Building (whole : Whole) (turn : Turn) : Type 0 where
@@ -169,16 +166,16 @@ pub record Looping (whole : Whole) (turn : Turn) (needed : ℕ) : Type 0 where
   pub needed-is : needed ≡ arity (building .inner .code)
 
 -- the outermost constructor is open
-pub building-start : {bytes : List ℕ} {from code : ℕ} (takes : Takes bytes from code) (env : List ℕ) (variables rows made : ℕ) (cells stack : List ℕ)
+pub building-start : {bytes : List ℕ} {from code : ℕ} (takes : Takes bytes from code) (env : List ℕ) (m : Making) (cells stack : List ℕ)
     {packed-head needed : ℕ} → length bytes ≤ length stack
     → packed-head ≡ code + 256 * 0
     → needed ≡ arity code
     → Looping
-    (record { v = bytes; from = from; env = env; k = variables; rows = rows; made = made; cells = cells; size = length (set stack 0 packed-head) })
-    (record { cells = cells; stack = set stack 0 packed-head; at = from + 1; made = made; pos = 1; top = 1 })
+    (record { v = bytes; from = from; env = env; m = m; cells = cells; size = length (set stack 0 packed-head) })
+    (record { cells = cells; stack = set stack 0 packed-head; at = from + 1; made = m .made; pos = 1; top = 1 })
     needed
 unfolding lefts Filling resume
-building-start {bytes} {from} {code} takes env variables rows made cells stack {packed-head} {needed} h ew en =
+building-start {bytes} {from} {code} takes env m cells stack {packed-head} {needed} h ew en =
     record {
       building = record {
         as-long = refl;
@@ -195,7 +192,7 @@ building-start {bytes} {from} {code} takes env variables rows made cells stack {
         read = takes .read;
         rest =
             λ I s M e g.
-            cc (going-make I M code (takes .own) (withMade s made) cells, takes .is);
+            cc (going-make I M code (takes .own) (withMade s (m .made)) cells, takes .is);
       };
       needed-is = en;
     }
@@ -290,10 +287,11 @@ module _ {whole : Whole} {turn : Turn} {needed : ℕ} (looping : Looping whole t
 
     -- it begins with a value
     pub building-leaf : (head : Head) {made-value next : ℕ} → head ≡ Leaf made-value next
-        → ((values : List ℕ) → Holds (whole .env) (whole .k) values → HeadValue (whole .v) (turn .at) values head)
+        → ((values : List ℕ) → Holds (whole .env) (whole .m .count) values → HeadValue (whole .v) (turn .at) values head)
         → Heads (whole .v) (turn .at) head
         → Looping whole
-        (record { cells = turn .cells; stack = set (turn .stack) (turn .top) made-value; at = next; made = turn .made; pos = turn .pos; top = turn .top + 1 }) needed
+        (record { cells = turn .cells; stack = set (turn .stack) (turn .top) made-value; at = next; made = turn .made; pos = turn .pos; top = turn .top + 1 })
+        needed
     building-leaf head {made-value} {next} er l hd =
         let q : Past (whole .v) (turn .at) next = subst (Heads (whole .v) (turn .at)) er hd in
         record {
@@ -378,7 +376,7 @@ module _ {whole : Whole} {turn : Turn} {needed : ℕ} (looping : Looping whole t
         cc (makes-cell I M (c .inner) (withMade s (turn .made)) (turn .cells) inner-none, c .rest I s M e g)
 
     -- no row is left: refusal 21
-    pub building-full : whole .rows ≤ turn .made → Same whole (λ I s M. noRow s (turn .cells))
+    pub building-full : whole .m .rows ≤ turn .made → Same whole (λ I s M. built s Full (turn .cells))
     building-full h I s M e g =
         sym (resume-halt I M (c .around) _ (turn .cells))
         ∙ cc (cell-none I (c .inner .code) (c .inner .given) (withMade s (turn .made)) (turn .cells) (omega (arith, e)), cell-goes I s M e g)
@@ -394,7 +392,7 @@ pub record Closing (whole : Whole) (turn : Turn) (code needed out : ℕ) (cells 
   -- it has all its arguments
   pub stop : needed ≤ turn .top - turn .pos
   -- there is a row for it
-  pub row : turn .made < whole .rows
+  pub row : turn .made < whole .m .rows
   -- the row is stored with the arguments on the stack
   pub stored : cells ≡ sets (turn .cells) (turn .made * columns) (rowNumbers code (take needed (drop (turn .pos) (turn .stack))))
   -- the cells are as many
@@ -431,20 +429,21 @@ module _ {whole : Whole} {turn : Turn} {code needed out : ℕ} {cells : List ℕ
     alone : b .around ≡ []
     alone = place-none (b .around) (sym out-place ∙ e0)
 
-    -- the outermost constructor is made
-    pub closing-made : Same whole (λ I s M. done (turn .made) (withMade s (turn .made + 1)) cells)
+    made-alone : Same whole (λ I s M. done (turn .made) (withMade s (turn .made + 1)) cells)
     unfolding resume
-    closing-made I s M e g = cc (alone, made-is I s M e g)
+    made-alone I s M e g = cc (alone, made-is I s M e g)
 
-    -- what is behind the template is left
-    pub closing-behind : (whole .from < turn .at) × (turn .at ≤ length (whole .v))
-        × (templatesOf (drop (turn .at) (whole .v)) ≡ parsed (othersAt (whole .v) (whole .from)))
+    read-alone : templatesOf (drop (turn .at) (whole .v)) ≡ parsed (othersAt (whole .v) (whole .from))
     unfolding lefts
-    closing-behind = (
-      omega (arith, b .past, stands-top (b .stands), building-pos b .0),
-      b .inside,
-      cc (read-on, alone),
-    )
+    read-alone = cc (read-on, alone)
+
+    -- the outermost constructor is made
+    pub closing-made : Builds (whole .v) (whole .from) (whole .env) (whole .m) (whole .cells) (Made (turn .made) (turn .at) (turn .made + 1)) cells
+    closing-made =
+        record {
+          evaluates = made-alone;
+          behind = (omega (arith, b .past, stands-top (b .stands), building-pos b .0), b .inside, read-alone);
+        }
 
   -- it is an argument of the one around it
   abbrev pub closed : Turn
@@ -490,16 +489,17 @@ pub node-takes : {bytes : List ℕ} {at byte : ℕ} (head : Head) → head ≡ N
 node-takes {bytes} {at} head e h = subst (Heads bytes at) e h
 
 -- a template with no argument is built at once
-pub leaf-built : (bytes : List ℕ) (at : ℕ) {env : List ℕ} {variables made-value next : ℕ} (head : Head) → head ≡ Leaf made-value next
-    → ((values : List ℕ) → Holds env variables values → HeadValue bytes at values head)
+pub leaf-built : (bytes : List ℕ) (at : ℕ) {env : List ℕ} (m : Making) {made-value next : ℕ} (head : Head) → head ≡ Leaf made-value next
+    → ((values : List ℕ) → Holds env (m .count) values → HeadValue bytes at values head)
     → Heads bytes at head
-    → (rows made : ℕ) (cells : List ℕ)
-    → ((input : Input) (state : State) (values : List ℕ) → input .rows ≡ rows → Holds env variables values
-    → done made-value (withMade state made) cells ≡ build (templateAt bytes at) input values (withMade state made) cells)
-    × Behind bytes at (Made made-value next made)
-leaf-built bytes at {made-value = made-value} {next = next} head e l h rows made cells =
+    → (cells : List ℕ)
+    → Builds bytes at env m cells (Made made-value next (m .made)) cells
+leaf-built bytes at m {next = next} head e l h cells =
     let q : Past bytes at next = subst (Heads bytes at) e h in
-    (λ I s M ei g. sym (subst (HeadValue bytes at M) e (l M g) I (withMade s made) cells), (q .less, q .inside, q .read))
+    record {
+      evaluates = λ I s M ei g. sym (subst (HeadValue bytes at M) e (l M g) I (withMade s (m .made)) cells);
+      behind = (q .less, q .inside, q .read);
+    }
 
 -- it takes a byte at least
 pub leaf-past : {bytes : List ℕ} {at made-value next : ℕ} (head : Head) → head ≡ Leaf made-value next → Heads bytes at head → Past bytes at next

@@ -12,6 +12,7 @@ use Rattle.terms.specs.Cells.{columns}
 use Rattle.decoding.specs.Prefix.{parsed, templatesOf}
 use Rattle.decoding.specs.Within.{count}
 use Rattle.expansion.specs.declared.State.{State}
+use Rattle.templates.specs.declared.Making.{Making}
 use Rattle.templates.specs.declared.Head.{Head}
 use Rattle.templates.specs.declared.Head.the-variants.{Leaf}
 use Rattle.expansion.specs.Expansion.{Input, build}
@@ -122,23 +123,27 @@ module _ {bytes : List ℕ} {from code : ℕ} {env : List ℕ} {variables at man
         }
 
   -- All its arguments are values: its row is made.
-  pub reading-end : needed ≤ many → {rows made : ℕ} → made < rows → (cells : List ℕ) {cells′ : List ℕ} → cells′ ≡ sets cells (made * columns) (code ∷ args)
-      → FlatStored bytes from env variables rows made cells at cells′
+  pub reading-end : needed ≤ many → (m : Making) → m .count ≡ variables → m .made < m .rows → (cells : List ℕ) {cells′ : List ℕ}
+      → cells′ ≡ sets cells (m .made * columns) (code ∷ args)
+      → FlatStored bytes from env m cells at cells′
   unfolding join
-  reading-end stop {rows} {made} row cells {cells′} stored =
+  reading-end stop m em row cells {cells′} stored =
       let inner = reading .inner in
       let none-left′ : inner .left ≡ none = none-left (inner .left) (omega (arith, arity-is, reading .filled, reading .counted)) in
       record {
         row = row;
-        evaluates =
-            λ I s M e g.
-            cc (
-              stored,
-              reading .stands,
-              reading .code-is,
-              cell-row I (inner .code) (inner .given) (withMade s made) cells (omega (arith, e)),
-              makes-cell I M inner (withMade s made) cells none-left′,
-              reading .rest I (withMade s made) M cells g,
-            );
-        behind = (reading .past, reading .inside, cc (reading .read, none-left′));
+        builds =
+            record {
+              evaluates =
+                  λ I s M e g.
+                  cc (
+                    stored,
+                    reading .stands,
+                    reading .code-is,
+                    cell-row I (inner .code) (inner .given) (withMade s (m .made)) cells (omega (arith, e)),
+                    makes-cell I M inner (withMade s (m .made)) cells none-left′,
+                    reading .rest I (withMade s (m .made)) M cells (rw em at g),
+                  );
+              behind = (reading .past, reading .inside, cc (reading .read, none-left′));
+            };
       }

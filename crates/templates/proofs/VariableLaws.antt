@@ -16,7 +16,7 @@ use Rattle.decoding.specs.Prefix.{nameBy}
 use Rattle.expansion.specs.declared.State.{State}
 use Rattle.expansion.specs.Run.{done}
 use Rattle.expansion.specs.Expansion.{Input, build}
-use Rattle.templates.specs.Built.{RoomsFit, Holds, withValue}
+use Rattle.templates.specs.Built.{RowsFit, RoomsFit, Holds, withValue}
 use Rattle.grammar.specs.Limits.{most}
 
 -- ------------------------------------------------------------------ variables
@@ -117,10 +117,14 @@ module _ (tag number : ℕ) (input : Input) (values : List ℕ) (state : State) 
 
 -- ------------------------------------------------------------------ rows
 
--- the rows of the cells fit
+-- the rows that cells have lie in them
+pub rows-fit : {cells : List ℕ} {rows : ℕ} → rows ≡ rowsLent (length cells) → RowsFit rows cells
+rows-fit e = record { few = omega arith; rows-long = omega arith }
+
+-- so do the bytes of a field in the stack
 pub rooms-fit : {bytes cells stack : List ℕ} {rows : ℕ} → length bytes ≤ most .bytes → length bytes ≤ length stack → rows ≡ rowsLent (length cells)
     → RoomsFit bytes rows cells stack
-rooms-fit small long e = record { small = small; stack-long = long; few = omega arith; rows-long = omega arith }
+rooms-fit small long e = record { small = small; stack-long = long; rows-fit = rows-fit e }
 
 -- four stores in a row
 pub row-stored : (cells args : List ℕ) (place code : ℕ) → length args ≡ 3

@@ -9,11 +9,12 @@ use Rattle.grammar.specs.Table.{Templates, make, none, more}
 use Rattle.decoding.specs.Prefix.{parsed, templatesOf}
 use Rattle.decoding.specs.Within.{count}
 use Rattle.expansion.specs.declared.State.{State}
+use Rattle.templates.specs.declared.Making.{Making}
 use Rattle.templates.specs.declared.Head.{Head}
 use Rattle.templates.specs.declared.Head.the-variants.{Leaf, Node}
 use Rattle.expansion.specs.Run.{done}
 use Rattle.expansion.specs.Expansion.{Input, build}
-use Rattle.templates.specs.Built.{templateAt, othersAt}
+use Rattle.templates.specs.Built.{RoomsFit, templateAt, othersAt}
 
 -- templates in front of others
 unfoldable pub join : Templates → Templates → Templates
@@ -43,3 +44,8 @@ pub record Takes (v : List ℕ) (at b : ℕ) : Type 0 where
 abbrev pub Heads : List ℕ → ℕ → Head → Type 0
 Heads v at (Leaf x next) = Past v at next
 Heads v at (Node b) = Takes v at b
+
+-- what the template of a constructor asks
+pub record MayMake (v : List ℕ) (from code : ℕ) (m : Making) (cells stack : List ℕ) : Type 0 where
+  pub takes : Takes v from code
+  pub fits : RoomsFit v (m .rows) cells stack

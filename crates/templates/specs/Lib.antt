@@ -1,3 +1,4 @@
 pub mod Built
 pub mod Heads
+pub mod Stack
 pub mod Flat

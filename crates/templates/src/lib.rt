@@ -17,17 +17,23 @@ ghost use lib.ListN.{length, getD, take, drop};
 ghost use lib.Seq.{sets};
 ghost use Rattle.grammar.specs.Variables.{mostVariables};
 ghost use Rattle.grammar.specs.Limits.{most};
-ghost use Rattle.grammar.specs.Table.{Template};
-ghost use Rattle.terms.specs.Cells.{columns, rowNumbers, mostCells, rowsLent};
-ghost use Rattle.decoding.specs.Prefix.{nameBy, templatesOf, isTemplates, found};
+ghost use Rattle.terms.specs.Cells.{columns, mostCells, rowsLent};
+ghost use Rattle.decoding.specs.Prefix.{nameBy};
 ghost use lib.Dec.{eqb};
-ghost use mathlib.Core.Bool.{true};
 ghost use Rattle.expansion.specs.declared.State.{State};
 ghost use Rattle.expansion.specs.Run.{done};
-ghost use Rattle.expansion.specs.Expansion.{Input, build, buildAll};
-ghost use Rattle.templates.specs.Built.{RoomsFit, Holds, withValue, withMade, Ahead, Evaluates, Behind, Lists, Few, KeptBehind};
-ghost use Rattle.templates.specs.Heads.{HeadValue, Heads, Takes};
-ghost use Rattle.templates.specs.Flat.{RowsFit, StoresFlat};
+ghost use Rattle.expansion.specs.Expansion.{Input, build};
+ghost use Rattle.templates.specs.Built.{Holds, withValue, Ahead, MayBuild, Builds, MayList, ListsAll};
+ghost use Rattle.templates.specs.Heads.{HeadValue, Heads, MayMake};
+ghost use Rattle.templates.specs.Stack.{MayClose, Closes};
+ghost use Rattle.templates.specs.Flat.{MayStore, StoresFlat};
+
+// What a template is evaluated with: how many variables there are, how many rows there may be, and how many cells are made.
+pub struct Making {
+    pub count: usize,
+    pub rows: usize,
+    pub made: usize,
+}
 
 // What a template gives: its value, the offset behind it and the cells then made; or no row is left for a cell.
 pub enum Built {
@@ -36,7 +42,7 @@ pub enum Built {
 }
 
 // What stands in front of a template: a value and the offset behind it, or a constructor.
-pub enum Head {
+enum Head {
     Leaf(u32, usize),
     Node(u8),
 }
@@ -56,7 +62,7 @@ pub fn rows_of(numbers: usize) -> usize
 }
 
 // The value of variable i of k.
-pub fn pick(env: &[u32; MOST_VARIABLES], k: usize, i: usize) -> u32
+fn pick(env: &[u32; MOST_VARIABLES], k: usize, i: usize) -> u32
     requires { ⌜ i < mostVariables ⌝ }
     ensures { λ r. ⌜ ((M : List ℕ) → Holds (now (env .entry)) k M → r ≡ getD M i 0) ⌝ }
 {
@@ -140,18 +146,20 @@ fn given_at(stack: &[u32], pos: usize, n: usize, i: usize) -> u32
     if i < n { stack[pos + i] } else { 0 }
 }
 
-// The row of a constructor whose n arguments stand from a place on.
-fn store_cell(cells: &mut [u32], row: usize, code: u8, stack: &[u32], pos: usize, n: usize)
-    requires { ⌜ (row ≤ mostCells) × (row * columns + columns ≤ length (now cells)) ⌝ }
-    requires { ⌜ pos + n ≤ length (now stack) ⌝ }
-    ensures { λ r. ⌜ now (cells .exit) ≡ sets (now (cells .entry)) (row * columns) (rowNumbers code (take n (drop pos (now (stack .entry))))) ⌝ }
+// The row of an open constructor whose n arguments stand from a place on, with its own number before them. The answer is where the one around it
+// has its first argument.
+fn store_cell(cells: &mut [u32], row: usize, stack: &[u32], pos: usize, n: usize) -> usize
+    requires { ⌜ MayClose row (now stack) pos n (now cells) ⌝ }
+    ensures { λ r. ⌜ Closes row (now (stack .entry)) pos n (now (cells .entry)) r (now (cells .exit)) ⌝ }
 {
+    let w = stack[pos - 1];
     let args = [
         given_at(stack, pos, n, 0),
         given_at(stack, pos, n, 1),
         given_at(stack, pos, n, 2),
     ];
-    store_row(cells, row, code, args);
+    store_row(cells, row, code_of(w), args);
+    around_of(w)
 }
 
 // What is done with a constructor none of whose arguments is one: its row is stored, and this is the offset behind it; or nothing is,
@@ -168,15 +176,14 @@ fn store_flat(
     from: usize,
     code: u8,
     env: &[u32; MOST_VARIABLES],
-    k: usize,
-    rows: usize,
-    made: usize,
+    m: Making,
 ) -> Flat
-    requires { ⌜ Takes (now v) from code ⌝ }
-    requires { ⌜ RowsFit rows (now cells) ⌝ }
-    ensures { λ r. ⌜ StoresFlat (now (v .entry)) from (now (env .entry)) k rows made (now (cells .entry)) r (now (cells .exit)) ⌝ }
+    requires { ⌜ MayStore (now v) from code m (now cells) ⌝ }
+    ensures { λ r. ⌜ StoresFlat (now (v .entry)) from (now (env .entry)) m (now (cells .entry)) r (now (cells .exit)) ⌝ }
 {
-    if rows <= made {
+    let k = m.count;
+    let made = m.made;
+    if m.rows <= made {
         return Flat::Left;
     }
     let n = arity_of(code);
@@ -203,24 +210,22 @@ fn store_flat(
 // The template of a constructor at an offset. The stack holds the open constructors, each with its arguments so far behind it; `pos` is
 // where those of the innermost one begin, `top` where they end, and n how many it takes.
 fn build_nested(
+    cells: &mut [u32],
+    stack: &mut [u32],
     v: &[u8],
     from: usize,
     code: u8,
     env: &[u32; MOST_VARIABLES],
-    k: usize,
-    rows: usize,
-    made: usize,
-    cells: &mut [u32],
-    stack: &mut [u32],
+    m: Making,
 ) -> Built
-    requires { ⌜ Takes (now v) from code ⌝ }
-    requires { ⌜ RoomsFit (now v) rows (now cells) (now stack) ⌝ }
-    ensures { λ r. ⌜ Evaluates (now (v .entry)) from (now (env .entry)) k rows made (now (cells .entry)) r (now (cells .exit)) ⌝ }
-    ensures { λ r. ⌜ Behind (now (v .entry)) from r ⌝ }
+    requires { ⌜ MayMake (now v) from code m (now cells) (now stack) ⌝ }
+    ensures { λ r. ⌜ Builds (now (v .entry)) from (now (env .entry)) m (now (cells .entry)) r (now (cells .exit)) ⌝ }
 {
+    let k = m.count;
+    let rows = m.rows;
     stack[0] = opening(code, 0);
     let mut at = from + 1;
-    let mut count = made;
+    let mut count = m.made;
     let mut pos: usize = 1;
     let mut top: usize = 1;
     let mut n = arity_of(code);
@@ -245,9 +250,7 @@ fn build_nested(
             if rows <= count {
                 return Built::Full;
             }
-            let w = stack[pos - 1];
-            store_cell(cells, count, code_of(w), stack, pos, n);
-            let around = around_of(w);
+            let around = store_cell(cells, count, stack, pos, n);
             if around == 0 {
                 return Built::Made(count as u32, at, count + 1);
             }
@@ -262,48 +265,47 @@ fn build_nested(
 
 // The template of a constructor at an offset: most have values for arguments, and need no stack.
 fn build_node(
+    cells: &mut [u32],
+    stack: &mut [u32],
     v: &[u8],
     from: usize,
     code: u8,
     env: &[u32; MOST_VARIABLES],
-    k: usize,
-    rows: usize,
-    made: usize,
-    cells: &mut [u32],
-    stack: &mut [u32],
+    m: Making,
 ) -> Built
-    requires { ⌜ Takes (now v) from code ⌝ }
-    requires { ⌜ RoomsFit (now v) rows (now cells) (now stack) ⌝ }
-    ensures { λ r. ⌜ Evaluates (now (v .entry)) from (now (env .entry)) k rows made (now (cells .entry)) r (now (cells .exit)) ⌝ }
-    ensures { λ r. ⌜ Behind (now (v .entry)) from r ⌝ }
+    requires { ⌜ MayMake (now v) from code m (now cells) (now stack) ⌝ }
+    ensures { λ r. ⌜ Builds (now (v .entry)) from (now (env .entry)) m (now (cells .entry)) r (now (cells .exit)) ⌝ }
 {
-    let flat = store_flat(cells, v, from, code, env, k, rows, made);
+    let made = m.made;
+    let flat = store_flat(cells, v, from, code, env, m);
     match flat {
-        Flat::Stored(next) => Built::Made(made as u32, next, made + 1),
-        Flat::Left => build_nested(v, from, code, env, k, rows, made, cells, stack),
+        Flat::Stored(next) => {
+            let row = made as u32;
+            let more = made + 1;
+            Built::Made(row, next, more)
+        }
+        Flat::Left => build_nested(cells, stack, v, from, code, env, m),
     }
 }
 
-// The template at an offset of a field's value, under k variables, with `made` cells made.
+// The template at an offset of a field's value.
 pub fn build(
+    cells: &mut [u32],
+    stack: &mut [u32],
     v: &[u8],
     at: usize,
     env: &[u32; MOST_VARIABLES],
-    k: usize,
-    rows: usize,
-    made: usize,
-    cells: &mut [u32],
-    stack: &mut [u32],
+    m: Making,
 ) -> Built
-    requires { ⌜ Ahead (now v) at ⌝ }
-    requires { ⌜ RoomsFit (now v) rows (now cells) (now stack) ⌝ }
-    ensures { λ r. ⌜ Evaluates (now (v .entry)) at (now (env .entry)) k rows made (now (cells .entry)) r (now (cells .exit)) ⌝ }
-    ensures { λ r. ⌜ Behind (now (v .entry)) at r ⌝ }
+    requires { ⌜ MayBuild (now v) at m (now cells) (now stack) ⌝ }
+    ensures { λ r. ⌜ Builds (now (v .entry)) at (now (env .entry)) m (now (cells .entry)) r (now (cells .exit)) ⌝ }
 {
+    let k = m.count;
+    let made = m.made;
     let head = head_at(v, at, env, k);
     match head {
         Head::Leaf(x, next) => Built::Made(x, next, made),
-        Head::Node(b) => build_node(v, at, b, env, k, rows, made, cells, stack),
+        Head::Node(b) => build_node(cells, stack, v, at, b, env, m),
     }
 }
 
@@ -316,27 +318,23 @@ fn known_values(values: &[u32; MOST_VARIABLES]) -> usize
 
 // The templates of a call, from an offset of its item's value on; `out` takes their values.
 pub fn build_arguments(
-    v: &[u8],
-    start: usize,
-    env: &[u32; MOST_VARIABLES],
-    k: usize,
-    rows: usize,
-    made: usize,
     out: &mut [u32; MOST_VARIABLES],
     cells: &mut [u32],
     stack: &mut [u32],
+    v: &[u8],
+    start: usize,
+    env: &[u32; MOST_VARIABLES],
+    m: Making,
 ) -> Arguments
-    requires { ⌜ isTemplates (templatesOf (drop start (now v))) ≡ true ⌝ }
-    requires { ⌜ RoomsFit (now v) rows (now cells) (now stack) ⌝ }
-    ensures { λ r. ⌜ ((I : Input) (s : State) (M : List ℕ) → I .rows ≡ rows → Holds (now (env .entry)) k M → Lists s r (now (out .exit))
-        (now (cells .exit)) (buildAll (found (templatesOf (drop start (now (v .entry))))) I M (withMade s made) (now (cells .entry)))) ⌝ }
-    ensures { λ r. ⌜ Few (length (now (v .entry))) r ⌝ }
-    ensures { λ r. ⌜ KeptBehind (now (out .entry)) r (now (out .exit)) ⌝ }
+    requires { ⌜ MayList (now v) start m (now cells) (now stack) ⌝ }
+    ensures { λ r. ⌜ ListsAll (now (v .entry)) start (now (env .entry)) m (now (out .entry)) (now (cells .entry)) r (now (out .exit)) (now (cells .exit)) ⌝ }
 {
+    let k = m.count;
+    let rows = m.rows;
     known_values(out);
     let mut at = start;
     let mut n: usize = 0;
-    let mut count = made;
+    let mut count = m.made;
     while at < v.len() {
         let head = head_at(v, at, env, k);
         match head {
@@ -346,7 +344,12 @@ pub fn build_arguments(
                 n += 1;
             }
             Head::Node(b) => {
-                let part = build_node(v, at, b, env, k, rows, count, cells, stack);
+                let here = Making {
+                    count: k,
+                    rows,
+                    made: count,
+                };
+                let part = build_node(cells, stack, v, at, b, env, here);
                 match part {
                     Built::Full => {
                         return Arguments::Overfull;

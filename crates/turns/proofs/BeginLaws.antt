@@ -8,13 +8,13 @@ use native.Mathlib.Omega.{arith}
 use lib.Dec.{ltb}
 use lib.Count.{ones}
 use lib.ListN.{length, getD}
-use borrow.Author.Tests.{lt-ltb, le-ltb}
+use borrow.Author.Tests.{eq-eqb, ne-eqb, lt-ltb, le-ltb}
 use Rattle.answers.specs.declared.Refusal.{Refusal}
 use Rattle.answers.specs.Refusals.{refusal}
+use Rattle.productions.specs.Normal.{Production}
 use Rattle.productions.specs.Index.{productionAt}
 use Rattle.productions.specs.Room.{startIn}
 use Rattle.firsts.specs.Room.{productionsIn}
-use Rattle.scanner.specs.Rooms.{tokensIn}
 use Rattle.expansion.specs.declared.State.{State}
 use Rattle.expansion.specs.Run.{Result, halt, after}
 use Rattle.expansion.specs.Expansion.{Input, nextToken, misfit, build, runItems, Choice, unfit, ready, chosen, choice, callBegun, runCall}
@@ -22,13 +22,16 @@ use Rattle.tokens.specs.Tokens.{endToken}
 use Rattle.expansion.specs.Limits.{mostCalls}
 use Rattle.choices.specs.Held.{Held}
 use Rattle.choices.specs.Chosen.{firstSetsOf, entriesOf, chosenPlace, chosenStart, Remembers, Chooses}
-use Rattle.choices.proofs.ChoiceLaws.{chosen-nowhere, chosen-here, chosen-whole, chosen-inside, start-is, start-chosen}
-use Rattle.steps.specs.Steps.{body, weight}
+use Rattle.choices.proofs.ChoiceLaws.{chosen-nowhere, chosen-here, chosen-each, start-is, start-chosen}
+use Rattle.steps.specs.Source.{Source, alternativeAt, GoesOn}
+use Rattle.steps.specs.Steps.{body, tokensLent, weight}
+use Rattle.steps.proofs.SourceLaws.{productions-from}
+use Rattle.frames.specs.Frames.{ahead}
 use Rattle.steps.specs.declared.Activation.{Activation}
-use Rattle.turns.specs.Lent.{lentInput}
+use Rattle.turns.specs.Lent.{Ready, lentInput}
 use Rattle.turns.specs.declared.begins.Begun.{Begun}
 use Rattle.turns.specs.declared.begins.Begun.the-variants.{Refused, Entered}
-use Rattle.turns.specs.Begins.{CallBegunAt, Starts}
+use Rattle.turns.specs.Begins.{callRefusal, CallBegunAt, Starts}
 use Rattle.grammar.specs.Limits.{most}
 
 -- what a call does with the rule that is chosen
@@ -66,81 +69,115 @@ pub positive : (left : ℕ) → (left ≡ 0 → ⊥) → 0 < left
 positive zero g = absurd (g refl)
 positive (suc left) g = omega arith
 
--- a refusal, whatever is remembered
-starts-refused : {lent : Input} {bs : List ℕ} {depth nonterminal given : ℕ} {state : State} {cause other : Refusal} → cause ≡ other
-    → ((vs cells : List ℕ) → halt other cells ≡ runCall depth lent nonterminal vs state cells)
-    → {memory : List ℕ}
-    → Remembers bs memory
-    → Starts lent bs depth nonterminal given state (Refused cause) memory
-starts-refused e h m = record { begins = λ vs cells. rw e (h vs cells); enters = tt; entered-chosen = tt; remembers = m }
+-- what a call is refused with, by the tests
+module _ (lent : Input) (nonterminal : ℕ) (state : State) where
+  due-closed : (depth : ℕ) → depth ≡ 0 → refusal 19 (state .at) 0 0 ≡ callRefusal lent depth nonterminal state
+  unfolding callRefusal
+  due-closed depth e = rw (eq-eqb depth 0 e, callRefusal) refl
 
-module _ {bs room : List ℕ} (held : Held bs room) (tokens : List ℕ) (count rows depth nonterminal given : ℕ) (state : State) where
+  module _ (depth : ℕ) (may-open : depth ≡ 0 → ⊥) where
+    due-spent : mostCalls ≤ state .calls → refusal 20 (state .at) 0 0 ≡ callRefusal lent depth nonterminal state
+    unfolding callRefusal
+    due-spent l = rw (ne-eqb depth 0 may-open, le-ltb (state .calls) mostCalls l, callRefusal) refl
+
+    due-unfit : state .calls < mostCalls → {set : ℕ} → set ≡ getD (lent .grammar .firsts) nonterminal 0
+        → refusal 17 (state .at) set (ones set) ≡ callRefusal lent depth nonterminal state
+    unfolding callRefusal
+    due-unfit l e = rw (ne-eqb depth 0 may-open, lt-ltb (state .calls) mostCalls l, e, callRefusal) refl
+
+-- a refusal, whatever is remembered
+starts-refused : {lent : Input} {S : Source} {depth nonterminal given : ℕ} {state : State} {cause other : Refusal} → cause ≡ other
+    → ((vs cells : List ℕ) → halt other cells ≡ runCall depth lent nonterminal vs state cells)
+    → other ≡ callRefusal lent depth nonterminal state
+    → {memory : List ℕ}
+    → Remembers (S .bytes) memory
+    → Starts lent S depth nonterminal given state (Refused cause) memory
+starts-refused e h due m =
+    record { begins = λ vs cells. rw e (h vs cells); refuses = e ∙ due; enters = tt; entered-chosen = tt; remembers = m }
+
+module _ {S : Source} {room : List ℕ} (ready-room : Ready S room) (tokens : List ℕ) (rows depth nonterminal given : ℕ) (state : State) where
   abbrev input : Input
-  input = lentInput bs tokens count rows
+  input = lentInput S tokens rows
+
+  abbrev held : Held (S .bytes) room
+  held = ready-room .held
 
   abbrev Ends : Begun → List ℕ → Type 0
-  Ends b memory = Starts input bs depth nonterminal given state b memory
+  Ends b memory = Starts input S depth nonterminal given state b memory
 
   -- Refusal 19: no more calls may be open.
-  pub starts-closed : {memory : List ℕ} → Remembers bs memory → depth ≡ 0 → {cause : Refusal} → cause ≡ refusal 19 (state .at) 0 0 → Ends (Refused cause) memory
-  starts-closed m e er = starts-refused er (λ vs cells. call-closed input nonterminal vs state cells depth e) m
+  pub starts-closed : {memory : List ℕ} → Remembers (S .bytes) memory → depth ≡ 0 → {cause : Refusal} → cause ≡ refusal 19 (state .at) 0 0
+      → Ends (Refused cause) memory
+  starts-closed m e er =
+      starts-refused er (λ vs cells. call-closed input nonterminal vs state cells depth e) (due-closed input nonterminal state depth e) m
 
   module _ (may-open : depth ≡ 0 → ⊥) where
     -- Refusal 20: no more calls may be begun.
-    pub starts-spent : {memory : List ℕ} → Remembers bs memory → mostCalls ≤ state .calls → {cause : Refusal} → cause ≡ refusal 20 (state .at) 0 0
+    pub starts-spent : {memory : List ℕ} → Remembers (S .bytes) memory → mostCalls ≤ state .calls → {cause : Refusal} → cause ≡ refusal 20 (state .at) 0 0
         → Ends (Refused cause) memory
     starts-spent m l er =
-        starts-refused er (λ vs cells. call-by input nonterminal vs state cells depth may-open false (le-ltb (state .calls) mostCalls l)) m
+        starts-refused er (λ vs cells. call-by input nonterminal vs state cells depth may-open false (le-ltb (state .calls) mostCalls l))
+        (due-spent input nonterminal state depth may-open l) m
 
     -- by the place that is chosen
-    module _ (may-call : state .calls < mostCalls) {kind : ℕ} (ekind : kind ≡ getD (tokensIn tokens count) (state .at) endToken .kind) {place : ℕ}
-        {memory : List ℕ} (ch : Chooses bs nonterminal kind place memory) where
-      firsts-are : input .grammar .firsts ≡ firstSetsOf bs
-      unfolding ready firstSetsOf
-      firsts-are = refl
+    module _ (may-call : state .calls < mostCalls) {kind : ℕ} (ekind : kind ≡ getD (tokensLent tokens) (state .at) endToken .kind) {place : ℕ}
+        {memory : List ℕ} (ch : Chooses (S .bytes) nonterminal kind place memory) where
+      abbrev productions : List Production
+      productions = productionsIn (S .bytes)
 
-      by-choice : {given-choice : Choice} → choice (ready (productionsIn bs)) nonterminal kind ≡ given-choice → (vs cells : List ℕ)
+      firsts-are : input .grammar .firsts ≡ firstSetsOf (S .bytes)
+      unfolding ready firstSetsOf
+      firsts-are = rw (productions-from S)
+
+      by-choice : {given-choice : Choice} → choice (ready productions) nonterminal kind ≡ given-choice → (vs cells : List ℕ)
           → entered (depth - 1) input nonterminal vs state cells given-choice ≡ runCall depth input nonterminal vs state cells
       by-choice e vs cells =
-          ap (entered (depth - 1) input nonterminal vs state cells) (sym (ap (choice (ready (productionsIn bs)) nonterminal) (sym ekind) ∙ e))
+          ap (entered (depth - 1) input nonterminal vs state cells)
+          (sym
+          (ap (λ (g : List Production). choice (ready g) nonterminal (nextToken input state .kind)) (productions-from S)
+          ∙ ap (choice (ready productions) nonterminal) (sym ekind)
+          ∙ e))
           ∙ call-by input nonterminal vs state cells depth may-open true (lt-ltb (state .calls) mostCalls may-call)
 
       -- Refusal 17: no rule fits.
-      pub starts-nowhere : 256 ≤ place → {set : ℕ} → set ≡ getD (firstSetsOf bs) nonterminal 0 → {cause : Refusal}
+      pub starts-nowhere : 256 ≤ place → {set : ℕ} → set ≡ getD (firstSetsOf (S .bytes)) nonterminal 0 → {cause : Refusal}
           → cause ≡ refusal 17 (state .at) set (ones set)
           → Ends (Refused cause) memory
-      starts-nowhere l es er =
-          starts-refused (er ∙ ap (λ (k : ℕ). refusal 17 (state .at) k (ones k)) (es ∙ ap (λ sets. getD sets nonterminal 0) (sym firsts-are)))
-          (by-choice (chosen-nowhere held nonterminal kind (ch .place-is) l)) (ch .memory-is)
+      starts-nowhere l {set} es er =
+          let ef : set ≡ getD (input .grammar .firsts) nonterminal 0 = es ∙ ap (λ sets. getD sets nonterminal 0) (sym firsts-are) in
+          starts-refused (er ∙ ap (λ (k : ℕ). refusal 17 (state .at) k (ones k)) ef)
+          (by-choice (chosen-nowhere held nonterminal kind (ch .place-is) l)) (due-unfit input nonterminal state depth may-open may-call refl)
+          (ch .memory-is)
 
       -- The items of the rule that is chosen stand at the offset that the room has.
       pub starts-at : place < 256 → {start : ℕ} → start ≡ startIn room place → {next : State} → next ≡ callBegun state
           → Ends (Entered (record { production = place; began = state .at; count = given; next = start }) next) memory
-      unfolding body productionAt
+      unfolding body productionAt alternativeAt
       starts-at l {start} es {next} et =
           record {
             begins =
                 λ vs cells.
                 rw (et, es ∙ start-is held nonterminal kind (ch .place-is) l) (by-choice (chosen-here held nonterminal kind (ch .place-is) l) vs cells);
+            refuses = tt;
             enters =
                 record {
-                  whole = rw es (chosen-whole held nonterminal kind (ch .place-is) l);
-                  inside = omega (arith, es, chosen-inside held nonterminal kind (ch .place-is) l);
+                  goes-on = rw es (chosen-each held nonterminal kind (ch .place-is) l (GoesOn S) (ready-room .begun));
                   placed = l;
                   may-open = positive depth may-open;
                   may-call = may-call;
                   begun = et;
                 };
             entered-chosen =
-                let at-start : start ≡ chosenStart bs nonterminal (nextToken input state .kind)
-                = es ∙ start-chosen held nonterminal kind (ch .place-is) l ∙ ap (chosenStart bs nonterminal) ekind in
-                let at-place : place ≡ chosenPlace (entriesOf bs) nonterminal (nextToken input state .kind)
-                = ch .place-is ∙ ap (chosenPlace (entriesOf bs) nonterminal) ekind in
+                let at-start : start ≡ chosenStart (S .bytes) nonterminal (nextToken input state .kind)
+                = es ∙ start-chosen held nonterminal kind (ch .place-is) l ∙ ap (chosenStart (S .bytes) nonterminal) ekind in
+                let at-place : place ≡ chosenPlace (entriesOf (S .bytes)) nonterminal (nextToken input state .kind)
+                = ch .place-is ∙ ap (chosenPlace (entriesOf (S .bytes)) nonterminal) ekind in
                 cc (at-start, at-place);
             remembers = ch .memory-is;
           }
 
 -- One more call leaves room for its items.
-pub entry-weight : {bs : List ℕ} {depth : ℕ} {state : State} {call : Activation} {next : State} → CallBegunAt bs depth state call next → length bs ≤ most .bytes
-    → weight next + (length bs - call .next) ≤ weight state
+pub entry-weight : {S : Source} {depth : ℕ} {state : State} {call : Activation} {next : State} → CallBegunAt S depth state call next
+    → length (S .bytes) ≤ most .bytes
+    → weight next + ahead S (call .next) ≤ weight state
 entry-weight e h = omega (arith, ap weight (e .begun), e .may-call)

@@ -1,17 +1,32 @@
 -- What is lent to a call. These definitions mirror code: nobody needs them to believe `expand`.
-use Prim.Native.Nat.{ℕ}
+use Prim.Native.Nat.{ℕ, _<_}
 use mathlib.Core.List.{List}
-use Rattle.scanner.specs.Rooms.{tokensIn, TokensFit}
-use Rattle.firsts.specs.Room.{productionsIn}
+use Rattle.decoding.specs.Within.{Each}
+use Rattle.productions.specs.Index.{Place, placesOf}
+use Rattle.expansion.specs.declared.State.{State}
 use Rattle.expansion.specs.Expansion.{Input}
+use Rattle.expansion.specs.Limits.{mostCalls}
 use Rattle.expansion.specs.Parsing.{input}
+use Rattle.choices.specs.Held.{Held}
 use Rattle.choices.specs.Chosen.{MayChoose}
+use Rattle.steps.specs.Source.{Source, productionsFrom, GoesOn}
+use Rattle.steps.specs.Steps.{tokensLent, LentTokens}
+
+-- a room holds the grammar of a source, whose productions all stand where they begin
+pub record Ready (S : Source) (room : List ℕ) : Type 0 where
+  pub held : Held (S .bytes) room
+  pub begun : Each (λ (p : Place). GoesOn S (p .start)) (placesOf (S .bytes))
 
 -- a room that holds the grammar of some table, a memory of its choices, and tokens that fit
-pub record MayBegin (room memory tokens : List ℕ) (n : ℕ) : Type 0 where
+pub record MayBegin (room memory tokens : List ℕ) : Type 0 where
   pub may-choose : MayChoose room memory
-  pub tokens-fit : TokensFit tokens n
+  pub tokens-fit : LentTokens tokens
 
--- the input that a table's bytes, a room of tokens and a number of rows stand for
-abbrev pub lentInput : List ℕ → List ℕ → ℕ → ℕ → Input
-lentInput bs tokens n rows = input (productionsIn bs) (tokensIn tokens n) rows
+-- and a call more may be begun
+pub record MayEnter (room memory tokens : List ℕ) (s : State) : Type 0 where
+  pub may-begin : MayBegin room memory tokens
+  pub may-call : s .calls < mostCalls
+
+-- the input that a source, tokens and a number of rows stand for
+abbrev pub lentInput : Source → List ℕ → ℕ → Input
+lentInput S tokens rows = input (productionsFrom S) (tokensLent tokens) rows

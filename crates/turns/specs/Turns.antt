@@ -2,19 +2,17 @@
 -- mirror code: nobody needs them to believe `expand`.
 use Prim.Native.Nat.{ℕ, _+_, _-_, _*_, _^_, _<_, _≤_}
 use mathlib.Core.Path.{_≡_}
-use mathlib.Core.Bool.{true}
 use mathlib.Core.List.{List, [], _∷_, _++_}
 use lib.ListN.{length}
 use Rattle.grammar.specs.Limits.{most}
-use Rattle.grammar.specs.Lookup.{fieldsAt}
-use Rattle.productions.specs.Index.{wholeBody}
 use Rattle.expansion.specs.declared.State.{State}
 use Rattle.expansion.specs.Run.{Result, after}
 use Rattle.expansion.specs.Outcomes.{ran}
 use Rattle.expansion.specs.Expansion.{Input, runCall}
 use Rattle.templates.specs.Built.{Holds, withValue}
+use Rattle.steps.specs.Source.{Source, GoesOn}
 use Rattle.steps.specs.Steps.{body, weight, mostWeight, Onward}
-use Rattle.frames.specs.Frames.{frameSize, activationIn, allFrames, mostWaiting, LevelFits, CallFits, Storable, Saved, Loaded, Frame, resume, owed}
+use Rattle.frames.specs.Frames.{frameSize, activationIn, allFrames, mostWaiting, LevelFits, CallFits, Storable, Saved, Loaded, Frame, resume, ahead, owed}
 use Rattle.frames.specs.Frames.{Stacked, Standing}
 use Rattle.turns.specs.declared.Resumption.{Resumption}
 use Rattle.steps.specs.declared.Activation.{Activation}
@@ -91,60 +89,59 @@ abbrev pub callWeight : ℕ
 callWeight = 2 * waitingWeight
 
 -- Calls left, then calls that wait, then bytes left: what falls with each turn.
-abbrev pub left : List ℕ → Cursor → ℕ
-left bs c = callWeight * (mostCalls - c .state .calls) + waitingWeight * c .level + (length bs - c .call .next)
+abbrev pub left : Source → Cursor → ℕ
+left S c = callWeight * (mostCalls - c .state .calls) + waitingWeight * c .level + ahead S (c .call .next)
 
 -- ------------------------------------------------------------------ where an expansion stands
 
 -- what is left of the call that goes on, and of the calls that wait, gives R
-pub record Going (I : Input) (bs frames vars : List ℕ) (c : Cursor) (cells : List ℕ) (R : Result ℕ) : Type 0 where
-  pub whole : wholeBody (fieldsAt bs (c .call .next)) ≡ true
-  pub inside : c .call .next ≤ length bs
+pub record Going (I : Input) (S : Source) (frames vars : List ℕ) (c : Cursor) (cells : List ℕ) (R : Result ℕ) : Type 0 where
+  pub goes-on : GoesOn S (c .call .next)
   pub call-fits : CallFits (c .call)
-  pub counted : c .call .count ≤ length bs + c .call .next
+  pub counted : c .call .count ≤ length (S .bytes) + c .call .next
   pub waiting : List Frame
   pub many : length waiting ≡ c .level
   pub fits : LevelFits frames (c .level)
-  pub stacked : Stacked bs frames waiting
-  pub light : weight (c .state) + (length bs - c .call .next) + owed bs waiting ≤ mostWeight
+  pub stacked : Stacked S frames waiting
+  pub light : weight (c .state) + ahead S (c .call .next) + owed S waiting ≤ mostWeight
   pub M : List ℕ
   pub holds : Holds vars (c .call .count) M
-  pub rest : resume I bs waiting (body (runCall (mostWaiting - c .level) I) bs (c .call .next) I M (c .state) cells) ≡ R
+  pub rest : resume I S waiting (body (runCall (mostWaiting - c .level) I) S (c .call .next) I M (c .state) cells) ≡ R
 
 -- the same, where its item is a call with arguments in an array, and the room has one level more
-pub record Calling (I : Input) (bs frames vars : List ℕ) (c : Cursor) (args : List ℕ) (callee given′ next : ℕ) (t : State) (cells : List ℕ)
+pub record Calling (I : Input) (S : Source) (frames vars : List ℕ) (c : Cursor) (args : List ℕ) (callee given′ next : ℕ) (t : State) (cells : List ℕ)
     (R : Result ℕ) : Type 0 where
-  pub onward : Onward bs (c .call .next) next (c .state) t
-  pub few-given : given′ ≤ length bs
+  pub onward : Onward S (c .call .next) next (c .state) t
+  pub few-given : given′ ≤ length (S .bytes)
   pub call-fits : CallFits (c .call)
-  pub counted : c .call .count ≤ length bs + c .call .next
+  pub counted : c .call .count ≤ length (S .bytes) + c .call .next
   pub waiting : List Frame
   pub many : length waiting ≡ c .level
   pub few : c .level ≤ mostWaiting
   pub spare : (c .level + 2) * frameSize ≤ length frames
-  pub stacked : Stacked bs frames waiting
-  pub light : weight (c .state) + (length bs - c .call .next) + owed bs waiting ≤ mostWeight
+  pub stacked : Stacked S frames waiting
+  pub light : weight (c .state) + ahead S (c .call .next) + owed S waiting ≤ mostWeight
   pub M : List ℕ
   pub holds : Holds vars (c .call .count) M
   pub vs : List ℕ
   pub given : Holds args given′ vs
   pub rest :
-      resume I bs waiting
-      (after (runCall (mostWaiting - c .level) I callee vs t cells) (λ x. body (runCall (mostWaiting - c .level) I) bs next I (M ++ (x ∷ []))))
+      resume I S waiting
+      (after (runCall (mostWaiting - c .level) I callee vs t cells) (λ x. body (runCall (mostWaiting - c .level) I) S next I (M ++ (x ∷ []))))
       ≡ R
 
 -- ------------------------------------------------------------------ how a turn ends
 
 -- it ended with R, or the room was too short and it stands where R is still to be had
-abbrev pub Goes : Input → List ℕ → Result ℕ → List ℕ → List ℕ → Advance → Type 0
-Goes I bs R frames cells (Ended o) = ran o cells ≡ R
-Goes I bs R frames cells (Paused from) = Standing I bs frames (from .level) (from .state) cells R × (length frames < allFrames)
+abbrev pub Goes : Input → Source → Result ℕ → List ℕ → List ℕ → Advance → Type 0
+Goes I S R frames cells (Ended o) = ran o cells ≡ R
+Goes I S R frames cells (Paused from) = Standing I S frames (from .level) (from .state) cells R × (length frames < allFrames)
 
 -- a call goes on in a room that has one level more
-abbrev pub TurnStands : Input → List ℕ → Result ℕ → List ℕ → List ℕ → List ℕ → Cursor → Type 0
-TurnStands I bs R frames vars cells c = Going I bs frames vars c cells R × ((c .level + 2) * frameSize ≤ length frames)
+abbrev pub TurnStands : Input → Source → Result ℕ → List ℕ → List ℕ → List ℕ → Cursor → Type 0
+TurnStands I S R frames vars cells c = Going I S frames vars c cells R × ((c .level + 2) * frameSize ≤ length frames)
 
 -- and less is left
-pub record Turns (I : Input) (bs : List ℕ) (most : ℕ) (R : Result ℕ) (frames vars cells : List ℕ) (c : Cursor) : Type 0 where
-  pub stands : TurnStands I bs R frames vars cells c
-  pub less : left bs c < most
+pub record Turns (I : Input) (S : Source) (most : ℕ) (R : Result ℕ) (frames vars cells : List ℕ) (c : Cursor) : Type 0 where
+  pub stands : TurnStands I S R frames vars cells c
+  pub less : left S c < most

@@ -161,7 +161,8 @@ module _ {t : ℕ} (point : longer-lts.After-copy2 (longer-claims t) (longer-at 
   longer-entry-2 = longer-start (point .before .before .before .before .before)
 
   copied-2 : laws.Copied (longer-entry-2 .args .short .now) (point .copy2 .last .0)
-  copied-2 = record { old = _; front = point .copy2 .ensures; many = 256; long = point .copy2 .kept .0; less = ltb-true _ _ (point .before .before .if4 .taken) }
+  copied-2 =
+      record { old = _; front = point .copy2 .ensures; many = 256; long = point .copy2 .kept .0; less = ltb-true _ _ (point .before .before .if4 .taken) }
 
 longer-slice-aggregate-copy-2 : (t : ℕ) → longer-lts.Need-slice-aggregate-copy-2 (longer-claims t) (longer-at t) longer-items.Post
 longer-slice-aggregate-copy-2 t c = search needs

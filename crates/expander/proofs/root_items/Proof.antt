@@ -5,7 +5,7 @@ use native.Mathlib.Omega.{arith}
 use lib.ListN.{length}
 use borrow.Author.Needs.{needs}
 use Rattle.expansion.specs.Run.{Result}
-use Rattle.calls.specs.Lent.{reading}
+use Rattle.calls.specs.Lent.{Source, source, reading}
 use Rattle.calls.specs.Calls.{StandsAt, MayStand}
 use Rattle.frames.specs.Frames.{frameSize, LevelFits}
 use Rattle.turns.specs.declared.Resumption.{Resumption}
@@ -22,21 +22,24 @@ module _ (point : tie.After-save) where
   abbrev entry : tie.Start
   entry = saved .before .before .before .before .before .before
 
+  abbrev table : Source
+  table = source (entry .args .table .now)
+
   abbrev lowest : Resumption
   lowest = record { level = 0; state = entry .args .s }
 
   abbrev result : Result ℕ
   result =
-      rootItems (reading (entry .args .table .now) (entry .args .tokens .now) (entry .args .cells .now)) (entry .args .table .now)
+      rootItems (reading table (entry .args .tokens .now) (entry .args .cells .now)) table
       (entry .args .call .next) (entry .args .s) (entry .args .cells .now)
 
   fits : LevelFits (point .save .last .0) 0
   fits = record { few = omega arith; inside = omega (arith, point .save .kept .0) }
 
-  standing : StandsAt (entry .args .table .now) (entry .args .tokens .now) (entry .args .cells .now) (point .save .last .0) lowest result
+  standing : StandsAt table (entry .args .tokens .now) (entry .args .cells .now) (point .save .last .0) lowest result
   standing = laws.standing-root (entry .pre .entered) (entry .args .cells .now) fits (point .save .ensures)
 
-  may-stand : MayStand (entry .args .table .now) (entry .args .room .now) (entry .args .memory .now) (entry .args .tokens .now) (entry .args .cells .now)
+  may-stand : MayStand table (entry .args .room .now) (entry .args .memory .now) (entry .args .tokens .now) (entry .args .cells .now)
       (entry .args .stack .now) (point .save .last .0) lowest
   may-stand = record { lent = entry .pre .lent; remembers = entry .pre .remembers; result = result; standing = standing }
 
@@ -52,7 +55,7 @@ save-requires : tie.Need-save-requires
 save-requires c κs =
     let e = c .before .before .before .before .before .before .pre .entered in (
       record { few = omega arith; inside = omega arith },
-      record { call-fits = e .call-fits; count-small = omega (arith, e .no-variables); next-small = omega (arith, e .inside) },
+      record { call-fits = e .call-fits; count-small = omega (arith, e .no-variables); next-small = omega (arith, e .goes-on .inside) },
     )
 
 items-requires : tie.Need-items-requires

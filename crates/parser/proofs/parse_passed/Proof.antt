@@ -1,7 +1,13 @@
 -- `parse_passed`: the scan refuses, or the tokens are run.
+use Prim.Native.Nat.{ℕ}
+use mathlib.Core.Path.{_≡_, sym}
+use lib.Seq.{length-take-le}
 use native.Mathlib.Omega.{arith}
+use Rattle.tokens.specs.declared.Scanned.the-variants.{Tokens}
+use Rattle.scanner.specs.Rooms.{TokensFit}
 use Rattle.decoding.proofs.Split.{Bytes}
 use Rattle.parser.proofs.Joining as joining
+use Rattle.parser.proofs.Cutting.{cut-fits}
 use borrow.Author.Needs.{needs}
 use Rattle.parser.proofs.parse_passed.Statement.{statement}
 use Rattle.parser.proofs.parse_passed.Tie as tie
@@ -35,21 +41,35 @@ module _ (point : lts.After-scan claims reads.Pre reads.Post) where
   bytes : Bytes (entry .args .table .now)
   bytes i = omega (arith, first .shared-slice-known .given i)
 
+  -- its tokens fit
+  fits : {many count : ℕ} → point .scan .result ≡ Tokens many count → TokensFit (point .scan .last .1 .1 .0) many
+  fits e = joining.scan-fills bytes (entry .pre .checked .passes) _ _ _ (point .scan .ensures) (entry .pre .rooms) e .tokens-fit
+
 scan-requires : tie.Need-scan-requires
 scan-requires c κs =
     let back = c .before .before .before .before .before .before in
     let pre = back .before .pre in
-    record { short = omega (arith, pre .checked .held .grammar .small); room = pre .rooms }
+    record { short = omega (arith, pre .checked .ready .held .grammar .small); room = pre .rooms }
+
+-- there are tokens
+abbrev scanned : lts.After-known-told2 claims reads.Pre reads.Post → lts.After-scan claims reads.Pre reads.Post
+scanned told = let scanned2 = told .before in scanned2 .before .before .before .before .before .before
+
+mul-end : tie.Need-mul-end
+mul-end c = omega (arith, fits (scanned c) (c .before .scanned2 .given .1) .few)
+
+slice-reshare-prefix-run-tokens : tie.Need-slice-reshare-prefix-run-tokens
+slice-reshare-prefix-run-tokens c = let told = c .before in omega (arith, fits (scanned told) (told .before .scanned2 .given .1) .long)
+
+slice-aggregate-run-tokens : tie.Need-slice-aggregate-run-tokens
+slice-aggregate-run-tokens c =
+    let told = c .before .before in
+    sym (length-take-le _ _ (fits (scanned told) (told .before .scanned2 .given .1) .long))
 
 run-tokens-requires : tie.Need-run-tokens-requires
 run-tokens-requires c κs =
-    let told = c .before .before .before in
-    let p = told .before .before .before .before .before .before in
-    let pre = entry p .pre in
-    record {
-      held = pre .checked .held;
-      tokens-fit = joining.scan-fills (bytes p) (pre .checked .passes) _ _ _ (p .scan .ensures) (pre .rooms) (told .scanned2 .given .1) .tokens-fit;
-    }
+    let told = c .before .before in
+    record { ready = entry (scanned told) .pre .checked .ready; tokens-fit = cut-fits (fits (scanned told) (told .before .scanned2 .given .1)) }
 
 returns : tie.Need-returns
 returns c P =
@@ -60,10 +80,9 @@ returns c P =
 returns-2 : tie.Need-returns-2
 returns-2 c P =
     let ran = c .before .before in
-    let told = ran .before .before .before .before in
-    let p = told .before .before .before .before .before .before in
-    let pre = entry p .pre in
-    joining.runs-whole (bytes p) P _ _ _ (p .scan .ensures) (pre .rooms) (told .scanned2 .given .1) _ (ran .run-tokens .ensures)
+    let told = ran .before .before .before in
+    let p = scanned told in
+    joining.runs-whole (bytes p) P _ _ _ (p .scan .ensures) (entry p .pre .rooms) (told .before .scanned2 .given .1) _ (ran .run-tokens .ensures)
 
 -- `parse_passed` meets its contract.
 pub parse-passed-spec : {M : Type 1} → statement M
@@ -74,6 +93,9 @@ parse-passed-spec =
     (λ c. search needs)
     (λ c κs. search needs)
     (λ c. search needs)
+    mul-end
+    slice-reshare-prefix-run-tokens
+    slice-aggregate-run-tokens
     run-tokens-requires
     (λ c. search needs)
     (λ c. search needs)

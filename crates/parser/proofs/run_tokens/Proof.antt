@@ -7,7 +7,7 @@ use Rattle.parser.proofs.run_tokens.Tie as tie
 returns : tie.Need-returns
 returns c =
     let p = c .before .before .before in
-    let ran = p .run .ensures in
+    let ran = p .run .ensures .result-is in
     let last = p .before .before .before .last-byte .ensures in
     cc
 

@@ -1,112 +1,160 @@
 -- `item_step`: what stands at the offset decides.
 use Prim.Native.Nat.{ℕ, _+_, _≤_}
 use mathlib.Core.Path.{_≡_, refl, sym, _∙_}
-use native.Mathlib.Nat.{le-trans}
+use mathlib.Core.List.{List}
 use native.Mathlib.Omega.{arith}
-use lib.ListN.{length, drop}
+use lib.ListN.{length, getD}
 use borrow.Author.Needs.{needs}
-use Rattle.grammar.specs.declared.Front.the-variants.{Field}
-use Rattle.grammar.specs.Lookup.{frontOf}
-use Rattle.grammar.proofs.LookupLaws.{front-inside}
 use Rattle.steps.specs.Steps.{ItemAt}
+use Rattle.steps.specs.Source.{source}
+use Rattle.steps.proofs.SourceLaws as sources
 use Rattle.steps.proofs.ItemLaws as laws
 use Rattle.steps.proofs.item_step.Statement.{statement}
 use Rattle.steps.proofs.item_step.Tie as tie
 
--- after a field is looked at
-module _ (point : tie.After-front-at) where
+abbrev start : tie.After-shared-slice-known3 → tie.Start
+start point = point .before .before .before .before .before .before
+
+-- after the size of an item's field is read
+module _ (point : tie.After-value-size) where
+  abbrev tested : tie.Else1
+  tested = point .before
+
   abbrev entry : tie.Start
-  entry = point .before .before .before .before .before
+  entry = start (tested .before)
 
-  module _ {tag size : ℕ} (equal : point .front-at .result ≡ Field tag size) where
-    stands : Field tag size ≡ frontOf (drop (entry .args .c .call .next) (entry .args .table .now))
-    stands = sym equal ∙ point .front-at .ensures
+  abbrev at : ℕ
+  at = entry .args .c .call .next
 
-    inside : entry .args .c .call .next + (3 + size) ≤ length (entry .args .table .now)
-    inside = front-inside (entry .args .table .now) (entry .args .c .call .next) stands
+  abbrev bytes : List ℕ
+  bytes = entry .args .table .now
 
-    item : tag ≡ 6
-        → ItemAt (entry .args .table .now) (entry .args .c .call .next) (laws.value (entry .args .table .now) (entry .args .c .call .next) stands)
-        (entry .args .c .call .next + 3 + size)
-    item i = laws.item-at _ _ stands i (entry .pre .whole)
+  inside : at + 3 + point .value-size .result ≤ length bytes
+  inside = sources.field-inside (entry .pre .goes-on) (point .value-size .ensures)
+
+  -- it has a kind and an operand
+  long : 2 ≤ point .value-size .result
+  long = sources.item-long (entry .pre .goes-on) (point .value-size .ensures) (tested .if1 .left)
+
+  stands :
+      ItemAt (source bytes) at (sources.itemThere (entry .pre .goes-on) (point .value-size .ensures) (tested .if1 .left))
+      (at + 3 + point .value-size .result)
+  stands = sources.item-at (entry .pre .goes-on) (point .value-size .ensures) (tested .if1 .left)
+
+-- after its kind and operand are read
+abbrev sized : tie.After-shared-slice-known5 → tie.After-value-size
+sized point = point .before .before
+
+shared-slice-read-if1 : tie.Need-shared-slice-read-if1
+shared-slice-read-if1 c = omega (arith, start c .pre .goes-on .inside)
 
 returns : tie.Need-returns
 returns c =
-    let front-place = c .before .before in
-    (λ I M et er g. refl, (laws.no-item _ _ (stands (front-place .before .before) (front-place .front .given .1)) (c .if1 .taken), refl))
+    let p = start (c .before) in
+    record {
+      does = λ I M reads g. refl;
+      advances = sources.no-item (p .pre .goes-on) refl (c .if1 .taken);
+      keeps = refl;
+    }
 
 add-from : tie.Need-add-from
-add-from c =
-    let p = c .before .before .before .before in
-    omega (arith, inside p (c .before .before .front .given .1), entry p .good .0)
+add-from c = let p = start (c .before) in omega (arith, p .pre .goes-on .inside, p .good .1 .1 .1 .0)
+
+value-size-requires : tie.Need-value-size-requires
+value-size-requires c κs = omega (arith, start (c .before) .pre .goes-on .inside)
 
 add-next : tie.Need-add-next
-add-next c =
-    let p = c .before .before .before .before in
-    omega (arith, inside p (c .before .before .front .given .1), entry p .good .0)
+add-next c = omega (arith, inside c, entry c .good .1 .1 .1 .0)
 
-part-do-item-end : tie.Need-part-do-item-end
-part-do-item-end c =
-    let p = c .before .before .before .before in
-    omega (arith, inside p (c .before .before .front .given .1), entry p .good .0)
+shared-slice-read-kind : tie.Need-shared-slice-read-kind
+shared-slice-read-kind c = omega (arith, inside (c .before), long (c .before))
 
-do-item-requires : tie.Need-do-item-requires
-do-item-requires c κs =
-    let if1-place = c .before .before .before .before in
-    let front-place = if1-place .before .before in
-    let p = front-place .before .before in
+add-operand : tie.Need-add-operand
+add-operand c = omega (arith, inside (c .before), entry (c .before) .good .1 .1 .1 .0)
+
+shared-slice-read-operand : tie.Need-shared-slice-read-operand
+shared-slice-read-operand c = omega (arith, inside (sized c), long (sized c))
+
+-- a call's value is lent
+abbrev called : tie.After-build-arguments-arg3 → tie.Then2
+called point = point .before .before .before
+
+part-build-arguments-end : tie.Need-part-build-arguments-end
+part-build-arguments-end c = omega (arith, inside (sized (called c .before)))
+
+build-arguments-requires : tie.Need-build-arguments-requires
+build-arguments-requires c κs =
+    let p = sized (called (c .before) .before) in
     let may = entry p .pre in
-    let here = item p (front-place .front .given .1) (if1-place .if1 .left) in
+    let as-long = sources.value-long (may .goes-on) (p .value-size .ensures) in
     record {
-      small = record { few = le-trans (here .shorter) (may .small .few); stack-long = le-trans (here .shorter) (may .small .stack-long) };
-      may-read = may .may-read;
-      whole = laws.item-whole _ _ (stands p (front-place .front .given .1)) (if1-place .if1 .left) (may .whole);
+      whole = sources.item-whole (may .goes-on) (p .value-size .ensures) (tested p .if1 .left);
+      fits =
+          record {
+            small = omega (arith, as-long, inside p, may .rooms .small);
+            stack-long = omega (arith, as-long, inside p, may .rooms .stack-long);
+            rows-fit = may .rooms .rows-fit;
+          };
     }
 
 returns-2 : tie.Need-returns-2
-returns-2 c = (λ I M et er g. refl, (laws.end-items _ _ (sym (c .enum-told .given .1) ∙ c .before .before .front-at .ensures), refl))
+returns-2 c =
+    let listed = c .before .before .before .before .before in
+    let is-call = called (listed .before .before) in
+    let p = sized (is-call .before) in
+    let state = entry p .args .c .state in
+    let as-long = sources.value-long (entry p .pre .goes-on) (p .value-size .ensures) in
+    rw (c .call-step .ensures)
+    (record {
+      does =
+          λ I M reads g.
+          laws.call-stepped _ _ _ (stands p) (is-call .if2 .taken) I M state (entry p .args .cells .now) (listed .build-arguments .result)
+          (listed .build-arguments .last .0) (listed .build-arguments .last .1 .0)
+          (listed .build-arguments .ensures .lists I state M (reads .rows-are) g);
+      advances =
+          laws.call-advances (stands p) state (listed .build-arguments .result) _ (listed .build-arguments .ensures .few) (omega (arith, as-long, inside p));
+      keeps = laws.call-keeps (listed .build-arguments .result) _ _ state _ (listed .build-arguments .last .0) (listed .build-arguments .ensures .kept);
+    })
+
+read-item-requires : tie.Need-read-item-requires
+read-item-requires c κs = record { may-read = entry (sized (c .before)) .pre .may-read; no-call = c .if2 .left }
 
 returns-3 : tie.Need-returns-3
-returns-3 c = (λ I M et er g. refl, (laws.cut-items _ _ (sym (c .enum-told2 .given .1) ∙ c .before .before .front-at .ensures), refl))
-
-same-length : tie.Need-same-length
-same-length c =
-    let do-item-place = c .before .before .before .before in
-    (let from-3 = do-item-place .do-item .kept .1 .1 .1 in let from-6 = from-3 .1 .1 .1 in from-6 .1 .0)
-
-same-length-2 : tie.Need-same-length-2
-same-length-2 c =
-    let do-item-place = c .before .before .before .before in
-    (let from-3 = do-item-place .do-item .kept .1 .1 .1 in let from-6 = from-3 .1 .1 .1 in from-6 .1 .1 .0)
-
-returns-4 : tie.Need-returns-4
-returns-4 c =
-    let do-item-place = c .before .before .before .before in
-    let if1-place = do-item-place .before .before .before .before .before in
-    let front-place = if1-place .before .before in
-    let p = front-place .before .before in
-    let here = item p (front-place .front .given .1) (if1-place .if1 .left) in
-    let given = do-item-place .do-item .ensures in
-    (λ I M et er g. given .0 _ _ I M here et er g, (given .1 .0 _ _ here, given .1 .1))
+returns-3 c =
+    let read = c .before in
+    let p = sized (read .before .before) in
+    let state = entry p .args .c .state in
+    rw (c .read-step .ensures)
+    (record {
+      does =
+          λ I M reads g.
+          laws.read-stepped (stands p) I M state (entry p .args .cells .now) (read .read-item .result)
+          (λ C. read .read-item .ensures .reads C I _ M (entry p .args .cells .now) (reads .tokens-are)) _;
+      advances = laws.read-advances (stands p) state (read .read-item .result) (read .read-item .ensures .spends);
+      keeps = laws.read-keeps (read .read-item .result) _ _;
+    })
 
 -- the function meets its contract
 pub item-step-spec : {M : Type 1} → statement M
 item-step-spec =
     tie.close
     (tie.spec
+    shared-slice-read-if1
+    returns
+    add-from
+    value-size-requires
+    add-next
+    shared-slice-read-kind
+    add-operand
+    shared-slice-read-operand
+    (λ c. search needs)
+    (λ c. search needs)
+    part-build-arguments-end
+    build-arguments-requires
     (λ c κs. search needs)
     (λ c. search needs)
     (λ c. search needs)
-    (λ c. search needs)
-    returns
-    add-from
-    add-next
-    (λ c. search needs)
-    (λ c. search needs)
-    part-do-item-end
-    do-item-requires
     returns-2
-    returns-3
-    same-length
-    same-length-2
-    returns-4)
+    read-item-requires
+    (λ c κs. search needs)
+    returns-3)

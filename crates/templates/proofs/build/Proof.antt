@@ -12,9 +12,8 @@ returns c =
     let p = c .before in
     let head-at-place = p .before .before in
     let entry-place = head-at-place .before .before .before .before in
-    laws.leaf-built (entry-place .args .v .now) (entry-place .args .at) (head-at-place .head-at .result) (p .head .given .1)
-    (head-at-place .head-at .ensures .0) (head-at-place .head-at .ensures .1) (entry-place .args .rows) (entry-place .args .made)
-    (entry-place .args .cells .now)
+    laws.leaf-built (entry-place .args .v .now) (entry-place .args .at) (entry-place .args .m) (head-at-place .head-at .result) (p .head .given .1)
+    (head-at-place .head-at .ensures .0) (head-at-place .head-at .ensures .1) (entry-place .args .cells .now)
 
 -- the function meets its contract
 pub build-spec : {M : Type 1} → statement M

@@ -11,13 +11,13 @@ use Rattle.templates.proofs.build_arguments.Statement.{statement}
 use Rattle.templates.proofs.build_arguments.Tie as tie
 
 abbrev Inv-loop : tie.InvT-loop
-Inv-loop v start env k rows made out₀ cells₀ stack₀ at₀ n₀ count₀ out cells stack at n count =
-    laws.Listing v start env k rows made cells₀ out cells at n count
+Inv-loop out₀ cells₀ stack₀ v start env k rows at₀ n₀ count₀ out cells stack at n count =
+    laws.Listing v start env (record { count = k; rows = rows; made = count₀ }) cells₀ out cells at n count
     × (length stack ≡ length stack₀)
     × KeptFrom out₀ out n
 
 abbrev μ-loop : tie.MeasureT-loop
-μ-loop v start env k rows made out₀ cells₀ stack₀ at₀ n₀ count₀ out cells stack at n count = length v - at
+μ-loop out₀ cells₀ stack₀ v start env k rows at₀ n₀ count₀ out cells stack at n count = length v - at
 
 -- a template that makes no cell: its value goes into the list
 module _ (point : tie.After-put Inv-loop μ-loop) where
@@ -67,35 +67,41 @@ build-node-requires c κs =
     let seen = head .before .before in
     let inv = seen .before .before .loop .inv in
     let entered = seen .before .before .before in
-    let fit = entered .before .before .before .before .before .pre .1 in (
-      node-takes (seen .head-at .result) (head .head2 .given .1) (seen .head-at .ensures .1),
-      record {
-        small = fit .small;
-        stack-long = omega (arith, fit .stack-long, inv .1);
-        few = fit .few;
-        rows-long = omega (arith, fit .rows-long, inv .0 .as-long);
-      },
-    )
+    let fits = entered .before .before .before .before .before .pre .fits in
+    record {
+      takes = node-takes (seen .head-at .result) (head .head2 .given .1) (seen .head-at .ensures .1);
+      fits =
+          record {
+            small = fits .small;
+            stack-long = omega (arith, fits .stack-long, inv .1);
+            rows-fit = record { few = fits .rows-fit .few; rows-long = omega (arith, fits .rows-fit .rows-long, inv .0 .as-long) };
+          };
+    }
 
 returns : tie.Need-returns Inv-loop μ-loop
-returns c = search laws.listing-full
+returns c =
+    let made = c .before .before .before .before .before .before in
+    let seen = made .before .before .before .before .before .before in
+    record {
+      lists = laws.listing-full (seen .before .before .loop .inv .0) (seen .before .loop-test .taken) _ _ (made .build-node .ensures) (c .enum-told .given .1);
+      few = tt;
+      kept = tt;
+    }
 
 loop-less-2 : tie.Need-loop-less-2 Inv-loop μ-loop
 loop-less-2 c =
-    let b = built c .build-node in
-    laws.listing-less (turn c .before .loop .inv .0) (turn c .loop-test .taken) _ _ (b .ensures .0) (told c .part .given .1) (b .ensures .1)
+    laws.listing-less (turn c .before .loop .inv .0) (turn c .loop-test .taken) _ _ (built c .build-node .ensures) (told c .part .given .1)
 
 loop-again-2 : tie.Need-loop-again-2 Inv-loop μ-loop
-loop-again-2 c =
-    let b = built c .build-node in (
-      laws.listing-next (turn c .before .loop .inv .0) (turn c .loop-test .taken) _ _ (b .ensures .0) (search needs) (told c .part .given .1)
-          (b .ensures .1) (c .put2 .last .0) (holds-more _ (c .put2 .ensures)),
-      cc,
-      kept-behind _ (c .put2 .ensures) (turn c .before .loop .inv .2),
-    )
+loop-again-2 c = (
+  laws.listing-next (turn c .before .loop .inv .0) (turn c .loop-test .taken) _ _ (built c .build-node .ensures) (search needs)
+      (told c .part .given .1) (c .put2 .last .0) (holds-more _ (c .put2 .ensures)),
+  cc,
+  kept-behind _ (c .put2 .ensures) (turn c .before .loop .inv .2),
+)
 
 returns-2 : tie.Need-returns-2 Inv-loop μ-loop
-returns-2 c = search laws.listing-end
+returns-2 c = record { lists = search laws.listing-end; few = search needs; kept = search needs }
 
 -- the function meets its contract
 pub build-arguments-spec : {M : Type 1} → statement M

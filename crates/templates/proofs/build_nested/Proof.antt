@@ -1,6 +1,6 @@
 -- `build_nested`: a loop over the constructors that are open. What is left of them gives what the template gives. The measure is the number of
 -- bytes left, and under it the place of the innermost constructor's arguments.
-use Prim.Native.Nat.{_+_, _-_, _*_, _≤_}
+use Prim.Native.Nat.{ℕ, _+_, _-_, _*_, _%_, _≤_}
 use mathlib.Core.Path.{_≡_, refl, _∙_}
 use native.Mathlib.Omega.{arith}
 use lib.ListN.{length, getD, set, length-set}
@@ -11,14 +11,14 @@ use Rattle.templates.proofs.build_nested.Statement.{statement}
 use Rattle.templates.proofs.build_nested.Tie as tie
 
 abbrev Inv-loop : tie.InvT-loop
-Inv-loop v from code env k rows made cells₀ stack₀ at₀ count₀ pos₀ top₀ n₀ cells stack at count pos top n =
+Inv-loop cells₀ stack₀ v from code env k rows at₀ count₀ pos₀ top₀ n₀ cells stack at count pos top n =
     laws.Looping
-    (record { v = v; from = from; env = env; k = k; rows = rows; made = made; cells = cells₀; size = length stack₀ })
+    (record { v = v; from = from; env = env; m = record { count = k; rows = rows; made = count₀ }; cells = cells₀; size = length stack₀ })
     (record { cells = cells; stack = stack; at = at; made = count; pos = pos; top = top })
     n
 
 abbrev μ-loop : tie.MeasureT-loop
-μ-loop v from code env k rows made cells₀ stack₀ at₀ count₀ pos₀ top₀ n₀ cells stack at count pos top n =
+μ-loop cells₀ stack₀ v from code env k rows at₀ count₀ pos₀ top₀ n₀ cells stack at count pos top n =
     (most .bytes + 2) * (length v - at) + pos
 
 -- a turn of the loop
@@ -32,9 +32,7 @@ module _ (point : tie.At-loop Inv-loop μ-loop) where
         v = entry .args .v .now;
         from = entry .args .from;
         env = entry .args .env .now;
-        k = entry .args .k;
-        rows = entry .args .rows;
-        made = entry .args .made;
+        m = entry .args .m;
         cells = entry .args .cells .now;
         size = length (set (entry .args .stack .now) 0 (point .before .before .opening .result));
       }
@@ -59,7 +57,7 @@ module _ (point : tie.At-loop Inv-loop μ-loop) where
 
   -- the bytes are few, and so are the numbers in the stack
   small : (turn .top ≤ turn .at) × (turn .at ≤ length (whole .v)) × (length (whole .v) ≤ most .bytes)
-  small = (omega (arith, building .past), building .inside, entry .pre .1 .small)
+  small = (omega (arith, building .past), building .inside, entry .pre .fits .small)
 
   -- the stack is as long as it was
   as-long : length (turn .stack) ≡ length (entry .args .stack .now)
@@ -80,33 +78,32 @@ abbrev closes : tie.Else2 Inv-loop μ-loop → tie.At-loop Inv-loop μ-loop
 closes p = p .before .before
 
 -- after its row is made
-module _ (point : tie.After-around-of Inv-loop μ-loop) where
-  abbrev stored : tie.After-store-cell Inv-loop μ-loop
-  stored = point .before .before .before
-
-  abbrev coded : tie.After-code-of Inv-loop μ-loop
-  coded = stored .before .before
-
+module _ (point : tie.After-store-cell Inv-loop μ-loop) where
   abbrev roomy : tie.Else2 Inv-loop μ-loop
-  roomy = coded .before .before .before
+  roomy = point .before .before .before
 
   abbrev here : tie.At-loop Inv-loop μ-loop
   here = closes roomy
 
-  abbrev closing :
-      laws.Closing (whole here) (turn here) (coded .code-of .result) (here .loop .n) (point .around-of .result)
-      (stored .store-cell .last .0)
+  abbrev number : ℕ
+  number = getD (turn here .stack) (turn here .pos - 1) 0
+
+  closing : laws.Closing (whole here) (turn here) (number % 256) (here .loop .n) (point .store-cell .result) (point .store-cell .last .0)
   closing =
       record {
         looping = here .loop .inv;
-        w = getD (turn here .stack) (turn here .pos - 1) 0;
-        looked = record { number = refl; code-is = coded .code-of .ensures };
+        w = number;
+        looked = record { number = refl; code-is = refl };
         stop = roomy .before .if1 .left;
         row = roomy .if2 .left;
-        stored = stored .store-cell .ensures;
-        same = stored .store-cell .kept .0;
-        out-is = point .around-of .ensures;
+        stored = point .store-cell .ensures .stored;
+        same = point .store-cell .kept .0;
+        out-is = point .store-cell .ensures .around-is;
       }
+
+-- the one around it goes on
+abbrev stored : tie.Else3 Inv-loop μ-loop → tie.After-store-cell Inv-loop μ-loop
+stored p = p .before .before .before
 
 loop-holds : tie.Need-loop-holds Inv-loop μ-loop
 loop-holds c = search laws.building-start
@@ -147,58 +144,53 @@ same-length-2 : tie.Need-same-length-2 Inv-loop μ-loop
 same-length-2 c = as-long (c .before .before)
 
 returns : tie.Need-returns Inv-loop μ-loop
-returns c = (laws.building-full (c .before .before .loop .inv) (c .before .if1 .left) (c .if2 .taken), tt)
-
-sub-w : tie.Need-sub-w Inv-loop μ-loop
-sub-w c = omega (arith, placed (closes c))
-
-mul-w : tie.Need-mul-w Inv-loop μ-loop
-mul-w c = let p = closes c in omega (arith, placed p, small p)
-
-slice-read-w : tie.Need-slice-read-w Inv-loop μ-loop
-slice-read-w c = let p = closes (c .before) in omega (arith, placed p, building p .stack-long)
+returns c =
+    record { evaluates = laws.building-full (c .before .before .loop .inv) (c .before .if1 .left) (c .if2 .taken); behind = tt }
 
 store-cell-requires : tie.Need-store-cell-requires Inv-loop μ-loop
 store-cell-requires c κs =
-    let roomy = c .before .before .before .before in
-    let p = closes roomy in (
-      (omega (arith, entry p .pre .1 .few), omega (arith, entry p .pre .1 .rows-long, building p .as-long)),
-      laws.building-fits (p .loop .inv) (roomy .before .if1 .left),
-    )
+    let roomy = c .before .before in
+    let p = closes roomy in
+    record {
+      few = omega (arith, entry p .pre .fits .rows-fit .few);
+      row-inside = omega (arith, entry p .pre .fits .rows-fit .rows-long, building p .as-long);
+      behind = placed p .0;
+      inside = laws.building-fits (p .loop .inv) (roomy .before .if1 .left);
+    }
 
 same-length-4 : tie.Need-same-length-4 Inv-loop μ-loop
-same-length-4 c = as-long (here (c .before))
+same-length-4 c = as-long (here (c .before .before .before))
 
 returns-2 : tie.Need-returns-2 Inv-loop μ-loop
-returns-2 c =
-    let d = closing (c .before) in
-    (laws.closing-made d (c .if3 .taken), laws.closing-behind d (c .if3 .taken))
+returns-2 c = laws.closing-made (closing (c .before .before .before)) (c .if3 .taken)
 
 sub-stack : tie.Need-sub-stack Inv-loop μ-loop
-sub-stack c = omega (arith, placed (here (c .before)))
+sub-stack c = omega (arith, placed (here (stored c)))
 
 mul-stack-3 : tie.Need-mul-stack-3 Inv-loop μ-loop
-mul-stack-3 c = let p = here (c .before) in omega (arith, placed p, small p)
+mul-stack-3 c = let p = here (stored c) in omega (arith, placed p, small p)
 
 slice-write-stack-4 : tie.Need-slice-write-stack-4 Inv-loop μ-loop
-slice-write-stack-4 c = let p = here (c .before) in omega (arith, placed p, building p .stack-long)
+slice-write-stack-4 c = let p = here (stored c) in omega (arith, placed p, building p .stack-long)
 
 mul-code-of : tie.Need-mul-code-of Inv-loop μ-loop
-mul-code-of c = let p = here (c .before) in omega (arith, laws.closing-next (closing (c .before)) (c .if3 .left) .0, placed p, small p)
+mul-code-of c = let p = here (stored c) in omega (arith, laws.closing-next (closing (stored c)) (c .if3 .left) .0, placed p, small p)
 
 slice-read-code-of : tie.Need-slice-read-code-of Inv-loop μ-loop
 slice-read-code-of c =
-    let d = c .before .before in
-    let next = laws.closing-next (closing d) (c .before .if3 .left) .1 in
+    let next = laws.closing-next (closing (stored (c .before))) (c .before .if3 .left) .1 in
     omega (arith, laws.building-pos next, next .stack-long)
 
 loop-less-3 : tie.Need-loop-less-3 Inv-loop μ-loop
-loop-less-3 c = let open-place = c .before .before .before in omega (arith, laws.closing-next (closing (open-place .before)) (open-place .if3 .left) .0)
+loop-less-3 c =
+    let around = c .before .before .before in
+    omega (arith, laws.closing-next (closing (stored around)) (around .if3 .left) .0)
 
 loop-again-3 : tie.Need-loop-again-3 Inv-loop μ-loop
 loop-again-3 c =
-    let open-place = c .before .before .before in
-    laws.looping-read {building = laws.closing-next (closing (open-place .before)) (open-place .if3 .left) .1} (record { number = refl; code-is = c .before .code-of2 .ensures })
+    let around = c .before .before .before in
+    laws.looping-read {building = laws.closing-next (closing (stored around)) (around .if3 .left) .1}
+    (record { number = refl; code-is = c .before .code-of .ensures })
     (c .arity-of3 .ensures)
 
 -- the function meets its contract
@@ -233,12 +225,7 @@ build-nested-spec =
     (λ c. search needs)
     same-length-2
     returns
-    sub-w
-    mul-w
-    slice-read-w
-    (λ c κs. search needs)
     store-cell-requires
-    (λ c κs. search needs)
     (λ c. search needs)
     (λ c. search needs)
     (λ c. search needs)

@@ -16,10 +16,7 @@ module _ (point : tie.After-store-flat) where
 
   abbrev Tried : Flat → Type 0
   Tried f =
-      StoresFlat (entry .args .v .now) (entry .args .from) (entry .args .env .now) (entry .args .k) (entry .args .rows) (entry .args .made)
-      (entry .args .cells .now)
-      f
-      (point .store-flat .last .0)
+      StoresFlat (entry .args .v .now) (entry .args .from) (entry .args .env .now) (entry .args .m) (entry .args .cells .now) f (point .store-flat .last .0)
 
   stored : {next : ℕ} → point .store-flat .result ≡ Stored next → Tried (Stored next)
   stored e = subst Tried e (point .store-flat .ensures)
@@ -31,21 +28,22 @@ module _ (point : tie.After-store-flat) where
 abbrev tried : tie.After-known-told → tie.After-store-flat
 tried point = point .before .before .before .before .before
 
-cast-t15 : tie.Need-cast-t15
-cast-t15 c = let fits = entry (tried c) .pre .1 in omega (arith, stored (tried c) (c .before .flat .given .1) .row)
+cast-row : tie.Need-cast-row
+cast-row c = let fits = entry (tried c) .pre .fits in omega (arith, stored (tried c) (c .before .flat .given .1) .row)
 
-add-t16 : tie.Need-add-t16
-add-t16 c = let fits = entry (tried c) .pre .1 in omega (arith, stored (tried c) (c .before .flat .given .1) .row)
+add-more : tie.Need-add-more
+add-more c = let fits = entry (tried c) .pre .fits in omega (arith, stored (tried c) (c .before .flat .given .1) .row)
 
 returns : tie.Need-returns
-returns c = let row = stored (tried c) (c .before .flat .given .1) in (row .evaluates, row .behind)
+returns c = stored (tried c) (c .before .flat .given .1) .builds
 
 returns-2 : tie.Need-returns-2
 returns-2 c =
     let built = c .before .before .before .before in
-    let tried′ = built .before .before .before .before .before .before .before in
-    let same = left tried′ (built .before .before .before .enum-told .given .1) in
-    (λ I s M e g. built .build-nested .ensures .0 I s M e g ∙ cc same, built .build-nested .ensures .1)
+    let told = built .before .before .before in
+    let same = left (told .before .before .before .before) (told .enum-told .given .1) in
+    let builds = built .build-nested .ensures in
+    record { evaluates = λ I s M e g. builds .evaluates I s M e g ∙ cc same; behind = builds .behind }
 
 -- the function meets its contract
 pub build-node-spec : {M : Type 1} → statement M
@@ -54,8 +52,8 @@ build-node-spec =
     (tie.spec
     (λ c κs. search needs)
     (λ c. search needs)
-    cast-t15
-    add-t16
+    cast-row
+    add-more
     (λ c. search needs)
     (λ c κs. search needs)
     (λ c. search needs)

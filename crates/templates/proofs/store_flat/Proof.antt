@@ -7,10 +7,10 @@ use Rattle.templates.proofs.store_flat.Statement.{statement}
 use Rattle.templates.proofs.store_flat.Tie as tie
 
 abbrev Inv-loop : tie.InvT-loop
-Inv-loop cells v from code env k rows made n args₀ at₀ i₀ args at i = laws.Reading v from code env k at i args
+Inv-loop cells v from code env k made n args₀ at₀ i₀ args at i = laws.Reading v from code env k at i args
 
 abbrev μ-loop : tie.MeasureT-loop
-μ-loop cells v from code env k rows made n args₀ at₀ i₀ args at i = n - i
+μ-loop cells v from code env k made n args₀ at₀ i₀ args at i = n - i
 
 loop-holds : tie.Need-loop-holds Inv-loop μ-loop
 loop-holds c = search laws.reading-start

@@ -6,27 +6,31 @@ use borrow.Author.Needs.{needs}
 use Rattle.steps.proofs.taking.take.Statement.{statement}
 use Rattle.steps.proofs.taking.take.Tie as tie
 
-kind-at-requires : tie.Need-kind-at-requires
-kind-at-requires c κs = c .before .pre .0
-
 returns : tie.Need-returns
 returns c =
-    let entry-place = c .before .before .before in (
-      λ I cells e. laws.take-fits I (entry-place .args .s) cells _ (entry-place .args .value) _ _ _ (c .before .kind-at .ensures) e (c .if1 .taken),
-      (omega arith, refl),
-    )
+    let entry-place = c .before .before .before in
+    record {
+      takes =
+          λ I cells e.
+          laws.take-fits I (entry-place .args .s) cells _ (entry-place .args .value) (entry-place .args .tokens .now) _ (c .before .kind-at .ensures) e
+          (c .if1 .taken);
+      spends = (omega arith, refl);
+    }
 
 returns-2 : tie.Need-returns-2
 returns-2 c =
     let kind-at-place = c .before .before .before in
-    let entry-place = kind-at-place .before .before in (
-      λ I cells e. laws.take-misfits I (entry-place .args .s) cells _ (entry-place .args .value) _ _ _ (kind-at-place .kind-at .ensures) e
-          (c .before .before .if1 .left) _ _ (c .before .set-of-kind .ensures) (c .misfit .ensures),
-      tt,
-    )
+    let entry-place = kind-at-place .before .before in
+    record {
+      takes =
+          λ I cells e.
+          laws.take-misfits I (entry-place .args .s) cells _ (entry-place .args .value) (entry-place .args .tokens .now) _ (kind-at-place .kind-at .ensures) e
+          (c .before .before .if1 .left) _ _ (c .before .set-of-kind .ensures) (c .misfit .ensures);
+      spends = tt;
+    }
 
 -- the function meets its contract
 pub take-spec : {M : Type 1} → statement M
 take-spec =
     tie.close
-    (tie.spec kind-at-requires (λ c. search needs) (λ c κs. search needs) (λ c κs. search needs) returns returns-2)
+    (tie.spec (λ c κs. search needs) (λ c. search needs) (λ c κs. search needs) (λ c κs. search needs) returns returns-2)

@@ -1,34 +1,23 @@
--- `begin`: tested 19, 20, 17.
-use mathlib.Core.Path.{_∙_}
+-- `begin`: tested 19, 20; then it is entered.
 use borrow.Author.Needs.{needs}
-use Rattle.choices.proofs.ChoiceLaws.{kinds-are}
 use Rattle.turns.proofs.BeginLaws as laws
 use Rattle.turns.proofs.begins.begin.Statement.{statement}
 use Rattle.turns.proofs.begins.begin.Tie as tie
 
 returns : tie.Need-returns
-returns c = λ bs rows h m. laws.starts-closed h _ _ rows _ _ _ _ m (c .before .if1 .taken) (c .refuse .ensures)
+returns c =
+    let tokens = c .before .before .before .args .tokens .now in
+    record { starts = λ S rows h m. laws.starts-closed h tokens rows _ _ _ _ m (c .before .if1 .taken) (c .refuse .ensures) }
 
 returns-2 : tie.Need-returns-2
 returns-2 c =
-    λ bs rows h m.
-    laws.starts-spent h _ _ rows _ _ _ _ (c .before .before .if1 .left) m (c .before .if2 .taken) (c .refuse2 .ensures)
+    let tokens = c .before .before .before .before .args .tokens .now in
+    record {
+      starts = λ S rows h m. laws.starts-spent h tokens rows _ _ _ _ (c .before .before .if1 .left) m (c .before .if2 .taken) (c .refuse2 .ensures);
+    }
 
 returns-3 : tie.Need-returns-3
-returns-3 c =
-    let choose-place = c .before .before .before in
-    let kind-place = choose-place .before .before in
-    λ bs rows h m.
-    laws.starts-at h _ _ rows _ _ _ _ (kind-place .before .before .if1 .left) (kind-place .before .if2 .left) (kind-place .kind-at .ensures)
-    (choose-place .choose .ensures bs h m) (c .before .before .if3 .taken) (c .before .start .ensures) (c .with-call .ensures)
-
-returns-4 : tie.Need-returns-4
-returns-4 c =
-    let choose-place = c .before .before .before in
-    let kind-place = choose-place .before .before in
-    λ bs rows h m.
-    laws.starts-nowhere h _ _ rows _ _ _ _ (kind-place .before .before .if1 .left) (kind-place .before .if2 .left) (kind-place .kind-at .ensures)
-    (choose-place .choose .ensures bs h m) (c .before .before .if3 .left) (c .before .kinds-of .ensures ∙ kinds-are h _) (c .misfit .ensures)
+returns-3 c = let else2 = c .before .before in c .enter .ensures _ (laws.positive _ (else2 .before .if1 .left))
 
 -- the function meets its contract
 pub begin-spec : {M : Type 1} → statement M
@@ -40,10 +29,4 @@ begin-spec =
     (λ c κs. search needs)
     returns-2
     (λ c κs. search needs)
-    (λ c κs. search needs)
-    (λ c κs. search needs)
-    (λ c κs. search needs)
-    returns-3
-    (λ c κs. search needs)
-    (λ c κs. search needs)
-    returns-4)
+    returns-3)

@@ -3,8 +3,8 @@ use Prim.Native.Nat.{ℕ}
 use mathlib.Core.Path.{ap, _∙_}
 use Rattle.answers.specs.Refusals.{refusal}
 use borrow.Author.Needs.{needs}
-use Rattle.steps.proofs.taking.misfit.Statement.{statement}
-use Rattle.steps.proofs.taking.misfit.Tie as tie
+use Rattle.steps.proofs.misfit.Statement.{statement}
+use Rattle.steps.proofs.misfit.Tie as tie
 
 returns : tie.Need-returns
 returns c =
