@@ -4,8 +4,7 @@ use native.Mathlib.Omega.{arith}
 use borrow.Author.Needs.{needs}
 use borrow.Fn.Kinds.{In}
 use borrow.Fn.PlainCycle.{Measures, is, falls, and}
-use Rattle.writer.proofs.PoolLaws.{pooled-none}
-use Rattle.printer.proofs.TextLaws.{prints-spelled}
+use Rattle.printer.proofs.TextLaws.{fillable, printable-filled, prints-filled}
 use Rattle.printer.proofs.print_many.Reads as reads
 use Rattle.printer.proofs.print_many.Kinds as kinds
 use Rattle.printer.proofs.+print_many.Lts-print_many as lts
@@ -26,18 +25,6 @@ below t = and 6 kinds.ps (falls 6 kinds.ps _<_ μ-print-many t) reads.Pre
 abbrev claims : ℕ → lts.Claims
 claims t = (below t, reads.Post, fill-reads.Asked, fill-reads.Learnt, print-into-reads.Asked, print-into-reads.Learnt)
 
--- the room is long enough for all spellings, and has none
-fillable : (t : ℕ) → lts.Need-fill-requires (claims t) (entered t) reads.Post
-fillable t c κs =
-    record {
-      room = search needs;
-      few = search needs;
-      lie = search needs;
-      none = pooled-none 133120;
-      outsidesFit = search needs;
-      wordsFit = search needs;
-    }
-
 -- `print_many` meets its contract.
 pub +print-many-spec : {M : Type 1} → statement M
 +print-many-spec =
@@ -48,8 +35,8 @@ pub +print-many-spec : {M : Type 1} → statement M
     (λ c. absurd (omega arith))
     (λ c. absurd (omega arith))
     (λ c. search needs)
-    (fillable t)
+    (λ c κs. fillable (search needs) 133120 (omega arith))
     (λ c. search needs)
-    (λ c κs. search needs)
+    (λ c κs. printable-filled (search needs) 133120 (omega arith) (search needs))
     (λ c. search needs)
-    (λ c. search prints-spelled)
+    (λ c. prints-filled (search needs) 133120 (omega arith) (search needs) (search needs))

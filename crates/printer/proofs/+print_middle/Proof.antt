@@ -4,8 +4,7 @@ use native.Mathlib.Omega.{arith}
 use borrow.Author.Needs.{needs}
 use borrow.Fn.Kinds.{In}
 use borrow.Fn.PlainCycle.{Measures, is, falls, and}
-use Rattle.writer.proofs.PoolLaws.{pooled-none}
-use Rattle.printer.proofs.TextLaws.{prints-spelled}
+use Rattle.printer.proofs.TextLaws.{fillable, printable-filled, prints-filled}
 use Rattle.printer.proofs.print_middle.Reads as reads
 use Rattle.printer.proofs.print_middle.Kinds as kinds
 use Rattle.printer.proofs.+print_middle.Lts-print_middle as lts
@@ -26,10 +25,6 @@ below t = and 6 kinds.ps (falls 6 kinds.ps _<_ μ-print-middle t) reads.Pre
 abbrev claims : ℕ → lts.Claims
 claims t = (below t, reads.Post, fill-reads.Asked, fill-reads.Learnt, print-into-reads.Asked, print-into-reads.Learnt)
 
--- the room is long enough for all spellings, and has none
-fillable : (t : ℕ) → lts.Need-fill-requires (claims t) (entered t) reads.Post
-fillable t c κs = search (needs, pooled-none)
-
 -- `print_middle` meets its contract.
 pub +print-middle-spec : {M : Type 1} → statement M
 +print-middle-spec =
@@ -40,8 +35,8 @@ pub +print-middle-spec : {M : Type 1} → statement M
     (λ c. absurd (omega arith))
     (λ c. absurd (omega arith))
     (λ c. search needs)
-    (fillable t)
+    (λ c κs. fillable (search needs) 10240 (omega arith))
     (λ c. search needs)
-    (λ c κs. search needs)
+    (λ c κs. printable-filled (search needs) 10240 (omega arith) (search needs))
     (λ c. search needs)
-    (λ c. search prints-spelled)
+    (λ c. prints-filled (search needs) 10240 (omega arith) (search needs) (search needs))
