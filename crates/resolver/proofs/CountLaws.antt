@@ -1,16 +1,16 @@
 -- The numbering loop: what is left of the marks gives what the whole gives.
 use Prim.Native.Nat.{ℕ, zero, suc, _+_, _-_, _≤_, _<_}
-use mathlib.Core.Path.{_≡_, refl, sym, ap, ap₂, _∙_}
-use mathlib.Core.List.{List, [], _∷_, _++_}
+use mathlib.Core.Path.{_≡_, refl, sym, ap, _∙_}
+use mathlib.Core.List.{List, [], _∷_, _++_, append-assoc, append-nil}
 use native.Mathlib.Numerals.{add-one}
 use native.Mathlib.Omega.{arith}
-use lib.ListN.{length, getD, set, take, drop, length-set}
-use lib.Seq.{drop-cons, take-suc-set, drop-set-lt, getD-take, length-take-le, take-length, drop-length}
+use lib.ListN.{length, getD, set, take, drop, length-set, take-append-drop}
+use lib.Seq.{drop-cons, take-suc, take-suc-set, drop-set-lt, getD-take, length-take-le, take-length, drop-length}
 use borrow.Author.Tests.{ne-eqb}
 use Rattle.grammar.proofs.ReaderLaws.{getD-past}
 use Rattle.resolver.specs.declared.Resolution.the-variants.{Loose, Numbered}
 use Rattle.scopes.specs.Marks.{new, noOwner}
-use Rattle.resolver.specs.Numbers.{ownerNumber, numberAt, nextNumber, numberedMarks, looseIn, firstLoose, NumbersMarks}
+use Rattle.resolver.specs.Numbers.{ownerNumber, numberAt, nextNumber, numberedMarks, looseIn, NumbersMarks}
 
 -- ------------------------------------------------------------------ the number at a place
 
@@ -63,8 +63,10 @@ pub record Counting (room₀ room : List ℕ) (place count : ℕ) : Type 0 where
   pub few : count ≤ place
   -- the room keeps its length
   pub long : length room ≡ length room₀
-  -- the numbers so far and the marks ahead give the numbers of all
-  pub names : numberedMarks (take place room) (count + 1) (drop place room) ≡ numberedMarks [] 1 room₀
+  -- the numbers so far, whatever marks come behind them, are those of the marks so far
+  pub names : (ms : List ℕ) → numberedMarks (take place room) (count + 1) ms ≡ numberedMarks [] 1 (take place room₀ ++ ms)
+  -- the marks ahead are as they were
+  pub ahead : drop place room ≡ drop place room₀
   -- the places without an owner that are ahead are all of them
   pub loose : looseIn place (drop place room) ≡ looseIn 0 room₀
 
@@ -75,27 +77,54 @@ counting-start room =
       inside = omega arith;
       few = omega arith;
       long = refl;
-      names = refl;
+      names = λ ms. refl;
+      ahead = refl;
       loose = refl;
     }
 
-module _ {room₀ room : List ℕ} {place count : ℕ} (counting : Counting room₀ room place count) (below : place < length room) where
-  ahead : drop place room ≡ getD room place 0 ∷ drop (suc place) room
-  ahead = drop-cons room place 0 below
+-- The numbers so far.
+numbers-so-far : {room₀ room : List ℕ} {place count : ℕ} → Counting room₀ room place count → take place room ≡ numberedMarks [] 1 (take place room₀)
+unfolding numberedMarks
+numbers-so-far {room₀} {place = place} counting = counting .names [] ∙ ap (numberedMarks [] 1) (append-nil (take place room₀))
 
-  -- the first place without an owner is the answer
-  pub counting-loose : getD room place 0 ≡ noOwner → Loose place ≡ firstLoose (looseIn 0 room₀)
+module _ {room₀ room : List ℕ} {place count : ℕ} (counting : Counting room₀ room place count) (below : place < length room) where
+  next : drop place room ≡ getD room place 0 ∷ drop (suc place) room
+  next = drop-cons room place 0 below
+
+  next₀ : drop place room₀ ≡ getD room₀ place 0 ∷ drop (suc place) room₀
+  next₀ = drop-cons room₀ place 0 (omega (arith, counting .long))
+
+  mark-kept : getD room place 0 ≡ getD room₀ place 0
+  mark-kept = cc (next, next₀, counting .ahead)
+
+  -- The first place without an owner is the answer, and the marks from there on are as they were.
+  pub counting-loose : getD room place 0 ≡ noOwner → NumbersMarks room₀ room (Loose place)
   unfolding looseIn
   counting-loose e =
       let h : looseIn place (getD room place 0 ∷ drop (suc place) room) ≡ place ∷ looseIn (suc place) (drop (suc place) room) = rw (e, looseIn) refl in
-      ap firstLoose (sym h ∙ ap (looseIn place) (sym ahead) ∙ counting .loose)
+      let first : looseIn 0 room₀ ≡ place ∷ looseIn (suc place) (drop (suc place) room) = cc (h, next, counting .loose) in
+      record {
+        answer = sym (rw first refl);
+        left = rw first (sym (take-append-drop place room) ∙ cc (numbers-so-far counting, counting .ahead));
+      }
 
   module _ (owned : getD room place 0 ≡ noOwner → ⊥) {value : ℕ} (ev : value ≡ numberAt (take place room) (count + 1) (getD room place 0)) where
-    step-names : (more : ℕ) → nextNumber (count + 1) (getD room place 0) ≡ more
-        → numberedMarks (take (suc place) (set room place value)) more (drop (suc place) (set room place value)) ≡ numberedMarks [] 1 room₀
+    step-names : (more : ℕ) → nextNumber (count + 1) (getD room place 0) ≡ more → (ms : List ℕ)
+        → numberedMarks (take (suc place) (set room place value)) more ms ≡ numberedMarks [] 1 (take (suc place) room₀ ++ ms)
     unfolding numberedMarks
-    step-names more ek =
-        cc (take-suc-set room place value below, ev, drop-set-lt (suc place) room place value (omega arith), ek, ahead, counting .names)
+    step-names more ek ms =
+        cc (
+          take-suc-set room place value below,
+          ev,
+          ek,
+          counting .names (getD room place 0 ∷ ms),
+          mark-kept,
+          take-suc room₀ place 0 (omega (arith, counting .long)),
+          append-assoc (take place room₀) (getD room₀ place 0 ∷ []) ms,
+        )
+
+    step-ahead : drop (suc place) (set room place value) ≡ drop (suc place) room₀
+    step-ahead = cc (drop-set-lt (suc place) room place value (omega arith), next, next₀, counting .ahead)
 
     step-loose : looseIn (suc place) (drop (suc place) (set room place value)) ≡ looseIn 0 room₀
     unfolding looseIn
@@ -105,7 +134,7 @@ module _ {room₀ room : List ℕ} {place count : ℕ} (counting : Counting room
           looseIn,
         )
         refl in
-        cc (drop-set-lt (suc place) room place value (omega arith), h, ahead, counting .loose)
+        cc (drop-set-lt (suc place) room place value (omega arith), h, next, counting .loose)
 
     counting-next : (more : ℕ) → more ≤ place + 1 → nextNumber (count + 1) (getD room place 0) ≡ more + 1
         → Counting room₀ (set room place value) (place + 1) more
@@ -116,6 +145,7 @@ module _ {room₀ room : List ℕ} {place count : ℕ} (counting : Counting room
           few = omega arith;
           long = length-set room place value ∙ counting .long;
           names = step-names (more + 1) ek;
+          ahead = step-ahead;
           loose = step-loose;
         })
 
@@ -138,9 +168,13 @@ module _ {room₀ room : List ℕ} {place count : ℕ} (counting : Counting room
 
   -- where no mark is left, every fresh variable has an owner, and the marks have become the numbers
   pub counting-done : NumbersMarks room₀ room Numbered
-  unfolding looseIn numberedMarks
+  unfolding looseIn
   counting-done =
+      let none : looseIn 0 room₀ ≡ [] = sym (counting .loose) ∙ ap (looseIn place) none-ahead in
       record {
-        answer = ap firstLoose (sym (sym (counting .loose) ∙ ap (looseIn place) none-ahead));
-        numbered = λ e. cc (all-passed, take-length room, none-ahead, counting .names);
+        answer = sym (rw none refl);
+        left =
+            rw none
+            (sym (ap (λ k. take k room) all-passed ∙ take-length room) ∙ numbers-so-far counting
+            ∙ ap (numberedMarks [] 1) (ap (λ k. take k room₀) (all-passed ∙ counting .long) ∙ take-length room₀));
       }

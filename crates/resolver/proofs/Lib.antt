@@ -1,5 +1,5 @@
 pub mod CountLaws
 pub mod LooseLaws
 pub mod NumberLaws
-pub mod ResolvedLaws
 pub mod QuietLaws
+pub mod ResolvedLaws

@@ -1,156 +1,174 @@
--- Where no row binds a name and no variable is fresh, nothing is renamed and nothing is loose.
+-- Where no row binds a name and no variable is fresh, every mark is 0: nothing is renamed and nothing is loose.
 use Prim.Native.Nat.{ℕ, zero, suc, _+_, _-_, _*_, _/_, _<_, _≤_}
-use mathlib.Core.Path.{_≡_, refl, sym, ap, ap₂, _∙_}
-use mathlib.Core.List.{List, []}
+use mathlib.Core.Path.{_≡_, refl, sym, ap, _∙_}
+use mathlib.Core.Bool.{Bool, true, false, not, _&&_, true≢false}
+use mathlib.Core.List.{List, [], _∷_, _++_}
+use native.Mathlib.Numerals.{add-one}
 use native.Mathlib.Omega.{arith}
 use native.Mathlib.Decide.{decLt}
 use lib.Dec.{eqb}
 use lib.ListN.{length, getD}
-use borrow.Author.Tests.{eqb-true, eqb-false}
+use borrow.Author.Tests.{eq-eqb, ne-eqb, eqb-true, eqb-false}
 use Rattle.spellings.proofs.BytesLaws.{by-test}
 use Rattle.grammar.proofs.ReaderLaws.{getD-past}
 use Rattle.terms.specs.Cells.{column, nameBase, columns}
-use Rattle.terms.specs.Term.{Name, word, fresh, outside, Term, Fields, variable, function, apply, rcd, dot, number, nil, cons, size, sizeFields}
-use Rattle.terms.specs.Rows.{nameOf, termAt, fieldListAt}
-use Rattle.terms.specs.Rename.{shownAs, renamed, renamedFields, renames}
-use Rattle.terms.specs.Loose.{reached, walkName, walk, walkFields}
-use Rattle.terms.specs.Labelled.{labelled, labelledFields}
 use Rattle.rows.specs.Sizes.{WholeRows}
-use Rattle.rows.proofs.RowLaws as rows
-use Rattle.resolver.specs.declared.Resolution.the-variants.{Numbered}
-use Rattle.resolver.specs.Quiet.{QuietRow, QuietTo, Quiet}
-use Rattle.resolver.specs.Numbers.{Resolvable, Resolves}
+use Rattle.binders.specs.Slots.{slotOf}
+use Rattle.scopes.specs.Marks.{variableMark}
+use Rattle.scopes.proofs.NameLaws.{by-class, class-word, class-outside}
+use Rattle.marking.specs.RowMarks.{termMarks, fieldMarks}
+use Rattle.marking.proofs.WalkLaws.{RowRead, var-marked, app-marked, rcd-marked, dot-marked, num-marked, cons-marked, nil-marked}
+use Rattle.marking.proofs.WalkLaws.{shallow-marked, shallow-fields-marked}
+use Rattle.resolver.specs.Quiet.{isQuietRow, quietFrom, isQuiet}
 
--- ------------------------------------------------------------------ rows
+-- ------------------------------------------------------------------ a row
 
--- One row more.
-pub quiet-more : (cells : List ℕ) (many : ℕ) {code value : ℕ} → QuietTo many cells → code ≡ column cells many 0 → value ≡ column cells many 1
-    → QuietRow code value → QuietTo (many + 1) cells
-quiet-more cells many q ec ex r row l =
-    by-test (eqb row many)
-    (λ e. let z : row ≡ many = eqb-true row many e in rw (z, ← ec, ← ex) r)
-    (λ e. q row (omega (arith, eqb-false row many e)))
+module _ (code value : ℕ) where
+  -- A row that binds a name is not quiet.
+  pub binder-row : code ≡ 0x21 → false ≡ isQuietRow code value
+  unfolding isQuietRow
+  binder-row e = sym (rw (eq-eqb code 0x21 e, isQuietRow) refl)
 
--- A row that is not there is a number's.
-pub quiet-all : {cells : List ℕ} (many : ℕ) → WholeRows cells → QuietTo many cells → length cells / columns ≤ many → Quiet cells
-quiet-all {cells} many w q l row = by (decLt row many)
+  -- A variable's row is quiet unless the variable is fresh.
+  pub variable-row : code ≡ 0x20 → not (eqb (value / nameBase) 2) ≡ isQuietRow code value
+  unfolding isQuietRow
+  variable-row e = sym (rw (ne-eqb code 0x21 (λ d. omega arith), eq-eqb code 0x20 e, isQuietRow) refl)
+
+  -- Any other row is.
+  pub other-row : (code ≡ 0x21 → ⊥) → (code ≡ 0x20 → ⊥) → true ≡ isQuietRow code value
+  unfolding isQuietRow
+  other-row d e = sym (rw (ne-eqb code 0x21 d, ne-eqb code 0x20 e, isQuietRow) refl)
+
+-- what a quiet row is not
+record QuietRow (code value : ℕ) : Type 0 where
+  no-binder : code ≡ 0x21 → ⊥
+  no-fresh : code ≡ 0x20 → value / nameBase ≡ 2 → ⊥
+
+quiet-row : (code value : ℕ) → isQuietRow code value ≡ true → QuietRow code value
+quiet-row code value q =
+    record {
+      no-binder = λ e. true≢false (sym q ∙ sym (binder-row code value e));
+      no-fresh = λ e f. true≢false (sym q ∙ sym (variable-row code value e) ∙ ap not (eq-eqb (value / nameBase) 2 f));
+    }
+
+-- ------------------------------------------------------------------ the loop over rows
+
+-- what is left tells of all rows
+pub record Looking (cells : List ℕ) (row : ℕ) : Type 0 where
+  -- `row` is a row or the end
+  pub within : row ≤ length cells / columns
+  -- the rows from here on are quiet exactly if all are
+  pub rest : quietFrom (length cells / columns - row) cells row ≡ isQuiet cells
+
+-- No row is looked at yet.
+pub looking-start : (cells : List ℕ) → Looking cells 0
+looking-start cells = let z : length cells / columns - 0 ≡ length cells / columns = omega arith in record { within = omega arith; rest = rw z refl }
+
+module _ {cells : List ℕ} {row : ℕ} (looking : Looking cells row) where
+  module _ {code value : ℕ} (below : row < length cells / columns) (ec : code ≡ column cells row 0) (ev : value ≡ column cells row 1) where
+    ahead : (isQuietRow code value && quietFrom (length cells / columns - (row + 1)) cells (row + 1)) ≡ isQuiet cells
+    unfolding quietFrom
+    ahead =
+        let z : length cells / columns - row ≡ suc (length cells / columns - (row + 1)) = omega arith in
+        rw (ec, ev, add-one row) (rw (z, add-one row) at (looking .rest))
+
+    -- One quiet row more.
+    pub looking-next : isQuietRow code value ≡ true → Looking cells (row + 1)
+    looking-next q = record { within = omega arith; rest = rw q at ahead }
+
+    -- A row that is not quiet.
+    pub looking-stop : isQuietRow code value ≡ false → false ≡ isQuiet cells
+    looking-stop q = rw q at ahead
+
+  -- All rows are quiet.
+  pub looking-end : length cells / columns ≤ row → true ≡ isQuiet cells
+  unfolding quietFrom
+  looking-end l = let z : length cells / columns - row ≡ 0 = omega arith in rw z at (looking .rest)
+
+-- ------------------------------------------------------------------ all rows
+
+and-left : (a b : Bool) → (a && b) ≡ true → a ≡ true
+and-left true b e = refl
+and-left false b e = absurd (true≢false (sym e))
+
+and-right : (a b : Bool) → (a && b) ≡ true → b ≡ true
+and-right true b e = e
+and-right false b e = absurd (true≢false (sym e))
+
+quiet-each : (many : ℕ) (cells : List ℕ) (first : ℕ) → quietFrom many cells first ≡ true → (i : ℕ) → i < many
+    → QuietRow (column cells (first + i) 0) (column cells (first + i) 1)
+unfolding quietFrom
+quiet-each zero cells first q i l = absurd (omega arith)
+quiet-each (suc many) cells first q zero l =
+    let z : first + 0 ≡ first = omega arith in
+    rw z (quiet-row (column cells first 0) (column cells first 1) (and-left _ (quietFrom many cells (suc first)) q))
+quiet-each (suc many) cells first q (suc i) l =
+    let z : first + suc i ≡ suc first + i = omega arith in
+    rw z (quiet-each many cells (suc first) (and-right (isQuietRow (column cells first 0) (column cells first 1)) _ q) i (omega arith))
+
+-- a row that is not there is a number's
+quiet-any : {cells : List ℕ} → WholeRows cells → isQuiet cells ≡ true → (row : ℕ) → QuietRow (column cells row 0) (column cells row 1)
+quiet-any {cells} w q row = by (decLt row (length cells / columns))
   where
-    by : Dec (row < many) → QuietRow (column cells row 0) (column cells row 1)
-    by (yes h) = q row h
+    by : Dec (row < length cells / columns) → QuietRow (column cells row 0) (column cells row 1)
+    by (yes h) = let z : 0 + row ≡ row = omega arith in rw z at (quiet-each (length cells / columns) cells 0 q row h)
     by (no h) =
         let past : column cells row 0 ≡ 0 = getD-past cells (row * columns + 0) 0 (omega (arith, w .whole)) in
         record { no-binder = λ e. omega (arith, past, e); no-fresh = λ e f. omega (arith, past, e) }
 
--- ------------------------------------------------------------------ terms
+-- ------------------------------------------------------------------ marks
 
-abbrev Spelled : Name → Type 0
-Spelled (word s) = Unit {0}
-Spelled (fresh n) = ⊥
-Spelled (outside s) = Unit {0}
+-- zeros and nothing else
+pub data Zeros : List ℕ → Type 0 where
+  zeros-none : Zeros []
+  zeros-more : {ms : List ℕ} → Zeros ms → Zeros (0 ∷ ms)
 
--- no binder, and no fresh variable
-unfoldable mutual
-  Still : Term Name → Type 0
-  Still (variable v) = Spelled v
-  Still (function b t) = ⊥
-  Still (apply t u) = Still t × Still u
-  Still (rcd f) = StillFields f
-  Still (dot t l) = Still t
-  Still (number n) = Unit {0}
+zeros-both : {ms ns : List ℕ} → Zeros ms → Zeros ns → Zeros (ms ++ ns)
+zeros-both zeros-none k = k
+zeros-both (zeros-more h) k = zeros-more (zeros-both h k)
 
-  StillFields : Fields Name → Type 0
-  StillFields nil = Unit {0}
-  StillFields (cons l t f) = Still t × StillFields f
+zeros-one : (mark : ℕ) → mark ≡ 0 → Zeros (mark ∷ [])
+zeros-one mark e = rw e (zeros-more zeros-none)
 
-module _ (numbers : List ℕ) (zeros : (place : ℕ) → getD numbers place 0 ≡ 0) where
-  name-same : (place counter : ℕ) (name : Name) → labelled numbers place (variable name) ≡ renamed [] counter (variable name)
-  unfolding labelled renamed shownAs
-  name-same place counter name = rw (zeros place) refl
+module _ {cells : List ℕ} (whole : WholeRows cells) (quiet : isQuiet cells ≡ true) (current : List ℕ) (none : (i : ℕ) → getD current i 0 ≡ 0) where
+  variable-zero : (row : ℕ) → column cells row 0 ≡ 0x20 → variableMark (column cells row 1) (getD current (slotOf cells (column cells row 1)) 0) ≡ 0
+  variable-zero row e =
+      let x : ℕ = column cells row 1 in
+      by-class x (λ f. class-word x _ _ _ f ∙ none (slotOf cells x)) (λ f. absurd (quiet-any whole quiet row .no-fresh e f))
+      (λ a b. class-outside x _ _ _ a b)
 
   mutual
-    unfolding Still StillFields labelled labelledFields renamed renamedFields
-
-    still-same : (place counter : ℕ) (t : Term Name) → Still t → labelled numbers place t ≡ renamed [] counter t
-    still-same place counter (variable v) k = name-same place counter v
-    still-same place counter (function b t) k = absurd k
-    still-same place counter (apply t u) k =
-        ap₂ apply (still-same (suc place) counter t (k .0)) (still-same (suc place + size t) (renames t + counter) u (k .1))
-    still-same place counter (rcd f) k = ap rcd (still-same-fields (suc place) counter f k)
-    still-same place counter (dot t l) k = ap (λ x. dot x l) (still-same (suc place) counter t k)
-    still-same place counter (number n) k = refl
-
-    still-same-fields : (place counter : ℕ) (fields : Fields Name) → StillFields fields → labelledFields numbers place fields ≡ renamedFields [] counter fields
-    still-same-fields place counter nil k = refl
-    still-same-fields place counter (cons l t fields) k =
-        ap₂ (cons l) (still-same (suc place) counter t (k .0)) (still-same-fields (suc place + size t) (renames t + counter) fields (k .1))
-
-mutual
-  unfolding Still StillFields walk walkFields walkName size sizeFields
-
-  still-reaches : (place : ℕ) (t : Term Name) → Still t → walk [] place t ≡ reached (place + size t)
-  still-reaches place (variable (word s)) k = ap reached (omega arith)
-  still-reaches place (variable (fresh n)) k = absurd k
-  still-reaches place (variable (outside s)) k = ap reached (omega arith)
-  still-reaches place (function b t) k = absurd k
-  still-reaches place (apply t u) k = rw (still-reaches (suc place) t (k .0), still-reaches (suc place + size t) u (k .1)) (ap reached (omega arith))
-  still-reaches place (rcd f) k = rw (still-reaches-fields (suc place) f k) (ap reached (omega arith))
-  still-reaches place (dot t l) k = rw (still-reaches (suc place) t k) (ap reached (omega arith))
-  still-reaches place (number n) k = ap reached (omega arith)
-
-  still-reaches-fields : (place : ℕ) (fields : Fields Name) → StillFields fields → walkFields [] place fields ≡ reached (place + sizeFields fields)
-  still-reaches-fields place nil k = ap reached (omega arith)
-  still-reaches-fields place (cons l t fields) k =
-      rw (still-reaches (suc place) t (k .0), still-reaches-fields (suc place + size t) fields (k .1)) (ap reached (omega arith))
-
--- ------------------------------------------------------------------ the term of a row
-
-module _ (spell : ℕ → List ℕ) (cells : List ℕ) (quiet : Quiet cells) where
-  spelled-name : (value : ℕ) → (value / nameBase ≡ 2 → ⊥) → Spelled (nameOf spell value)
-  spelled-name value d =
-      by-test (eqb (value / nameBase) 1)
-      (λ e. rw (rows.as-word spell value (eqb-true (value / nameBase) 1 e)) tt)
-      (λ e. rw (rows.as-outside spell value (eqb-false (value / nameBase) 1 e) d) tt)
-
-  mutual
-    unfolding Still StillFields termAt fieldListAt
-
-    still-at : (depth row : ℕ) → Still (termAt depth spell cells row)
-    still-at zero row = tt
-    still-at (suc depth) row =
+    -- Every mark of a term is 0.
+    pub quiet-term : (depth row place : ℕ) → Zeros (termMarks cells depth row place current .marks)
+    quiet-term zero row place = rw (shallow-marked cells 0 row place current refl) (zeros-more zeros-none)
+    quiet-term (suc depth) row place =
         let z : suc depth - 1 ≡ depth = omega arith in
         let code : ℕ = column cells row 0 in
-        let some : suc depth ≡ 0 → ⊥ = λ e. omega (arith, e) in
+        let read : RowRead cells (suc depth) row code = record { some = λ e. omega (arith, e); at = refl } in
         by-test (eqb code 0x20)
         (λ e.
         let is = eqb-true code 0x20 e in
-        rw (rows.var-row spell cells (suc depth) row some refl is) (spelled-name (column cells row 1) (quiet row .no-fresh is)))
+        rw (var-marked read place current is refl) (zeros-one _ (variable-zero row is)))
         (λ v. by-test (eqb code 0x22)
-        (λ e. rw (rows.app-row spell cells (suc depth) row some refl (eqb-true code 0x22 e), z)
-        (still-at depth (column cells row 1), still-at depth (column cells row 2)))
+        (λ e.
+        rw (app-marked read place current (eqb-true code 0x22 e) refl refl refl refl, z)
+        (zeros-more (zeros-both (quiet-term depth (column cells row 1) (place + 1)) (quiet-term depth (column cells row 2) _))))
         (λ a. by-test (eqb code 0x23)
-        (λ e. rw (rows.rcd-row spell cells (suc depth) row some refl (eqb-true code 0x23 e), z) (still-fields-at depth (column cells row 1)))
+        (λ e. rw (rcd-marked read place current (eqb-true code 0x23 e) refl, z) (zeros-more (quiet-fields depth (column cells row 1) (place + 1))))
         (λ r. by-test (eqb code 0x24)
-        (λ e. rw (rows.dot-row spell cells (suc depth) row some refl (eqb-true code 0x24 e), z) (still-at depth (column cells row 1)))
+        (λ e. rw (dot-marked read place current (eqb-true code 0x24 e) refl, z) (zeros-more (quiet-term depth (column cells row 1) (place + 1))))
         (λ d.
-        rows.number-row spell cells (suc depth) row some refl Still (λ n. tt) (eqb-false code 0x20 v) (quiet row .no-binder) (eqb-false code 0x22 a)
-        (eqb-false code 0x23 r) (eqb-false code 0x24 d)))))
+        rw (num-marked read place current
+        (((((tt, eqb-false code 0x20 v), quiet-any whole quiet row .no-binder), eqb-false code 0x22 a), eqb-false code 0x23 r), eqb-false code 0x24 d))
+        (zeros-more zeros-none)))))
 
-    still-fields-at : (depth row : ℕ) → StillFields (fieldListAt depth spell cells row)
-    still-fields-at zero row = tt
-    still-fields-at (suc depth) row =
+    quiet-fields : (depth row place : ℕ) → Zeros (fieldMarks cells depth row place current .marks)
+    quiet-fields zero row place = rw (shallow-fields-marked cells 0 row place current refl) (zeros-more zeros-none)
+    quiet-fields (suc depth) row place =
         let z : suc depth - 1 ≡ depth = omega arith in
-        let some : suc depth ≡ 0 → ⊥ = λ e. omega (arith, e) in
+        let read : RowRead cells (suc depth) row (column cells row 0) = record { some = λ e. omega (arith, e); at = refl } in
         by-test (eqb (column cells row 0) 0x26)
         (λ e.
-        rw (rows.cons-row spell cells (suc depth) row some refl (eqb-true (column cells row 0) 0x26 e), z)
-        (still-at depth (column cells row 2), still-fields-at depth (column cells row 3)))
-        (λ e. rw (rows.nil-row spell cells (suc depth) row some refl (eqb-false (column cells row 0) 0x26 e)) tt)
-
--- Zeros are the numbers of such a term.
-pub quiet-resolves : {cells room : List ℕ} {made root : ℕ} → Resolvable cells made root room → Quiet cells → Resolves cells made root room Numbered
-quiet-resolves {cells} {room} {made} {root} pre quiet spell apart known =
-    let still = still-at spell cells quiet made root in
-    record {
-      answer = still-reaches 0 (termAt made spell cells root) still ∙ ap reached (omega arith);
-      named = λ e. still-same room (pre .blank) 0 1 (termAt made spell cells root) still;
-    }
+        rw (cons-marked read place current (eqb-true (column cells row 0) 0x26 e) refl refl refl refl, z)
+        (zeros-more (zeros-both (quiet-term depth (column cells row 2) (place + 1)) (quiet-fields depth (column cells row 3) _))))
+        (λ e. rw (nil-marked read place current (eqb-false (column cells row 0) 0x26 e)) (zeros-more zeros-none))

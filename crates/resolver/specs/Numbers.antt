@@ -5,7 +5,7 @@ use mathlib.Core.Path.{_≡_}
 use mathlib.Core.Bool.{true, false}
 use mathlib.Core.List.{List, [], _∷_, _++_}
 use lib.Dec.{eqb}
-use lib.ListN.{length, getD}
+use lib.ListN.{length, getD, take, drop}
 use Rattle.terms.specs.Cells.{columns}
 use Rattle.terms.specs.Term.{Name, Term, size, largestTerm}
 use Rattle.terms.specs.Rows.{termAt}
@@ -15,6 +15,7 @@ use Rattle.terms.specs.Loose.{Walk, loose, reached, walk}
 use Rattle.terms.specs.Labelled.{labelled}
 use Rattle.rows.specs.Sizes.{sizeAt, WholeRows}
 use Rattle.scopes.specs.Marks.{new, noOwner}
+use Rattle.marking.specs.Marks.{marks}
 use Rattle.resolver.specs.declared.Resolution.{Resolution}
 use Rattle.resolver.specs.declared.Resolution.the-variants.{Loose, Numbered}
 
@@ -43,10 +44,18 @@ abbrev pub firstLoose : List ℕ → Resolution
 firstLoose [] = Numbered
 firstLoose (p ∷ ps) = Loose p
 
--- the marks are numbered, unless a fresh variable has no owner
+-- the marks as they are left: numbered before the first place without an owner, and from there on as they were
+abbrev pub numberedBefore : List ℕ → List ℕ → List ℕ
+numberedBefore [] marks = numberedMarks [] 1 marks
+numberedBefore (p ∷ ps) marks = numberedMarks [] 1 (take p marks) ++ drop p marks
+
+abbrev pub numbering : List ℕ → List ℕ
+numbering marks = numberedBefore (looseIn 0 marks) marks
+
+-- the answer, and the marks at exit
 pub record NumbersMarks (marks marks′ : List ℕ) (r : Resolution) : Type 0 where
   pub answer : r ≡ firstLoose (looseIn 0 marks)
-  pub numbered : r ≡ Numbered → marks′ ≡ numberedMarks [] 1 marks
+  pub left : marks′ ≡ numbering marks
 
 -- ------------------------------------------------------------------ a resolution
 
@@ -63,9 +72,11 @@ abbrev pub walkOf : Resolution → ℕ → Walk
 walkOf (Loose p) end = loose p
 walkOf Numbered end = reached end
 
--- The answer is that of the walk for 23; where all are bound, the room has the number of each new name at its place.
+-- The answer is that of the walk for 23; the room has the numbers of the term's marks; where all are bound, this is the number of each new name at its
+-- place.
 pub record ResolvedAs (t : Term Name) (room : List ℕ) (r : Resolution) : Type 0 where
   pub answer : walk [] 0 t ≡ walkOf r (size t)
+  pub numbers : room ≡ numbering (marks [] 0 t)
   pub named : r ≡ Numbered → labelled room 0 t ≡ rename t
 
 -- this of the term at a row, under any spellings that give it proper names

@@ -1,18 +1,20 @@
 -- Rows that leave nothing to resolve: none binds a name, and no variable is a fresh one. Nobody needs this to believe `expand`.
-use Prim.Native.Nat.{ℕ, _/_, _<_}
-use mathlib.Core.Path.{_≡_}
+use Prim.Native.Nat.{ℕ, zero, suc, _/_}
+use mathlib.Core.Bool.{Bool, true, not, _&&_, _||_}
 use mathlib.Core.List.{List}
-use Rattle.terms.specs.Cells.{column, nameBase}
+use lib.Dec.{eqb}
+use lib.ListN.{length}
+use Rattle.terms.specs.Cells.{column, nameBase, columns}
 
 -- a row of this code and first argument
-pub record QuietRow (code x : ℕ) : Type 0 where
-  pub no-binder : code ≡ 0x21 → ⊥
-  pub no-fresh : code ≡ 0x20 → x / nameBase ≡ 2 → ⊥
+unfoldable pub isQuietRow : ℕ → ℕ → Bool
+isQuietRow code x = not (eqb code 0x21 || (eqb code 0x20 && eqb (x / nameBase) 2))
 
--- n rows
-abbrev pub QuietTo : ℕ → List ℕ → Type 0
-QuietTo n cells = (row : ℕ) → row < n → QuietRow (column cells row 0) (column cells row 1)
+-- n rows from `row` on
+unfoldable pub quietFrom : ℕ → List ℕ → ℕ → Bool
+quietFrom zero cells row = true
+quietFrom (suc n) cells row = isQuietRow (column cells row 0) (column cells row 1) && quietFrom n cells (suc row)
 
 -- all rows
-abbrev pub Quiet : List ℕ → Type 0
-Quiet cells = (row : ℕ) → QuietRow (column cells row 0) (column cells row 1)
+abbrev pub isQuiet : List ℕ → Bool
+isQuiet cells = quietFrom (length cells / columns) cells 0

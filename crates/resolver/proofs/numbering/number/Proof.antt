@@ -1,6 +1,5 @@
 -- `number`: mark by mark from the left.
-use Prim.Native.Nat.{ℕ, _-_, _<_, _≤_}
-use mathlib.Core.Path.{_≡_}
+use Prim.Native.Nat.{_-_, _<_, _≤_}
 use native.Mathlib.Omega.{arith}
 use lib.ListN.{length}
 use Rattle.terms.specs.Term.{largestTerm}
@@ -47,7 +46,7 @@ same-length c = counting (c .before .before) .long
 returns : tie.Need-returns Inv-loop μ-loop
 returns c =
     let p = c .before .before in
-    record { answer = laws.counting-loose (counting p) (below p) (c .if1 .taken); numbered = λ e. absurd (let z : _≡_ {A = ℕ} 0 1 = cc in omega arith) }
+    laws.counting-loose (counting p) (below p) (c .if1 .taken)
 
 number-of-requires : tie.Need-number-of-requires Inv-loop μ-loop
 number-of-requires c κs =

@@ -4,12 +4,8 @@ use lib.ListN.{take}
 use native.Mathlib.Omega.{arith}
 use borrow.Author.Needs.{needs}
 use Rattle.resolver.proofs.CountLaws as laws
-use borrow.Author.Needs.{needs}
 use Rattle.resolver.proofs.numbering.number_of.Statement.{statement}
 use Rattle.resolver.proofs.numbering.number_of.Tie as tie
-use Rattle.resolver.proofs.numbering.number_of.Reads as reads
-use Rattle.resolver.proofs.numbering.number_of.Lts as lts
-use Rattle.spellings.proofs.wide_short.Reads as wide-short-reads
 
 -- places, each from a later one
 abbrev at-start : tie.Else1 → tie.Start

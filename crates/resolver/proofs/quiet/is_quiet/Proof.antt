@@ -1,24 +1,22 @@
--- `is_quiet`: rows before the present one are quiet.
-use Prim.Native.Nat.{_/_, _-_, _≤_}
-use mathlib.Core.Path.{sym}
-use mathlib.Core.Bool.{true≢false}
+-- `is_quiet`: the rows from the present one on tell of all.
+use Prim.Native.Nat.{_/_, _-_}
+use mathlib.Core.Path.{sym, _∙_}
 use native.Mathlib.Omega.{arith}
-use lib.ListN.{length}
 use borrow.Author.Needs.{needs}
+use lib.ListN.{length}
 use Rattle.terms.specs.Cells.{columns}
-use Rattle.resolver.specs.Quiet.{QuietTo}
 use Rattle.resolver.proofs.QuietLaws as laws
 use Rattle.resolver.proofs.quiet.is_quiet.Statement.{statement}
 use Rattle.resolver.proofs.quiet.is_quiet.Tie as tie
 
 abbrev Inv-loop : tie.InvT-loop
-Inv-loop cells row₀ row = (row ≤ length cells / columns) × QuietTo row cells
+Inv-loop cells row₀ row = laws.Looking cells row
 
 abbrev μ-loop : tie.MeasureT-loop
 μ-loop cells row₀ row = (length cells / columns) - row
 
 loop-holds : tie.Need-loop-holds Inv-loop μ-loop
-loop-holds c = (omega arith, λ row l. absurd (omega arith))
+loop-holds c = laws.looking-start _
 
 cast-column : tie.Need-cast-column Inv-loop μ-loop
 cast-column c = omega arith
@@ -34,21 +32,24 @@ loop-less c = omega arith
 
 loop-again : tie.Need-loop-again Inv-loop μ-loop
 loop-again c =
-    let second = c .before .before in
+    let told = c .before in
+    let second = told .before in
     let first = second .before in
-    let turn = first .before .before in (
-      omega arith,
-      laws.quiet-more (turn .before .before .args .cells .now) _ (turn .loop .inv .1) (first .column .ensures) (second .column2 .ensures)
-          (c .before .is-quiet-row .ensures (c .if1 .taken)),
-    )
+    let turn = first .before in
+    laws.looking-next (turn .before .loop .inv) (turn .loop-test .taken) (first .column .ensures) (second .column2 .ensures)
+    (sym (told .is-quiet-row .ensures) ∙ c .if1 .taken)
 
 returns : tie.Need-returns Inv-loop μ-loop
-returns c = λ e. absurd (true≢false (sym e))
+returns c =
+    let told = c .before in
+    let second = told .before in
+    let first = second .before in
+    let turn = first .before in
+    laws.looking-stop (turn .before .loop .inv) (turn .loop-test .taken) (first .column .ensures) (second .column2 .ensures)
+    (sym (told .is-quiet-row .ensures) ∙ c .if1 .left)
 
 returns-2 : tie.Need-returns-2 Inv-loop μ-loop
-returns-2 c =
-    let turn = c .before in
-    λ e. laws.quiet-all _ (turn .before .before .pre) (turn .loop .inv .1) (c .loop-test .left)
+returns-2 c = laws.looking-end (c .before .loop .inv) (c .loop-test .left)
 
 -- the function meets its contract
 pub is-quiet-spec : {M : Type 1} → statement M
