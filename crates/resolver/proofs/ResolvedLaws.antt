@@ -10,6 +10,7 @@ use Rattle.terms.specs.Cells.{columns}
 use Rattle.terms.specs.Term.{Name, Term, size, largestTerm}
 use Rattle.terms.specs.Rows.{termAt}
 use Rattle.terms.specs.Occurrences.{ownerOf, stopsAtFirst}
+use Rattle.terms.specs.Emit.{walkTest}
 use Rattle.rows.specs.Sizes.{noSpell}
 use Rattle.rows.proofs.ListLaws.{zeros, sets-front}
 use Rattle.rows.proofs.SizeLaws.{size-spell}
@@ -20,10 +21,10 @@ use Rattle.marking.specs.Walks.{WalkPrepared, Walkable, Walks}
 use Rattle.marking.proofs.MarkLaws.{length-marked}
 use Rattle.marking.proofs.MeaningLaws.{term-means}
 use Rattle.resolver.specs.declared.Resolution.{Resolution}
-use Rattle.resolver.specs.declared.Resolution.the-variants.{Numbered}
+use Rattle.resolver.specs.declared.Resolution.the-variants.{Loose, Numbered}
 use Rattle.resolver.specs.Quiet.{isQuiet}
 use Rattle.resolver.specs.Numbers.{numberAt, nextNumber, numberedMarks, looseIn, firstLoose, NumbersMarks}
-use Rattle.resolver.specs.Numbers.{walkOf, Resolvable, ResolvedAs, Resolves}
+use Rattle.resolver.specs.Numbers.{walkOf, resolutionTest, Resolvable, ResolvedAs, Resolves}
 use Rattle.resolver.proofs.LooseLaws.{walk-by-marks}
 use Rattle.resolver.proofs.NumberLaws.{numbered-is-renamed}
 use Rattle.resolver.proofs.QuietLaws.{Zeros, zeros-none, zeros-more, quiet-term}
@@ -35,6 +36,11 @@ stops-first : (ps : List ℕ) (end : ℕ) {resolution : Resolution} → resoluti
 stops-first [] end e = sym cc
 stops-first (p ∷ ps) end e = sym cc
 
+-- an answer's number is that of the test
+walk-tested : (resolution : Resolution) (end : ℕ) → walkTest (walkOf resolution end) ≡ resolutionTest resolution
+walk-tested (Loose p) end = refl
+walk-tested Numbered end = refl
+
 none-loose : (ps : List ℕ) → firstLoose ps ≡ Numbered → ps ≡ []
 none-loose [] e = refl
 none-loose (p ∷ ps) e = absurd (let z : _≡_ {A = ℕ} 0 1 = cc in omega arith)
@@ -43,8 +49,10 @@ none-loose (p ∷ ps) e = absurd (let z : _≡_ {A = ℕ} 0 1 = cc in omega arit
 resolved-as : (t : Term Name) {room : List ℕ} {resolution : Resolution} → size t ≤ largestTerm → NumbersMarks (marks [] 0 t) room resolution
     → ResolvedAs t room resolution
 resolved-as t {room} {resolution} small numbers =
+    let answer = walk-by-marks t small ∙ stops-first (looseIn 0 (marks [] 0 t)) (size t) (numbers .answer) in
     record {
-      answer = walk-by-marks t small ∙ stops-first (looseIn 0 (marks [] 0 t)) (size t) (numbers .answer);
+      answer = answer;
+      tested = ap walkTest answer ∙ walk-tested resolution (size t);
       numbers = numbers .left;
       named =
           λ e.

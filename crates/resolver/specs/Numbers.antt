@@ -6,12 +6,15 @@ use mathlib.Core.Bool.{true, false}
 use mathlib.Core.List.{List, [], _∷_, _++_}
 use lib.Dec.{eqb}
 use lib.ListN.{length, getD, take, drop}
+use Rattle.answers.specs.Checked.{Checked, ok, bad}
+use Rattle.answers.specs.Refusals.{refusal}
 use Rattle.terms.specs.Cells.{columns}
 use Rattle.terms.specs.Term.{Name, Term, size, largestTerm}
 use Rattle.terms.specs.Rows.{termAt}
 use Rattle.terms.specs.Names.{Distinct, WellNamed}
 use Rattle.terms.specs.Rename.{rename}
 use Rattle.terms.specs.Loose.{Walk, loose, reached, walk}
+use Rattle.terms.specs.Emit.{bindingTest}
 use Rattle.terms.specs.Labelled.{labelled}
 use Rattle.rows.specs.Sizes.{sizeAt, WholeRows}
 use Rattle.scopes.specs.Marks.{new, noOwner}
@@ -72,10 +75,16 @@ abbrev pub walkOf : Resolution → ℕ → Walk
 walkOf (Loose p) end = loose p
 walkOf Numbered end = reached end
 
--- The answer is that of the walk for 23; the room has the numbers of the term's marks; where all are bound, this is the number of each new name at its
--- place.
+-- Document 01's number and value for each answer, as the test on a term has them
+abbrev pub resolutionTest : Resolution → Checked (Unit {0})
+resolutionTest (Loose p) = bad (refusal 23 p 0 0)
+resolutionTest Numbered = ok tt
+
+-- The answer is that of the walk for 23, and of its test; the room has the numbers of the term's marks; where all are bound, this is the number of
+-- each new name at its place.
 pub record ResolvedAs (t : Term Name) (room : List ℕ) (r : Resolution) : Type 0 where
   pub answer : walk [] 0 t ≡ walkOf r (size t)
+  pub tested : bindingTest t ≡ resolutionTest r
   pub numbers : room ≡ numbering (marks [] 0 t)
   pub named : r ≡ Numbered → labelled room 0 t ≡ rename t
 
