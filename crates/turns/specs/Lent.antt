@@ -3,9 +3,7 @@ use Prim.Native.Nat.{ℕ, _<_}
 use mathlib.Core.List.{List}
 use Rattle.decoding.specs.Within.{Each}
 use Rattle.productions.specs.Index.{Place, placesOf}
-use Rattle.expansion.specs.declared.State.{State}
 use Rattle.expansion.specs.Expansion.{Input}
-use Rattle.expansion.specs.Limits.{mostCalls}
 use Rattle.expansion.specs.Parsing.{input}
 use Rattle.choices.specs.Held.{Held}
 use Rattle.choices.specs.Chosen.{MayChoose}
@@ -21,11 +19,6 @@ pub record Ready (S : Source) (room : List ℕ) : Type 0 where
 pub record MayBegin (room memory tokens : List ℕ) : Type 0 where
   pub may-choose : MayChoose room memory
   pub tokens-fit : LentTokens tokens
-
--- and a call more may be begun
-pub record MayEnter (room memory tokens : List ℕ) (s : State) : Type 0 where
-  pub may-begin : MayBegin room memory tokens
-  pub may-call : s .calls < mostCalls
 
 -- the input that a source, tokens and a number of rows stand for
 abbrev pub lentInput : Source → List ℕ → ℕ → Input

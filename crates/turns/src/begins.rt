@@ -15,11 +15,11 @@ use scanner::room::TOKEN;
 use scanner::room::kind_at;
 use steps::Activation;
 use steps::misfit;
-ghost use Prim.Native.Nat.{ℕ, _<_, _≤_};
+ghost use Prim.Native.Nat.{_≤_};
 ghost use mathlib.Core.Path.{_≡_};
 ghost use Rattle.expansion.specs.Expansion.{callBegun, initialState};
 ghost use Rattle.expansion.specs.Limits.{mostOpen, mostCalls};
-ghost use Rattle.turns.specs.Lent.{MayBegin, MayEnter};
+ghost use Rattle.turns.specs.Lent.{MayBegin};
 ghost use Rattle.turns.specs.Begins.{StartsFor};
 
 // How a call begins: it refuses, or a production is entered.
@@ -41,36 +41,8 @@ fn with_call(s: State) -> State
     }
 }
 
-// A call that may be begun, of a nonterminal with so many arguments: tested 17.
-fn enter(
-    memory: &mut [u8; MEMORY],
-    room: &[u64; ROOM],
-    tokens: &[u32],
-    nonterminal: u8,
-    given: usize,
-    s: State,
-) -> Begun
-    requires { ⌜ MayEnter (now room) (now memory) (now tokens) s ⌝ }
-    ensures { λ r. ⌜ ((depth : ℕ) → 0 < depth → StartsFor (now (room .entry)) (now (memory .entry)) (now (tokens .entry)) depth nonterminal given s r (now
-        (memory .exit))) ⌝ }
-{
-    let at = s.at;
-    let n = tokens.len() / TOKEN;
-    let kind = kind_at(tokens, n, at);
-    let place = choose(room, memory, nonterminal, kind);
-    if place < NO_PLACE {
-        let call = Activation {
-            production: place,
-            began: at,
-            count: given,
-            next: start(room, place),
-        };
-        return Begun::Entered(call, with_call(s));
-    }
-    Begun::Refused(misfit(at, kinds_of(room, nonterminal)))
-}
-
-// The beginning of a call of a nonterminal with so many arguments, while `depth` more calls may be open: tested 19, 20, 17.
+// The beginning of a call of a nonterminal with so many arguments, while `depth` more calls may be open: tested 19, 20, 17. It has one caller, the loop
+// over calls, so that the back end lays it into that loop; the root's call is begun by a function of its own.
 pub fn begin(
     memory: &mut [u8; MEMORY],
     room: &[u64; ROOM],
@@ -91,7 +63,19 @@ pub fn begin(
     if MOST_CALLS <= calls {
         return Begun::Refused(refuse(TOO_MANY_CALLS, at as u64, 0, 0));
     }
-    enter(memory, room, tokens, nonterminal, given, s)
+    let n = tokens.len() / TOKEN;
+    let kind = kind_at(tokens, n, at);
+    let place = choose(room, memory, nonterminal, kind);
+    if place < NO_PLACE {
+        let call = Activation {
+            production: place,
+            began: at,
+            count: given,
+            next: start(room, place),
+        };
+        return Begun::Entered(call, with_call(s));
+    }
+    Begun::Refused(misfit(at, kinds_of(room, nonterminal)))
 }
 
 // The beginning of the root's call, which has no arguments: none is open and none was begun, so that only 17 is tested.
@@ -105,5 +89,17 @@ pub fn begin_root(memory: &mut [u8; MEMORY], room: &[u64; ROOM], tokens: &[u32],
         calls: 0,
         made: 0,
     };
-    enter(memory, room, tokens, root, 0, s)
+    let n = tokens.len() / TOKEN;
+    let kind = kind_at(tokens, n, 0);
+    let place = choose(room, memory, root, kind);
+    if place < NO_PLACE {
+        let call = Activation {
+            production: place,
+            began: 0,
+            count: 0,
+            next: start(room, place),
+        };
+        return Begun::Entered(call, with_call(s));
+    }
+    Begun::Refused(misfit(0, kinds_of(room, root)))
 }

@@ -1,5 +1,7 @@
--- `begin`: tested 19, 20; then it is entered.
+-- `begin`: tested 19, 20, 17.
+use mathlib.Core.Path.{_∙_}
 use borrow.Author.Needs.{needs}
+use Rattle.choices.proofs.ChoiceLaws.{kinds-are}
 use Rattle.turns.proofs.BeginLaws as laws
 use Rattle.turns.proofs.begins.begin.Statement.{statement}
 use Rattle.turns.proofs.begins.begin.Tie as tie
@@ -17,7 +19,31 @@ returns-2 c =
     }
 
 returns-3 : tie.Need-returns-3
-returns-3 c = let else2 = c .before .before in c .enter .ensures _ (laws.positive _ (else2 .before .if1 .left))
+returns-3 c =
+    let choose-place = c .before .before .before in
+    let kind-place = choose-place .before .before in
+    let tested = kind-place .before in
+    let entry = tested .before .before .before in
+    record {
+      starts =
+          λ S rows h m.
+          laws.starts-at h (entry .args .tokens .now) rows _ _ _ _ (tested .before .if1 .left) (tested .if2 .left) (kind-place .kind-at .ensures)
+          (choose-place .choose .ensures (S .bytes) (h .held) m) (c .before .before .if3 .taken) (c .before .start .ensures) (c .with-call .ensures);
+    }
+
+returns-4 : tie.Need-returns-4
+returns-4 c =
+    let choose-place = c .before .before .before in
+    let kind-place = choose-place .before .before in
+    let tested = kind-place .before in
+    let entry = tested .before .before .before in
+    record {
+      starts =
+          λ S rows h m.
+          laws.starts-nowhere h (entry .args .tokens .now) rows _ _ _ _ (tested .before .if1 .left) (tested .if2 .left) (kind-place .kind-at .ensures)
+          (choose-place .choose .ensures (S .bytes) (h .held) m) (c .before .before .if3 .left) (c .before .kinds-of .ensures ∙ kinds-are (h .held) _)
+          (c .misfit .ensures);
+    }
 
 -- the function meets its contract
 pub begin-spec : {M : Type 1} → statement M
@@ -29,4 +55,10 @@ begin-spec =
     (λ c κs. search needs)
     returns-2
     (λ c κs. search needs)
-    returns-3)
+    (λ c κs. search needs)
+    (λ c κs. search needs)
+    (λ c κs. search needs)
+    returns-3
+    (λ c κs. search needs)
+    (λ c κs. search needs)
+    returns-4)
