@@ -35,8 +35,8 @@ pub fn check_into(table: &[u8], room: &mut [u64; ROOM]) -> Verdict
     check_firsts(table, &owners, &starts, m, room)
 }
 
-// The check of a table, for any bytes: the verdict, document 01's number and values of it, and when a table passes. Ruled out are, among others, a check that passes every table, one that gives 11 before
-// 9, and one that reports a place one field off.
+// The check of a table, for any bytes: the verdict, document 01's number and values of it, and when a table passes. Ruled out are, among others, a
+// check that passes every table, one that gives 11 before 9, and one that reports a place one field off.
 pub fn check_table(table: &[u8]) -> Verdict
     ensures { λ r. ⌜ r ≡ check (now (table .entry)) ⌝ }
     ensures { λ r. ⌜ numberedVerdict r ≡ numberedVerdict (check (now (table .entry))) ⌝ }

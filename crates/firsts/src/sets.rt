@@ -127,7 +127,8 @@ fn close(calls: &mut [u64], kinds: &mut [u64], many: u8)
     }
 }
 
-// The sets of all nonterminals, of which only those below `many` have productions. This rules out that what stands behind a nullable item is lost, and that a set still grows at the end.
+// The sets of all nonterminals, of which only those below `many` have productions. This rules out that what stands behind a nullable item is lost,
+// and that a set still grows at the end.
 pub fn sets_of(
     table: &[u8],
     owners: &[u8],

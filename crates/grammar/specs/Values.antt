@@ -2,7 +2,8 @@
 -- Each part is laid in front of what follows it.
 use Prim.Native.Nat.{ℕ}
 use mathlib.Core.List.{List, [], _∷_}
-use Rattle.grammar.specs.Table.{Template, Templates, variable, outsideVar, outsideLabel, make, none, more, Terminal, keyword, ide, number, Item, terminal, local, call}
+use Rattle.grammar.specs.Table.{Template, Templates, variable, outsideVar, outsideLabel, make, none, more, Terminal}
+use Rattle.grammar.specs.Table.{keyword, ide, number, Item, terminal, local, call}
 use Rattle.grammar.specs.Table.{Mode, add, extend, update, Definition}
 
 -- a field: a tag and a value

@@ -1,4 +1,5 @@
--- The lines that programs write. Document 01, of the program `phrase`: "`ok 2 2 31` (cells, constructors, text length)", "`refused 17 2 1 1` (number, a, b, c)".
+-- The lines that programs write. Document 01, of the program `phrase`: "`ok 2 2 31` (cells, constructors, text length)", "`refused 17 2 1 1` (number,
+-- a, b, c)".
 use Prim.Native.Nat.{ℕ}
 use mathlib.Core.Bool.{Bool, true, false, _&&_}
 use mathlib.Core.List.{List, [], _∷_, _++_}

@@ -14,7 +14,8 @@ use Rattle.grammar.specs.Sorts.{Signature, term}
 use Rattle.grammar.specs.SortTests.{fits}
 use Rattle.grammar.specs.Table.{Template, Templates, none, more, Item, call}
 use Rattle.grammar.specs.Values.{templateThen, templatesThen, itemValue}
-use Rattle.decoding.specs.Within.{TemplateWithin, TemplatesWithin, keyword-within, ide-within, number-within, ItemWithin, terminal-within, local-within, call-within}
+use Rattle.decoding.specs.Within.{TemplateWithin, TemplatesWithin, keyword-within, ide-within, number-within}
+use Rattle.decoding.specs.Within.{ItemWithin, terminal-within, local-within, call-within}
 use Rattle.decoding.proofs.Templates.{read-templates, read-template}
 use Rattle.judgements.specs.CheckSorts.{isDefined, signatureOf, isClosed, areClosed, isSorted, sortOf, fill, checkItem, checkResult, checkRoot}
 use Rattle.judgements.specs.Scopes.{Scope}
