@@ -1,7 +1,7 @@
 //! Both implementations on one input: answer, every cell and every byte of text.
 
 use crate::cases::Case;
-use crate::sides::Side;
+use crate::sides::{Many, Side};
 use plain::Answer;
 
 /// Counts inputs and those that differ; the first few that do are shown, in the line format of the conformance cases.
@@ -46,6 +46,29 @@ impl Comparison {
             }
         }
         plain
+    }
+
+    /// Many formulas under one table: the archive's and the plain implementation's one check for all, and the plain expansion of each by itself.
+    pub fn many(&mut self, label: &str, table: &[u8], many: &Many, cells: usize, text: usize) {
+        let lent = || (vec![0xaaaa_aaaa; cells], vec![0xee; text]);
+        let [archive, plain] = [Side::Archive, Side::Plain].map(|side| {
+            let (mut cells, mut text) = lent();
+            (side.expand_each(table, many, &mut cells, &mut text), cells, text)
+        });
+        let (mut cells, mut text) = lent();
+        let (mut answers, mut from, mut used) = (Vec::new(), 0, 0);
+        for &end in &many.ends {
+            let formula = many.formulas.get(from..end.min(many.formulas.len())).unwrap_or(&[]);
+            let answer = Side::Plain.expand(table, formula, &mut cells, &mut text[used..]);
+            used += if answer.number == 0 { answer.c as usize } else { 0 };
+            answers.push(answer);
+            from = end;
+        }
+        self.inputs += 1;
+        if archive != plain || plain != (answers, cells, text) {
+            self.differ += 1;
+            println!("DIFFERS: {label} with ends {:?}, table {}, formulas {}", many.ends, hex(table), hex(&many.formulas));
+        }
     }
 
     fn report(archive: &Found, plain: &Found, checks: (Answer, Answer)) {

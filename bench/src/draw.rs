@@ -2,6 +2,7 @@
 //! damaged; room that is enough, just enough, too little or none.
 
 use crate::inputs;
+use crate::sides::Many;
 use crate::tables::*;
 
 /// SplitMix64: the same seed gives the same inputs everywhere.
@@ -57,6 +58,16 @@ pub fn draw(draws: &mut Draws, passing: &[Vec<u8>]) -> Drawn {
         formula.resize(65_530 + draws.below(10), b' ');
     }
     Drawn { table, formula }
+}
+
+/// Some formulas: a formula, parts of it, and ends that are past the bytes or before the end of another.
+pub fn many(draws: &mut Draws, formula: &[u8]) -> Many {
+    let formulas = formula.repeat(1 + draws.below(3));
+    let ends = (1..=draws.below(7)).map(|number| match draws.below(6) {
+        0 => draws.below(formulas.len() + 3),
+        _ => number * formula.len(),
+    });
+    Many { ends: ends.collect(), formulas }
 }
 
 // ---- tables ----

@@ -19,12 +19,13 @@ use std::time::{Duration, Instant};
 use times::{shown, Room};
 
 const USAGE: &str = "\
-usage: bench/run [compare] [times] [growth] [counts] [--draws N] [--seed N] [--cases FILE] [--budget MS] [--hash MULTIPLIER]
+usage: bench/run [compare] [times] [growth] [many] [counts] [--draws N] [--seed N] [--cases FILE] [--budget MS] [--hash MULTIPLIER]
   compare   the conformance cases, the inputs that are measured, and N drawn inputs (100,000; seed 1)
   times     best times of both, archive over plain, for each input; MS milliseconds (300) for each; and instructions, where valgrind is installed
   growth    times at one, two, four and eight times a size
+  many      times of a formula among many of one table: one check for all, and a check for each
   counts    instructions of both, by valgrind's callgrind
-Without a word: compare, times, growth. --hash is the multiplier (31) of the polynomial hash for which colliding words are made.";
+Without a word: compare, times, growth, many. --hash is the multiplier (31) of the polynomial hash for which colliding words are made.";
 
 struct Options {
     parts: Vec<String>,
@@ -50,7 +51,7 @@ fn options() -> Option<Options> {
     let mut words = std::env::args().skip(1);
     while let Some(word) = words.next() {
         match word.as_str() {
-            "compare" | "times" | "growth" | "counts" => options.parts.push(word),
+            "compare" | "times" | "growth" | "many" | "counts" => options.parts.push(word),
             "--draws" => options.draws = words.next()?.replace(',', "").parse().ok()?,
             "--seed" => options.seed = words.next()?.parse().ok()?,
             "--cases" => options.cases = words.next()?,
@@ -64,7 +65,7 @@ fn options() -> Option<Options> {
         }
     }
     if options.parts.is_empty() {
-        options.parts = ["compare", "times", "growth"].map(String::from).to_vec();
+        options.parts = ["compare", "times", "growth", "many"].map(String::from).to_vec();
     }
     Some(options)
 }
@@ -90,6 +91,7 @@ fn run(options: &Options) -> ExitCode {
             "compare" => well &= compare(options, &list),
             "times" => times(options, &list),
             "growth" => growth(options),
+            "many" => many(options, &list),
             _ => well &= counts(&list),
         }
         println!();
@@ -122,7 +124,7 @@ fn compare(options: &Options, list: &[Input]) -> bool {
     }
     println!("measured inputs: {} compared, {} differ", of_inputs.inputs, of_inputs.differ);
 
-    let mut of_draws = Comparison::default();
+    let (mut of_draws, mut of_many) = (Comparison::default(), Comparison::default());
     let mut passing: Vec<Vec<u8>> = cases.iter().map(|case| case.table.clone()).filter(|table| plain::check(table).number == 0).collect();
     passing.sort();
     passing.dedup();
@@ -131,12 +133,17 @@ fn compare(options: &Options, list: &[Input]) -> bool {
     for number in 0..options.draws {
         let drawn = draw::draw(&mut draws, &passing);
         let (cells, text) = lent(&mut draws, &drawn, &mut room);
-        of_draws.input(&format!("drawn-{}-{number}", options.seed), &drawn.table, &drawn.formula, cells, text);
+        let label = format!("drawn-{}-{number}", options.seed);
+        of_draws.input(&label, &drawn.table, &drawn.formula, cells, text);
+        if number % 8 == 0 {
+            of_many.many(&label, &drawn.table, &draw::many(&mut draws, &drawn.formula), cells, 2 * text);
+        }
     }
     println!("drawn inputs, seed {}: {} compared, {} differ", options.seed, of_draws.inputs, of_draws.differ);
     println!("  answers by number: {}", of_draws.answered());
+    println!("drawn lists of formulas, seed {}: {} compared, {} differ", options.seed, of_many.inputs, of_many.differ);
     println!("  {:.1} s", start.elapsed().as_secs_f64());
-    of_cases.differ + of_inputs.differ + of_draws.differ == 0
+    of_cases.differ + of_inputs.differ + of_draws.differ + of_many.differ == 0
 }
 
 /// How many cells and bytes of text are lent: enough, just enough, too little or none.
@@ -212,6 +219,20 @@ fn growth(options: &Options) {
         let side = |side: usize| all.map(|times| shown(times[side])).join(", ");
         let factor = |side: usize| all[3][side] / all[0][side];
         println!("| {} | {sizes} | {} | {} | {:.1} | {:.1} |", series.name, side(0), side(1), factor(0), factor(1));
+    }
+}
+
+/// How many formulas a table is given.
+const MANY: usize = 200;
+
+fn many(options: &Options, list: &[Input]) {
+    let mut room = Room::new();
+    println!("| {MANY} formulas | archive, one check, µs each | plain Rust, one check | ratio | archive, a check each | one check is faster by |");
+    println!("|---|---|---|---|---|---|");
+    for input in list.iter().filter(|input| input.formula.len() < 64 && !input.formula.is_empty()) {
+        let [archive, plain, each] = times::best_of_many(input, MANY, &mut room, options.budget);
+        let (ratio, gain) = (archive / plain, each / archive);
+        println!("| {} | {} | {} | {ratio:.2} | {} | {gain:.1} |", input.name, shown(archive), shown(plain), shown(each));
     }
 }
 

@@ -2,6 +2,18 @@
 
 use plain::Answer;
 
+/// Formulas one behind the other, and where each ends.
+pub struct Many {
+    pub formulas: Vec<u8>,
+    pub ends: Vec<usize>,
+}
+
+impl Many {
+    pub fn repeated(formula: &[u8], count: usize) -> Many {
+        Many { formulas: formula.repeat(count), ends: (1..=count).map(|number| number * formula.len()).collect() }
+    }
+}
+
 #[derive(Clone, Copy, PartialEq, Eq)]
 pub enum Side {
     Archive,
@@ -13,12 +25,19 @@ impl Side {
     pub fn expand(self, table: &[u8], formula: &[u8], cells: &mut [u32], text: &mut [u8]) -> Answer {
         match self {
             Side::Plain => plain::expand(table, formula, cells, text),
-            Side::Archive => match vegzump::expand(table, formula, cells, text) {
-                Ok(found) => {
-                    Answer { number: 0, a: found.cells as u64, b: found.constructors as u64, c: found.text as u64 }
-                }
-                Err(refusal) => answer(refusal),
-            },
+            Side::Archive => answered(vegzump::expand(table, formula, cells, text)),
+        }
+    }
+
+    /// Many formulas under one table, with an answer for each end.
+    pub fn expand_each(self, table: &[u8], many: &Many, cells: &mut [u32], text: &mut [u8]) -> Vec<Answer> {
+        match self {
+            Side::Plain => {
+                let mut answers = vec![Answer { number: 0, a: 0, b: 0, c: 0 }; many.ends.len()];
+                plain::expand_each(table, &many.formulas, &many.ends, cells, text, &mut answers);
+                answers
+            }
+            Side::Archive => vegzump::expand_each(table, &many.formulas, &many.ends, cells, text).into_iter().map(answered).collect(),
         }
     }
 
@@ -30,6 +49,13 @@ impl Side {
                 Err(refusal) => answer(refusal),
             },
         }
+    }
+}
+
+fn answered(found: vegzump::Answer<vegzump::Accepted>) -> Answer {
+    match found {
+        Ok(found) => Answer { number: 0, a: found.cells as u64, b: found.constructors as u64, c: found.text as u64 },
+        Err(refusal) => answer(refusal),
     }
 }
 

@@ -1,7 +1,8 @@
 //! Times: the best of many runs of both sides, taken in turn in one process, so that both meet the same machine.
 
 use crate::inputs::{Input, ENOUGH};
-use crate::sides::Side;
+use crate::sides::{Many, Side};
+use std::cell::RefCell;
 use std::hint::black_box;
 use std::time::{Duration, Instant};
 
@@ -17,34 +18,55 @@ impl Room {
     }
 }
 
-fn batch(side: Side, input: &Input, room: &mut Room, runs: u32) -> Duration {
+fn batch(call: &mut dyn FnMut(), runs: u32) -> Duration {
     let start = Instant::now();
     for _ in 0..runs {
-        let answer = side.expand(black_box(&input.table), black_box(&input.formula), &mut room.cells, &mut room.text[..input.text]);
-        black_box(answer);
+        call();
     }
     start.elapsed()
 }
 
-/// The best time of a run, in microseconds: archive, plain.
-pub fn best(input: &Input, room: &mut Room, budget: Duration) -> [f64; 2] {
-    let sides = [Side::Archive, Side::Plain];
+/// The best time of each of some calls, in microseconds.
+fn best_of<const N: usize>(mut calls: [&mut dyn FnMut(); N], budget: Duration) -> [f64; N] {
     // Batches long enough for the clock, short enough that some are not interrupted.
-    let runs = sides.map(|side| {
-        let once = batch(side, input, room, 1).min(batch(side, input, room, 1)).as_nanos().max(50);
+    let runs = calls.each_mut().map(|call| {
+        let once = batch(call, 1).min(batch(call, 1)).as_nanos().max(50);
         (40_000 / once).clamp(1, 400) as u32
     });
-    let mut best = [f64::INFINITY; 2];
+    let mut best = [f64::INFINITY; N];
     let start = Instant::now();
     let mut rounds = 0;
     while rounds < 5 || start.elapsed() < budget {
-        for side in 0..2 {
-            let time = batch(sides[side], input, room, runs[side]);
+        for (side, call) in calls.iter_mut().enumerate() {
+            let time = batch(call, runs[side]);
             best[side] = best[side].min(time.as_nanos() as f64 / 1_000.0 / f64::from(runs[side]));
         }
         rounds += 1;
     }
     best
+}
+
+fn expansion(side: Side, input: &Input, room: &mut Room) {
+    black_box(side.expand(black_box(&input.table), black_box(&input.formula), &mut room.cells, &mut room.text[..input.text]));
+}
+
+/// The best time of a run, in microseconds: archive, plain.
+pub fn best(input: &Input, room: &mut Room, budget: Duration) -> [f64; 2] {
+    let room = RefCell::new(room);
+    let call = |side: Side| expansion(side, input, &mut room.borrow_mut());
+    best_of([&mut || call(Side::Archive), &mut || call(Side::Plain)], budget)
+}
+
+/// The best time of a formula among so many of one table, in microseconds: archive and plain with one check for all, and the archive with a check for each.
+pub fn best_of_many(input: &Input, count: usize, room: &mut Room, budget: Duration) -> [f64; 3] {
+    let many = Many::repeated(&input.formula, count);
+    let room = RefCell::new(room);
+    let one_check = |side: Side| {
+        let room = &mut **room.borrow_mut();
+        black_box(side.expand_each(black_box(&input.table), black_box(&many), &mut room.cells, &mut room.text));
+    };
+    let mut check_each = || (0..count).for_each(|_| expansion(Side::Archive, input, &mut room.borrow_mut()));
+    best_of([&mut || one_check(Side::Archive), &mut || one_check(Side::Plain), &mut check_each], budget).map(|time| time / count as f64)
 }
 
 /// A time in microseconds with three digits or so.

@@ -62,6 +62,25 @@ pub fn expand(table: &[u8], formula: &[u8], cells: &mut [u32], text: &mut [u8]) 
     })
 }
 
+/// Expands many formulas under one table, which is checked once: formula `i` is `formulas` from `ends[i - 1]`, or 0, to `ends[i]`, as far as there is any. All
+/// are lent `cells`, and each the text behind the texts before it. An answer for each end.
+pub fn expand_each(table: &[u8], formulas: &[u8], ends: &[usize], cells: &mut [u32], text: &mut [u8], answers: &mut [Answer]) {
+    WORKSPACE.with_borrow_mut(|space| {
+        let checked = space.check(table).map(|()| space.firsts.choose(&space.grammar));
+        let (mut from, mut used) = (0, 0);
+        for (&end, answer) in ends.iter().zip(answers) {
+            let formula = formulas.get(from..end.min(formulas.len())).unwrap_or(&[]);
+            let found = checked.and_then(|()| {
+                space.table.words.next_formula();
+                space.expand_checked(table, formula, cells, &mut text[used..])
+            });
+            *answer = found.unwrap_or_else(|refused| refused);
+            used += if answer.number == 0 { answer.c as usize } else { 0 };
+            from = end;
+        }
+    })
+}
+
 impl Workspace {
     fn check(&mut self, table: &[u8]) -> Result<(), Refusal> {
         self.table.read(table)?;
@@ -71,8 +90,12 @@ impl Workspace {
 
     fn expand(&mut self, table: &[u8], formula: &[u8], cells: &mut [u32], text: &mut [u8]) -> Result<Answer, Refusal> {
         self.check(table)?;
-        self.tokens.scan(table, formula, &mut self.table)?;
         self.firsts.choose(&self.grammar);
+        self.expand_checked(table, formula, cells, text)
+    }
+
+    fn expand_checked(&mut self, table: &[u8], formula: &[u8], cells: &mut [u32], text: &mut [u8]) -> Result<Answer, Refusal> {
+        self.tokens.scan(table, formula, &mut self.table)?;
         let ran = run::run(&self.grammar, &self.firsts, &self.tokens.all, cells, &mut self.machine)?;
         let spelled = print::Spelled { table, formula, words: &self.table.words };
         let (constructors, length) = print::print(cells, &ran, &spelled, text, &mut self.printer)?;

@@ -1,6 +1,6 @@
 //! The fields of a table, and refusals 1 to 6 and 10.
 
-use crate::words::{Place, Words};
+use crate::words::{Place, Words, FORMULA_WORDS};
 use crate::{refusal, Refusal};
 
 pub const KEYWORD: u8 = 1;
@@ -215,8 +215,7 @@ impl Table {
         if stage != Stage::Root {
             return Err(refusal(4, place));
         }
-        // Formula words are numbered from 64, wherever the outside names end.
-        self.words.spelled.resize(64, Place::default());
+        self.words.spelled.resize(FORMULA_WORDS, Place::default());
         Ok(())
     }
 

@@ -1,11 +1,14 @@
 //! Words by what they mean: a table with open addressing. The hash begins with numbers drawn once a thread, so that no input is made for it, and a
-//! slot is empty unless it has the stamp of the present call, so that nothing is cleared between calls.
+//! slot is empty unless it has the stamp of the present table or formula, so that nothing is cleared between calls.
 
 use std::collections::hash_map::RandomState;
 use std::hash::BuildHasher;
 
 /// More than twice as many slots as a call has words: 62 keywords, 64 outside names and 4,096 words of a formula.
 const SLOTS: usize = 16_384;
+
+/// Words of a formula are numbered from here, wherever the outside names end.
+pub const FORMULA_WORDS: usize = 64;
 
 /// What a word means: its kind, and its spelling number where it is no keyword.
 #[derive(Clone, Copy)]
@@ -40,6 +43,8 @@ struct Slot {
 
 pub struct Words {
     slots: Vec<Slot>,
+    /// The stamp of the table's words, and that of the formula's.
+    table_stamp: u32,
     stamp: u32,
     seeds: [u64; 2],
     /// The words by spelling number: outside names from 0, words of the formula from 64.
@@ -49,7 +54,7 @@ pub struct Words {
 impl Default for Words {
     fn default() -> Words {
         let state = RandomState::new();
-        Words { slots: vec![Slot::default(); SLOTS], stamp: 0, seeds: [state.hash_one(1), state.hash_one(2) | 1], spelled: Vec::new() }
+        Words { slots: vec![Slot::default(); SLOTS], table_stamp: 0, stamp: 0, seeds: [state.hash_one(1), state.hash_one(2) | 1], spelled: Vec::new() }
     }
 }
 
@@ -60,13 +65,25 @@ fn folded(a: u64, b: u64) -> u64 {
 }
 
 impl Words {
+    /// Forgets all words: a table comes.
     pub fn clear(&mut self) {
         self.spelled.clear();
-        self.stamp = self.stamp.wrapping_add(1);
-        if self.stamp == 0 {
+        if self.stamp > u32::MAX / 2 {
             self.slots.fill(Slot::default());
-            self.stamp = 1;
+            self.stamp = 0;
         }
+        self.stamp += 1;
+        self.table_stamp = self.stamp;
+    }
+
+    /// Forgets the words of the formula before: another comes under the same table.
+    pub fn next_formula(&mut self) {
+        self.spelled.truncate(FORMULA_WORDS);
+        self.stamp += 1;
+    }
+
+    fn is_empty(&self, slot: &Slot) -> bool {
+        slot.stamp != self.stamp && slot.stamp != self.table_stamp
     }
 
     fn hash(&self, word: &[u8]) -> u64 {
@@ -84,7 +101,7 @@ impl Words {
         let mut at = hash as usize % SLOTS;
         loop {
             let slot = &self.slots[at];
-            if slot.stamp != self.stamp || slot.hash == (hash >> 32) as u32 && slot.place.of(table, formula) == word {
+            if self.is_empty(slot) || slot.hash == (hash >> 32) as u32 && slot.place.of(table, formula) == word {
                 return at;
             }
             at = (at + 1) % SLOTS;
@@ -96,7 +113,7 @@ impl Words {
         let word = place.of(table, &[]);
         let hash = self.hash(word);
         let at = self.slot(word, hash, table, &[]);
-        if self.slots[at].stamp == self.stamp {
+        if !self.is_empty(&self.slots[at]) {
             return false;
         }
         self.slots[at] = Slot { stamp: self.stamp, hash: (hash >> 32) as u32, place, kind, spelling: u32::MAX };
@@ -109,8 +126,9 @@ impl Words {
         let hash = self.hash(word);
         let at = self.slot(word, hash, table, &[]);
         let spelling = self.spelled.len() as u32;
+        let empty = self.is_empty(&self.slots[at]);
         let slot = &mut self.slots[at];
-        if slot.stamp != self.stamp {
+        if empty {
             *slot = Slot { stamp: self.stamp, hash: (hash >> 32) as u32, place, kind, spelling };
         } else if slot.spelling == u32::MAX {
             slot.spelling = spelling;
@@ -126,8 +144,9 @@ impl Words {
         let word = place.of(table, formula);
         let hash = self.hash(word);
         let at = self.slot(word, hash, table, formula);
+        let empty = self.is_empty(&self.slots[at]);
         let slot = &mut self.slots[at];
-        if slot.stamp != self.stamp {
+        if empty {
             *slot = Slot { stamp: self.stamp, hash: (hash >> 32) as u32, place, kind, spelling: self.spelled.len() as u32 };
             self.spelled.push(place);
         }

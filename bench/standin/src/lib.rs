@@ -56,3 +56,31 @@ pub unsafe extern "C" fn vegzump_expand(
     }
     answer(found)
 }
+
+/// # Safety
+/// As the header asks.
+#[no_mangle]
+pub unsafe extern "C" fn vegzump_expand_each(
+    table: *const u8,
+    table_len: usize,
+    formulas: *const u8,
+    formulas_len: usize,
+    ends: *const usize,
+    ends_len: usize,
+    answers: *mut u64,
+    answers_len: usize,
+    cells: *mut u32,
+    cells_len: usize,
+    text: *mut u8,
+    text_len: usize,
+) -> usize {
+    let count = ends_len.min(answers_len / 4);
+    let (ends, answers) = (room(ends.cast_mut(), count), room(answers, 4 * count));
+    let formulas: &[u8] = if formulas_len == 0 { &[] } else { slice::from_raw_parts(formulas, formulas_len) };
+    let mut found = vec![plain::Answer { number: 0, a: 0, b: 0, c: 0 }; count];
+    plain::expand_each(bytes(table, table_len), formulas, ends, room(cells, cells_len), room(text, text_len), &mut found);
+    for (numbers, found) in answers.chunks_exact_mut(4).zip(found) {
+        numbers.copy_from_slice(&[u64::from(found.number), found.a, found.b, found.c]);
+    }
+    count
+}
