@@ -15,7 +15,7 @@ ghost use Rattle.productions.specs.Room.{firstPlaceIn};
 ghost use Rattle.clashes.specs.Pairs.{afterIn, sharedIn, clashIn, clashSeen, seenWith, otherFrom, recursiveBelow, clashingBelow, allSharedIn};
 
 // The lowest nonterminal below `many` that reaches itself by left calls, `many` if none does.
-pub fn left_recursive(calls: &[u64], many: u8) -> u8
+pub(crate) fn left_recursive(calls: &[u64], many: u8) -> u8
     ensures { λ r. ⌜ r ≡ recursiveBelow many (now (calls .entry)) ⌝ }
 {
     let mut n: u8 = 0;
@@ -87,7 +87,7 @@ fn other_from(room: &[u64; ROOM], n: u8, i: usize, seen: Seen) -> usize
 
 // The lowest nonterminal below `many` of which two productions clash, `many` if there is none: the search ends at the first clash. A
 // production is held against those before it only where it clashes with what they give together.
-pub fn clashing(room: &[u64; ROOM], many: u8) -> u8
+pub(crate) fn clashing(room: &[u64; ROOM], many: u8) -> u8
     ensures { λ r. ⌜ r ≡ clashingBelow many (now (room .entry)) ⌝ }
 {
     let mut n: u8 = 0;
@@ -115,7 +115,7 @@ pub fn clashing(room: &[u64; ROOM], many: u8) -> u8
 }
 
 // The kinds that any two productions of n share: those that one has and one before it.
-pub fn shared(room: &[u64; ROOM], n: u8) -> u64
+pub(crate) fn shared(room: &[u64; ROOM], n: u8) -> u64
     ensures { λ r. ⌜ r ≡ allSharedIn (now (room .entry)) n ⌝ }
 {
     let mut seen: u64 = 0;

@@ -19,7 +19,7 @@ ghost use Rattle.decoding.specs.Decode.{itemOf};
 ghost use Rattle.productions.specs.Symbols.{terminalIn, symbolOf, symbolStep};
 
 // The symbol of the item that is the value of a field.
-pub fn symbol(v: &[u8]) -> Symbol
+fn symbol(v: &[u8]) -> Symbol
     ensures { λ r. ⌜ r ≡ symbolOf (itemOf (now (v .entry))) ⌝ }
 {
     let kind = byte(v, 0);
