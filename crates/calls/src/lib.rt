@@ -59,18 +59,14 @@ pub fn items(
                 }
                 c = returned(frames, &mut vars, level - 1, x, t);
             }
-            ItemStep::Stopped(r) => {
-                return Advance::Ended(Outcome::Halted(r));
-            }
+            ItemStep::Stopped(r) => return Advance::Ended(Outcome::Halted(r)),
             ItemStep::Taken(x, next, t) => {
                 c = valued(&mut vars, c, x, next, t);
             }
             ItemStep::Opened(callee, given, next, t) => {
                 let begun = begin(memory, room, tokens, MOST_WAITING - level, callee, given, t);
                 match begun {
-                    Begun::Refused(r) => {
-                        return Advance::Ended(Outcome::Halted(r));
-                    }
+                    Begun::Refused(r) => return Advance::Ended(Outcome::Halted(r)),
                     Begun::Entered(call, u) => {
                         c = entered(frames, &mut vars, &args, c, next, call, u);
                         if frames.len() < (level + 3) * FRAME {

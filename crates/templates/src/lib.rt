@@ -221,8 +221,6 @@ fn build_nested(
     requires { ⌜ MayMake (now v) from code m (now cells) (now stack) ⌝ }
     ensures { λ r. ⌜ Builds (now (v .entry)) from (now (env .entry)) m (now (cells .entry)) r (now (cells .exit)) ⌝ }
 {
-    let k = m.count;
-    let rows = m.rows;
     stack[0] = opening(code, 0);
     let mut at = from + 1;
     let mut count = m.made;
@@ -231,7 +229,7 @@ fn build_nested(
     let mut n = arity_of(code);
     loop {
         if top - pos < n {
-            let head = head_at(v, at, env, k);
+            let head = head_at(v, at, env, m.count);
             match head {
                 Head::Leaf(x, next) => {
                     stack[top] = x;
@@ -247,7 +245,7 @@ fn build_nested(
                 }
             }
         } else {
-            if rows <= count {
+            if m.rows <= count {
                 return Built::Full;
             }
             let around = store_cell(cells, count, stack, pos, n);

@@ -11,14 +11,14 @@ use Rattle.templates.proofs.build_nested.Statement.{statement}
 use Rattle.templates.proofs.build_nested.Tie as tie
 
 abbrev Inv-loop : tie.InvT-loop
-Inv-loop cells₀ stack₀ v from code env k rows at₀ count₀ pos₀ top₀ n₀ cells stack at count pos top n =
+Inv-loop cells₀ stack₀ v from code env m at₀ count₀ pos₀ top₀ n₀ cells stack at count pos top n =
     laws.Looping
-    (record { v = v; from = from; env = env; m = record { count = k; rows = rows; made = count₀ }; cells = cells₀; size = length stack₀ })
+    (record { v = v; from = from; env = env; m = m; cells = cells₀; size = length stack₀ })
     (record { cells = cells; stack = stack; at = at; made = count; pos = pos; top = top })
     n
 
 abbrev μ-loop : tie.MeasureT-loop
-μ-loop cells₀ stack₀ v from code env k rows at₀ count₀ pos₀ top₀ n₀ cells stack at count pos top n =
+μ-loop cells₀ stack₀ v from code env m at₀ count₀ pos₀ top₀ n₀ cells stack at count pos top n =
     (most .bytes + 2) * (length v - at) + pos
 
 -- a turn of the loop
@@ -75,7 +75,7 @@ read p = p .before .before
 
 -- there is a row for the innermost constructor
 abbrev closes : tie.Else2 Inv-loop μ-loop → tie.At-loop Inv-loop μ-loop
-closes p = p .before .before
+closes p = p .before .before .before
 
 -- after its row is made
 module _ (point : tie.After-store-cell Inv-loop μ-loop) where
@@ -94,7 +94,7 @@ module _ (point : tie.After-store-cell Inv-loop μ-loop) where
         looping = here .loop .inv;
         w = number;
         looked = record { number = refl; code-is = refl };
-        stop = roomy .before .if1 .left;
+        stop = roomy .before .before .if1 .left;
         row = roomy .if2 .left;
         stored = point .store-cell .ensures .stored;
         same = point .store-cell .kept .0;
@@ -141,11 +141,11 @@ loop-again-2 : tie.Need-loop-again-2 Inv-loop μ-loop
 loop-again-2 c = search (laws.building-node, read (node (c .before)) .loop .inv)
 
 same-length-2 : tie.Need-same-length-2 Inv-loop μ-loop
-same-length-2 c = as-long (c .before .before)
+same-length-2 c = as-long (c .before .before .before)
 
 returns : tie.Need-returns Inv-loop μ-loop
 returns c =
-    record { evaluates = laws.building-full (c .before .before .loop .inv) (c .before .if1 .left) (c .if2 .taken); behind = tt }
+    record { evaluates = laws.building-full (c .before .before .before .loop .inv) (c .before .before .if1 .left) (c .if2 .taken); behind = tt }
 
 store-cell-requires : tie.Need-store-cell-requires Inv-loop μ-loop
 store-cell-requires c κs =
@@ -155,7 +155,7 @@ store-cell-requires c κs =
       few = omega (arith, entry p .pre .fits .rows-fit .few);
       row-inside = omega (arith, entry p .pre .fits .rows-fit .rows-long, building p .as-long);
       behind = placed p .0;
-      inside = laws.building-fits (p .loop .inv) (roomy .before .if1 .left);
+      inside = laws.building-fits (p .loop .inv) (roomy .before .before .if1 .left);
     }
 
 same-length-4 : tie.Need-same-length-4 Inv-loop μ-loop
