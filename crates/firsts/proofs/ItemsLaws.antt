@@ -1,204 +1,137 @@
--- Laws of the loops over the items of an alternative: what an item gives, and what all give.
+-- Laws of the loop over the items of an alternative: what is found with an item, and what is found with all.
 use Prim.Native.Nat.{ℕ, _-_, _<_, _≤_}
-use mathlib.Core.Path.{_≡_, refl, sym, ap, _∙_}
-use mathlib.Core.Bool.{Bool, true, false, _&&_}
-use mathlib.Core.List.{List, []}
-use lib.ListN.{length}
-use Rattle.grammar.specs.Table.{keyword, ide, number, Item, terminal, local, call}
+use mathlib.Core.Path.{_≡_, refl, ap, _∙_}
+use mathlib.Core.Bool.{Bool, true, false}
+use mathlib.Core.List.{List, [], _∷_}
+use lib.Bits.{bitOr, or-zero-r}
+use lib.ListN.{length, getD}
+use Rattle.kinds.specs.Kinds.{hasKind, only}
+use Rattle.grammar.specs.Table.{keyword, ide, number, kindOf, Item, terminal, local, call}
 use Rattle.grammar.specs.Lookup.{fieldAt, fieldsAt}
 use Rattle.productions.specs.Index.{itemsOf}
+use Rattle.productions.specs.declared.Terminal.{Terminal}
 use Rattle.productions.specs.declared.Symbol.{Symbol}
+use Rattle.productions.specs.declared.Symbol.the-variants.{Read, Local, Call}
 use Rattle.productions.specs.declared.SymbolStep.the-variants.{Done, Past}
-use Rattle.productions.specs.Symbols.{symbolOf, withSymbol, symbolStep}
+use Rattle.productions.specs.Symbols.{terminalIn, symbolOf, withSymbol, symbolStep}
 use Rattle.productions.proofs.SymbolLaws.{stepped, step-less, items-end}
-use Rattle.firsts.specs.declared.Family.{Family}
 use Rattle.firsts.specs.declared.Gathered.{Gathered}
-use Rattle.firsts.specs.SetCalls.{ownOf, gathered}
-use Rattle.firsts.specs.FirstSets.{isNullable, allNullable, openingOf, callOf, through, joined, gather}
+use Rattle.firsts.specs.SetCalls.{withItem, gathered}
+use Rattle.firsts.specs.FirstSets.{isNullable, allNullable, openingOf, callOf, gather}
 
--- ------------------------------------------------------------------ the symbol of an item
+-- ------------------------------------------------------------------ one item
 
--- nullables and first sets look at the symbol alone
-nullable-by : (nulls : ℕ) (item : Item) → isNullable nulls (withSymbol (symbolOf item)) ≡ isNullable nulls item
-nullable-by nulls (terminal t) = refl
-nullable-by nulls local = refl
-nullable-by nulls (call n ts) = refl
+none-more : (set : ℕ) → bitOr (bitOr set 0) 0 ≡ set
+none-more set = or-zero-r (bitOr set 0) ∙ or-zero-r set
 
-through-by : (sets : List ℕ) (item : Item) → through sets (withSymbol (symbolOf item)) ≡ through sets item
-through-by sets (terminal t) = refl
-through-by sets local = refl
-through-by sets (call n ts) = refl
+module _ (nulls : ℕ) (kinds calls : List ℕ) (found : Gathered) where
+  -- what is found looks at the symbol alone
+  item-by : (item : Item) → withItem nulls kinds calls (withSymbol (symbolOf item)) found ≡ withItem nulls kinds calls item found
+  item-by (terminal (keyword k)) = refl
+  item-by (terminal (ide s)) = refl
+  item-by (terminal number) = refl
+  item-by local = refl
+  item-by (call n ts) = refl
 
--- what an item gives by itself does not depend on the arguments of a call
-abbrev pub BySymbol : (Item → ℕ) → Type 0
-BySymbol own = (item : Item) → own (withSymbol (symbolOf item)) ≡ own item
+  -- a terminal gives its kind
+  pub item-read : {symbol : Symbol} {read : Terminal} → symbol ≡ Read read → {kind set more : ℕ} → kind ≡ kindOf (terminalIn read) → set ≡ only kind
+      → more ≡ bitOr (found .kinds) set
+      → record { kinds = more; calls = found .calls; nullable = false } ≡ withItem nulls kinds calls (withSymbol symbol) found
+  item-read {read = read} es ek e em =
+      rw (es, em, e, ek, or-zero-r (bitOr (found .kinds) (only (kindOf (terminalIn read)))), none-more (found .calls)) refl
 
--- so it is with the kind that it reads
-pub opening-by : BySymbol openingOf
-opening-by (terminal (keyword k)) = refl
-opening-by (terminal (ide s)) = refl
-opening-by (terminal number) = refl
-opening-by local = refl
-opening-by (call n ts) = refl
+  -- a local gives nothing
+  pub item-local : {symbol : Symbol} → symbol ≡ Local
+      → record { kinds = found .kinds; calls = found .calls; nullable = true } ≡ withItem nulls kinds calls (withSymbol symbol) found
+  item-local es = rw (es, none-more (found .kinds), none-more (found .calls)) refl
 
--- and with the nonterminal that it calls
-pub call-by : BySymbol callOf
-call-by (terminal t) = refl
-call-by local = refl
-call-by (call n ts) = refl
+  -- a call gives its nonterminal, and what this one gives
+  pub item-call : {symbol : Symbol} {nonterminal : ℕ} → symbol ≡ Call nonterminal → {set more : ℕ} → set ≡ getD kinds nonterminal 0
+      → more ≡ bitOr (found .kinds) set → {own with-own through called : ℕ} → own ≡ only nonterminal → with-own ≡ bitOr (found .calls) own
+      → through ≡ getD calls nonterminal 0 → called ≡ bitOr with-own through → {test : Bool} → test ≡ hasKind nulls nonterminal
+      → record { kinds = more; calls = called; nullable = test } ≡ withItem nulls kinds calls (withSymbol symbol) found
+  item-call es e em eo ew et ec eb = rw (es, or-zero-r (found .kinds), em, e, ec, ew, eo, et, eb) refl
 
-joined-by : {own : Item → ℕ} → BySymbol own → (sets : List ℕ) (item : Item) (found : ℕ)
-    → joined own sets (withSymbol (symbolOf item)) found ≡ joined own sets item found
-joined-by by sets item found = rw (by item, through-by sets item) refl
+-- ------------------------------------------------------------------ all items
 
--- the code's cases
-pub nullable-is : (nulls : ℕ) {symbol other : Symbol} → symbol ≡ other → isNullable nulls (withSymbol other) ≡ isNullable nulls (withSymbol symbol)
-nullable-is nulls e = rw e refl
-
--- the same for what it gives by itself
-pub own-is : (own : Item → ℕ) {symbol other : Symbol} → symbol ≡ other → own (withSymbol other) ≡ own (withSymbol symbol)
-own-is own e = rw e refl
-
--- and through its nonterminal
-pub through-is : (sets : List ℕ) {symbol other : Symbol} → symbol ≡ other → through sets (withSymbol other) ≡ through sets (withSymbol symbol)
-through-is sets e = rw e refl
-
--- what is given to a family of sets
-pub family-is : {family other : Family} → family ≡ other → (item : Item) → ownOf other item ≡ ownOf family item
-family-is e item = rw e refl
-
--- whether the code's test passes the item that stands here
-passes : (bs : List ℕ) (at nulls : ℕ) {symbol : Symbol} {after : ℕ} (equal : Past symbol after ≡ symbolStep bs (fieldAt bs at)) {test : Bool}
-    → test ≡ isNullable nulls (withSymbol symbol)
-    → test ≡ isNullable nulls (stepped bs at equal .item)
-passes bs at nulls equal eb =
-    let s = stepped bs at equal in
-    rw (s .symbol) at eb ∙ nullable-by nulls (s .item)
-
--- ------------------------------------------------------------------ all items may read nothing
-
--- the items from `at` on decide
-pub record AllNullable (bs : List ℕ) (nulls start at : ℕ) : Type 0 where
-  -- all items left may read nothing exactly if all may
-  pub rest : allNullable nulls (itemsOf (fieldsAt bs at)) ≡ allNullable nulls (itemsOf (fieldsAt bs start))
-
-module _ {bs : List ℕ} {nulls start at : ℕ} (all-passing : AllNullable bs nulls start at) where
-  all-none : itemsOf (fieldsAt bs at) ≡ [] → true ≡ allNullable nulls (itemsOf (fieldsAt bs start))
-  unfolding allNullable
-  all-none e = sym (ap (allNullable nulls) e) ∙ all-passing .rest
-
-  -- no item is left
-  pub all-done : Done ≡ symbolStep bs (fieldAt bs at) → true ≡ allNullable nulls (itemsOf (fieldsAt bs start))
-  all-done e = all-none (stepped bs at e)
-
-  -- nor at the end
-  pub all-end : length bs ≤ at → true ≡ allNullable nulls (itemsOf (fieldsAt bs start))
-  all-end h = all-none (items-end bs at h)
-
-  module _ {symbol : Symbol} {after : ℕ} (equal : Past symbol after ≡ symbolStep bs (fieldAt bs at)) {test : Bool}
-      (eb : test ≡ isNullable nulls (withSymbol symbol)) where
-    all-one : (test && allNullable nulls (itemsOf (fieldsAt bs after))) ≡ allNullable nulls (itemsOf (fieldsAt bs start))
-    unfolding allNullable
-    all-one =
-        rw (passes bs at nulls equal eb) (rw (stepped bs at equal .items) at (all-passing .rest))
-
-    -- past an item that may read nothing
-    pub all-next : test ≡ true → AllNullable bs nulls start after
-    all-next t = record { rest = rw t at all-one }
-
-    -- one that reads decides
-    pub all-stop : test ≡ false → false ≡ allNullable nulls (itemsOf (fieldsAt bs start))
-    all-stop t = rw t at all-one
-
--- ------------------------------------------------------------------ what the items give
-
--- what is found so far and the items from `at` on give what all of them give
-pub record Gathering (bs : List ℕ) (own : Item → ℕ) (nulls : ℕ) (sets : List ℕ) (start found at : ℕ) : Type 0 where
-  -- what was found, joined with what the items left give, is what all give
-  pub rest : gather own nulls sets (itemsOf (fieldsAt bs at)) found ≡ gather own nulls sets (itemsOf (fieldsAt bs start)) 0
-
-module _ {bs : List ℕ} {own : Item → ℕ} {nulls : ℕ} {sets : List ℕ} {start found at : ℕ} (gathering : Gathering bs own nulls sets start found at) where
-  gather-none : itemsOf (fieldsAt bs at) ≡ [] → found ≡ gather own nulls sets (itemsOf (fieldsAt bs start)) 0
-  unfolding gather
-  gather-none e = rw e at (gathering .rest)
-
-  -- no item is left
-  pub gather-done : Done ≡ symbolStep bs (fieldAt bs at) → found ≡ gather own nulls sets (itemsOf (fieldsAt bs start)) 0
-  gather-done e = gather-none (stepped bs at e)
-
-  -- nor at the end
-  pub gather-end : length bs ≤ at → found ≡ gather own nulls sets (itemsOf (fieldsAt bs start)) 0
-  gather-end h = gather-none (items-end bs at h)
-
-  module _ {symbol : Symbol} {after : ℕ} (equal : Past symbol after ≡ symbolStep bs (fieldAt bs at)) {more : ℕ}
-      (by : BySymbol own) (em : more ≡ joined own sets (withSymbol symbol) found) {test : Bool} (eb : test ≡ isNullable nulls (withSymbol symbol)) where
-    finds : more ≡ joined own sets (stepped bs at equal .item) found
-    finds =
-        rw (stepped bs at equal .symbol) at em ∙ joined-by by sets (stepped bs at equal .item) found
-
-    -- what the definition gives for the item here, where the test is known
-    pub gather-next : test ≡ true → Gathering bs own nulls sets start more after
-    unfolding gather
-    gather-next t =
-        let goes : isNullable nulls (stepped bs at equal .item) ≡ true = cc (passes bs at nulls equal eb) in
-        record { rest = rw finds (rw (stepped bs at equal .items, goes, gather) at (gathering .rest)) }
-
-    -- and where the item is the last
-    pub gather-stop : test ≡ false → more ≡ gather own nulls sets (itemsOf (fieldsAt bs start)) 0
-    unfolding gather
-    gather-stop t =
-        let stops : isNullable nulls (stepped bs at equal .item) ≡ false = cc (passes bs at nulls equal eb) in
-        finds ∙ (rw (stepped bs at equal .items, stops, gather) at (gathering .rest))
-
--- what both arrays get, and whether all items are nullable
-pub record Walking (bs : List ℕ) (nulls : ℕ) (kinds calls : List ℕ) (start read called at : ℕ) : Type 0 where
-  -- the kinds that the items open with
-  pub reading : Gathering bs openingOf nulls kinds start read at
-  -- the calls at their left
-  pub calling : Gathering bs callOf nulls calls start called at
-  -- whether all may read nothing
-  pub passing : AllNullable bs nulls start at
+-- what is found with the items up to the first that is not nullable, behind what was found before
+unfoldable pub foundWith : ℕ → List ℕ → List ℕ → List Item → Gathered → Gathered
+foundWith nulls kinds calls [] found = found
+foundWith nulls kinds calls (i ∷ is) found =
+    elim (isNullable nulls i) [ true ↦ foundWith nulls kinds calls is (withItem nulls kinds calls i found) | false ↦ withItem nulls kinds calls i found ]
 
 -- nothing is found at first
-pub walk-start : (bs : List ℕ) (nulls : ℕ) (kinds calls : List ℕ) (start : ℕ) → Walking bs nulls kinds calls start 0 0 start
-walk-start bs nulls kinds calls start = record { reading = record { rest = refl }; calling = record { rest = refl }; passing = record { rest = refl } }
+abbrev pub nothingFound : Gathered
+nothingFound = record { kinds = 0; calls = 0; nullable = true }
 
-module _ {bs : List ℕ} {nulls : ℕ} {kinds calls : List ℕ} {start read called at : ℕ} (walking : Walking bs nulls kinds calls start read called at) where
-  abbrev whole : Gathered
-  whole = gathered nulls kinds calls (itemsOf (fieldsAt bs start))
+-- the same, one set after the other
+abbrev eachWith : ℕ → List ℕ → List ℕ → List Item → Gathered → Gathered
+eachWith nulls kinds calls is found =
+    record {
+      kinds = gather openingOf nulls kinds is (found .kinds);
+      calls = gather callOf nulls calls is (found .calls);
+      nullable = allNullable nulls is;
+    }
 
-  together : {kinds-read calls-read : ℕ} {test : Bool} → kinds-read ≡ whole .kinds → calls-read ≡ whole .calls → test ≡ whole .nullable
-      → {given-gathered : Gathered} → given-gathered ≡ record { kinds = kinds-read; calls = calls-read; nullable = test } → given-gathered ≡ whole
-  together ek el eb er = er ∙ rw (ek, el, eb) refl
+each-found : (nulls : ℕ) (kinds calls : List ℕ) (is : List Item) (found : Gathered) → found .nullable ≡ true
+    → foundWith nulls kinds calls is found ≡ eachWith nulls kinds calls is found
+unfolding foundWith gather allNullable
+each-found nulls kinds calls [] found e = ap (λ test. record { kinds = found .kinds; calls = found .calls; nullable = test }) e
+each-found nulls kinds calls (i ∷ is) found e = by (isNullable nulls i) refl (each-found nulls kinds calls is (withItem nulls kinds calls i found))
+  where
+    by : (test : Bool) → isNullable nulls i ≡ test
+        → (isNullable nulls i ≡ true → foundWith nulls kinds calls is (withItem nulls kinds calls i found)
+        ≡ eachWith nulls kinds calls is (withItem nulls kinds calls i found))
+        → foundWith nulls kinds calls (i ∷ is) found ≡ eachWith nulls kinds calls (i ∷ is) found
+    by true t f = rw (t, foundWith, gather) (f t)
+    by false t f = rw (t, foundWith, gather, withItem, t) refl
+
+-- what is found with the items from `at` on is what is found with all
+pub record Walking (bs : List ℕ) (nulls : ℕ) (kinds calls : List ℕ) (start : ℕ) (found : Gathered) (at : ℕ) : Type 0 where
+  -- all items before may read nothing
+  pub goes : found .nullable ≡ true
+  -- what is left gives what the whole gives
+  pub rest : foundWith nulls kinds calls (itemsOf (fieldsAt bs at)) found ≡ gathered nulls kinds calls (itemsOf (fieldsAt bs start))
+
+-- nothing is found at first
+pub walk-start : (bs : List ℕ) (nulls : ℕ) (kinds calls : List ℕ) (start : ℕ) → Walking bs nulls kinds calls start nothingFound start
+walk-start bs nulls kinds calls start = record { goes = refl; rest = each-found nulls kinds calls (itemsOf (fieldsAt bs start)) nothingFound refl }
+
+module _ {bs : List ℕ} {nulls : ℕ} {kinds calls : List ℕ} {start : ℕ} {found : Gathered} {at : ℕ}
+    (walking : Walking bs nulls kinds calls start found at) where
+  walk-none : itemsOf (fieldsAt bs at) ≡ [] → found ≡ gathered nulls kinds calls (itemsOf (fieldsAt bs start))
+  unfolding foundWith
+  walk-none e = rw e at (walking .rest)
 
   -- no item is left
-  pub walk-done : Done ≡ symbolStep bs (fieldAt bs at) → {given-gathered : Gathered}
-      → given-gathered ≡ record { kinds = read; calls = called; nullable = true } → given-gathered ≡ whole
-  walk-done e = together (gather-done (walking .reading) e) (gather-done (walking .calling) e) (all-done (walking .passing) e)
-
-  -- behind an item less is left
-  pub walk-less : {symbol : Symbol} {after : ℕ} → Past symbol after ≡ symbolStep bs (fieldAt bs at) → length bs - after < length bs - at
-  walk-less = step-less bs at
+  pub walk-done : Done ≡ symbolStep bs (fieldAt bs at) → found ≡ gathered nulls kinds calls (itemsOf (fieldsAt bs start))
+  walk-done e = walk-none (stepped bs at e)
 
   -- nor at the end
-  pub walk-end : length bs ≤ at → {given-gathered : Gathered} → given-gathered ≡ record { kinds = read; calls = called; nullable = true }
-      → given-gathered ≡ whole
-  walk-end h = together (gather-end (walking .reading) h) (gather-end (walking .calling) h) (all-end (walking .passing) h)
+  pub walk-end : length bs ≤ at → found ≡ gathered nulls kinds calls (itemsOf (fieldsAt bs start))
+  walk-end h = walk-none (items-end bs at h)
 
-  module _ {symbol : Symbol} {after : ℕ} (equal : Past symbol after ≡ symbolStep bs (fieldAt bs at)) {kinds-read calls-read : ℕ}
-      (ek : kinds-read ≡ joined openingOf kinds (withSymbol symbol) read)
-      (el : calls-read ≡ joined callOf calls (withSymbol symbol) called) {test : Bool} (eb : test ≡ isNullable nulls (withSymbol symbol)) where
-    -- past an item that may read nothing
-    pub walk-next : test ≡ true → Walking bs nulls kinds calls start kinds-read calls-read after
-    walk-next t =
-        record {
-          reading = gather-next (walking .reading) equal opening-by ek eb t;
-          calling = gather-next (walking .calling) equal call-by el eb t;
-          passing = all-next (walking .passing) equal eb t;
-        }
+  module _ {symbol : Symbol} {after : ℕ} (equal : Past symbol after ≡ symbolStep bs (fieldAt bs at)) where
+    -- behind an item less is left
+    pub walk-less : length bs - after < length bs - at
+    walk-less = step-less bs at equal
 
-    -- an item that reads is the last
-    pub walk-stop : test ≡ false → {given-gathered : Gathered} → given-gathered ≡ record { kinds = kinds-read; calls = calls-read; nullable = false }
-        → given-gathered ≡ whole
-    walk-stop t =
-        together (gather-stop (walking .reading) equal opening-by ek eb t) (gather-stop (walking .calling) equal call-by el eb t) (all-stop (walking .passing) equal eb t)
+    module _ {more : Gathered} (em : more ≡ withItem nulls kinds calls (withSymbol symbol) found) where
+      abbrev item : Item
+      item = stepped bs at equal .item
+
+      finds : more ≡ withItem nulls kinds calls item found
+      finds = rw (stepped bs at equal .symbol) at em ∙ item-by nulls kinds calls found item
+
+      tested : {test : Bool} → more .nullable ≡ test → isNullable nulls item ≡ test
+      tested e = rw finds at e
+
+      -- past an item that may read nothing
+      pub walk-next : more .nullable ≡ true → Walking bs nulls kinds calls start more after
+      unfolding foundWith
+      walk-next e = record { goes = e; rest = rw finds (rw (stepped bs at equal .items, tested e, foundWith) at (walking .rest)) }
+
+      -- an item that reads is the last
+      pub walk-stop : more .nullable ≡ false → more ≡ gathered nulls kinds calls (itemsOf (fieldsAt bs start))
+      unfolding foundWith
+      walk-stop e = finds ∙ (rw (stepped bs at equal .items, tested e, foundWith) at (walking .rest))

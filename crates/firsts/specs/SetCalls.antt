@@ -12,15 +12,14 @@ use Rattle.grammar.specs.Limits.{most}
 use Rattle.kinds.specs.Kinds.{hasKind}
 use Rattle.grammar.specs.Table.{Item}
 use Rattle.productions.specs.Normal.{Production}
-use Rattle.firsts.specs.declared.Family.{Family}
-use Rattle.firsts.specs.declared.Family.the-variants.{Openings, Calls}
 use Rattle.firsts.specs.declared.Gathered.{Gathered}
-use Rattle.firsts.specs.FirstSets.{overAll, allNullable, openingOf, callOf, gather, firstStep, setsOf}
+use Rattle.firsts.specs.FirstSets.{overAll, isNullable, allNullable, openingOf, callOf, joined, gather, firstStep, setsOf}
 
--- what an item gives by itself to the sets of a family
-abbrev pub ownOf : Family → Item → ℕ
-ownOf Openings = openingOf
-ownOf Calls = callOf
+-- what is found with an item behind what was found before it, where the sets of the nonterminals are `kinds` and `calls`; and whether the item may
+-- read nothing
+abbrev pub withItem : ℕ → List ℕ → List ℕ → Item → Gathered → Gathered
+withItem nulls kinds calls i found =
+    record { kinds = joined openingOf kinds i (found .kinds); calls = joined callOf calls i (found .calls); nullable = isNullable nulls i }
 
 -- what the items of a production give, where the sets of the nonterminals are `kinds` and `calls`, and whether all may read nothing
 abbrev pub gathered : ℕ → List ℕ → List ℕ → List Item → Gathered

@@ -12,10 +12,10 @@ use Rattle.firsts.proofs.items.gather.Statement.{statement}
 use Rattle.firsts.proofs.items.gather.Tie as tie
 
 abbrev Inv-loop : tie.InvT-loop
-Inv-loop table start nulls kinds calls read₀ called₀ at₀ read called at = laws.Walking table nulls kinds calls start read called at
+Inv-loop table start nulls kinds calls found₀ at₀ found at = laws.Walking table nulls kinds calls start found at
 
 abbrev μ-loop : tie.MeasureT-loop
-μ-loop table start nulls kinds calls read₀ called₀ at₀ read called at = length table - at
+μ-loop table start nulls kinds calls found₀ at₀ found at = length table - at
 
 -- where an item stands at the offset
 module _ (point : tie.After-known-told Inv-loop μ-loop) where
@@ -33,27 +33,17 @@ loop-holds c = laws.walk-start _ _ _ _ _
 
 returns : tie.Need-returns Inv-loop μ-loop
 returns c =
-    let at-item-at = c .before .before .before in
-    let at-loop = at-item-at .before .before in
-    laws.walk-done (at-loop .loop .inv) (sym (c .before .enum-told .given .1) ∙ at-item-at .item-at .ensures) (c .found .ensures)
+    let read = c .before .before in
+    laws.walk-done (read .before .before .loop .inv) (sym (c .enum-told .given .1) ∙ read .item-at .ensures)
 
 loop-less : tie.Need-loop-less Inv-loop μ-loop
-loop-less c =
-    let p = c .before .before .before .before in
-    laws.walk-less (looped p .loop .inv) (item p)
+loop-less c = search (laws.walk-less, item (c .before .before))
 
 loop-again : tie.Need-loop-again Inv-loop μ-loop
-loop-again c =
-    let p = c .before .before .before .before in
-    laws.walk-next (looped p .loop .inv) (item p) (c .before .before .before .joined .ensures) (c .before .before .joined2 .ensures)
-    (c .before .nullable .ensures) (c .if1 .taken)
+loop-again c = search (laws.walk-next, item (c .before .before))
 
 returns-2 : tie.Need-returns-2 Inv-loop μ-loop
-returns-2 c =
-    let tested = c .before in
-    let p = tested .before .before .before .before in
-    laws.walk-stop (looped p .loop .inv) (item p) (tested .before .before .before .joined .ensures) (tested .before .before .joined2 .ensures)
-    (tested .before .nullable .ensures) (tested .if1 .left) (c .found2 .ensures)
+returns-2 c = search (laws.walk-stop, item (c .before .before))
 
 returns-3 : tie.Need-returns-3 Inv-loop μ-loop
 returns-3 c = search laws.walk-end
@@ -68,15 +58,10 @@ gather-spec =
     loop-holds
     (λ c κs. search needs)
     (λ c. search needs)
-    (λ c κs. search needs)
     returns
     (λ c. search needs)
     (λ c κs. search needs)
-    (λ c κs. search needs)
-    (λ c κs. search needs)
     loop-less
     loop-again
-    (λ c κs. search needs)
     returns-2
-    (λ c κs. search needs)
     returns-3)
