@@ -89,7 +89,8 @@ pub record Bounding (many : ℕ) (owners : List ℕ) (below turn : ℕ) : Type 0
 pub bounding-start : {many : ℕ} {owners : List ℕ} → Bounding many owners 0 0
 bounding-start = record { within = omega arith; small = omega arith; so-far = λ place l. absurd (omega arith) }
 
-module _ {many : ℕ} {owners : List ℕ} {below turn : ℕ} (owners-are : OwnersSmall many owners) (bounding : Bounding many owners below turn) (left : turn < many) where
+module _ {many : ℕ} {owners : List ℕ} {below turn : ℕ} (owners-are : OwnersSmall many owners) (bounding : Bounding many owners below turn)
+    (left : turn < many) where
   next : (new : ℕ) → new ≤ 64 → below ≤ new → getD owners turn 0 < new → Bounding many owners new (turn + 1)
   next new h l e =
       record {

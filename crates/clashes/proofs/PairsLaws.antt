@@ -238,6 +238,16 @@ pub record Row (room : List ℕ) (start : ℕ) (seen : Seen) (one : ℕ) : Type 
   -- a place clashes with one of them exactly if it clashes with what they give together
   pub covers : (place : ℕ) → anyWith (λ k. clashIn room k place) before ≡ clashSeen room seen place
 
+module _ (room : List ℕ) (start one : ℕ) (before : List ℕ) (split : linked room start ≡ before ++ linked room one) where
+  -- the place that comes next is past too
+  split-next : one < 256 → {after : ℕ} → after ≡ afterIn room one → linked room start ≡ (before ++ (one ∷ [])) ++ linked room after
+  split-next h e =
+      split ∙ ap (_++_ before) (linked-next room one h) ∙ rw e (sym (append-snoc before one (linked room (afterIn room one))))
+
+  -- no place comes next
+  split-end : 256 ≤ one → linked room start ≡ before
+  split-end h = split ∙ ap (_++_ before) (linked-none room one h) ∙ append-nil before
+
 -- some of the places before `one` are left, from `other` on
 pub record Column (room : List ℕ) (start : ℕ) (seen : Seen) (one other : ℕ) : Type 0 where
   -- the places before `one`
@@ -273,7 +283,7 @@ row-start room e =
 module _ {room : List ℕ} {start : ℕ} {seen : Seen} {one : ℕ} (row : Row room start seen one) where
   -- no place is left
   pub row-end : 256 ≤ one → anyPair (clashIn room) (linked room start) ≡ false
-  row-end h = ap (anyPair (clashIn room)) (row .split ∙ ap (λ (l : List ℕ). row .before ++ l) (linked-none room one h) ∙ append-nil (row .before)) ∙ row .none
+  row-end h = rw (split-end room start one (row .before) (row .split) h) (row .none)
 
   -- fewer places are left
   pub row-less : one < 256 → {after : ℕ} → after ≡ afterIn room one → 256 - after < 256 - one
@@ -346,7 +356,7 @@ module _ {room : List ℕ} {start : ℕ} {seen : Seen} {one other : ℕ} (column
       let before : List ℕ = column .row .before in
       record {
         before = before ++ (one ∷ []);
-        split = column .row .split ∙ ap (λ (r : List ℕ). before ++ r) (linked-next room one h) ∙ rw g (sym (append-snoc before one (linked room (afterIn room one))));
+        split = split-next room start one before (column .row .split) h g;
         none = pair-and (clashIn room) before one ∙ rw (column .row .none, none-left h l) refl;
         covers =
             λ place.
@@ -380,12 +390,20 @@ module _ {room : List ℕ} {start seen found one : ℕ} (sharing : Sharing room 
       let before : List ℕ = sharing .before in
       record {
         before = before ++ (one ∷ []);
-        split = sharing .split ∙ ap (λ (r : List ℕ). before ++ r) (linked-next room one h) ∙ rw g (sym (append-snoc before one (linked room (afterIn room one))));
+        split = split-next room start one before (sharing .split) h g;
         seen-are =
             λ kind. rw (es, eo, has-join seen (firstIn room one) kind, sharing .seen-are kind) (sym (with-and (λ p. hasKind (firstIn room p) kind) before one));
         found-are =
             λ kind.
-            rw (ef, em, eo, has-join found (bitAnd seen (firstIn room one)) kind, has-meet seen (firstIn room one) kind, sharing .seen-are kind, sharing .found-are kind)
+            rw (
+              ef,
+              em,
+              eo,
+              has-join found (bitAnd seen (firstIn room one)) kind,
+              has-meet seen (firstIn room one) kind,
+              sharing .seen-are kind,
+              sharing .found-are kind,
+            )
             (sym (pair-and (λ p q. hasKind (sharedIn room p q) kind) before one
             ∙ ap (λ (b : Bool). anyPair (λ p q. hasKind (sharedIn room p q) kind) before || b)
             (with-same (λ p. has-meet (firstIn room p) (firstIn room one) kind) before
@@ -399,6 +417,5 @@ module _ {room : List ℕ} {start seen found one : ℕ} (sharing : Sharing room 
   -- no place is left
   pub sharing-end : 256 ≤ one → found ≡ joinPairs (sharedIn room) (linked room start) 0
   sharing-end h =
-      let all : linked room start ≡ sharing .before = sharing .split ∙ ap (λ (l : List ℕ). sharing .before ++ l) (linked-none room one h) ∙ append-nil (sharing .before) in
-      rw all (same-set found (joinPairs (sharedIn room) (sharing .before) 0)
+      rw (split-end room start one (sharing .before) (sharing .split) h) (same-set found (joinPairs (sharedIn room) (sharing .before) 0)
       (λ kind. sharing .found-are kind ∙ sym (pairs-seen (sharedIn room) (sharing .before) 0 kind ∙ rw (has-none kind) refl)))
