@@ -152,7 +152,8 @@ module _ (is : List Item) where
   test-is : allNullable everyOne is ≡ true → (nulls : ℕ) → eqb (bitOr nulls needsOf) nulls ≡ allNullable nulls is
   test-is e nulls = by _ _ refl refl
     where
-      by : (first second : Bool) → eqb (bitOr nulls needsOf) nulls ≡ first → allNullable nulls is ≡ second → eqb (bitOr nulls needsOf) nulls ≡ allNullable nulls is
+      by : (first second : Bool) → eqb (bitOr nulls needsOf) nulls ≡ first → allNullable nulls is ≡ second
+          → eqb (bitOr nulls needsOf) nulls ≡ allNullable nulls is
       by true second ea eb = ea ∙ sym (needed-all nulls is e (λ n f. joined-in nulls needsOf ea n (needs-seen n ∙ f)))
       by false true ea eb = joins-none nulls needsOf (λ n f. all-needed nulls is eb n (sym (needs-seen n) ∙ f)) ∙ sym eb
       by false false ea eb = ea ∙ sym eb
