@@ -1,8 +1,8 @@
 -- `lay_times`: one part more at each turn.
 use Prim.Native.Nat.{_-_, _≤_}
+use native.Mathlib.Nat.{le-antisymm}
 use native.Mathlib.Numerals.{add-one}
 use native.Mathlib.Omega.{arith}
-use mathlib.Core.Path.{_≡_}
 use borrow.Author.Needs.{needs}
 use Rattle.rooms.specs.Laying.{Lays}
 use Rattle.rooms.proofs.LayingLaws.{lays-then, lays-none, lays-length}
@@ -35,8 +35,7 @@ same-length c =
 returns : tie.Need-returns Inv-loop μ-loop
 returns c =
     let head = c .before in
-    let all : head .loop .done ≡ head .before .before .before .before .before .before .before .before .args .count = omega arith in
-    lays-then (head .before .before .before .lay .ensures) (rw all at (head .loop .inv .1))
+    lays-then (head .before .before .before .lay .ensures) (rw (le-antisymm (head .loop .inv .0) (c .loop-test .left)) at (head .loop .inv .1))
 
 -- the function meets its contract
 pub lay-times-spec : {M : Type 1} → statement M
