@@ -285,7 +285,8 @@ module _ {bytes L room₀ room : List ℕ} {outsides start place : ℕ} {filling
     -- a name's number more
     pub testing-number : name ≡ true → number < outsides → Testing bytes L outsides room₀ start room filling false (place + 1)
     testing-number e h =
-        rw e at (next room filling (rw e (lt-ltb number outsides h)) refl (omega arith) (rw e (left-number byte (drop (place + 1) bytes) L (placesAt room filling))))
+        let left = left-number byte (drop (place + 1) bytes) L (placesAt room filling) in
+        rw e at (next room filling (rw e (lt-ltb number outsides h)) refl (omega arith) (rw e left))
 
     -- any other byte more
     pub testing-next :

@@ -66,5 +66,6 @@ module _ (file : List ℕ) (c : Case) {whole : Expanded} {answer : Answer} {cell
         rw (right, rooms, judged) at (ap (judged file c) e)
 
 -- a case counts as different where cases are compared and it differs
-pub counted : {compares test differing : Bool} → compares ≡ true → test ≡ differing → {value : Bool} → test ≡ value → oneIf value ≡ oneIf (compares && differing)
+pub counted : {compares test differing : Bool} → compares ≡ true → test ≡ differing → {value : Bool} → test ≡ value
+    → oneIf value ≡ oneIf (compares && differing)
 counted e d t = rw (e, ← d, t) refl
