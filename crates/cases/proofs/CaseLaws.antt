@@ -19,7 +19,9 @@ use Rattle.cases.specs.Cases.{longestFile, lastCause, fourAt, numbersFro
 
 -- the first `count` numbers of a room are those written at its front, and behind these as they were
 pub record Left (written : List ℕ) (untouched : ℕ) (room : List ℕ) (count : ℕ) : Type 0 where
+  -- what is written fits the room
   pub fits : length written ≤ length room
+  -- the first `count` numbers agree with a room that is written and untouched behind
   pub agree : Agreeing room (leftAs written (length room) untouched) count
 
 front-at : (written : List ℕ) (count untouched i : ℕ) → i < length written + count → getD (written ++ replicate count untouched) i 0 ≡ getD written i untouched
@@ -175,9 +177,12 @@ placed file places = refl
 
 -- a whole case ends within the file, behind where it begins
 pub record Within (file : List ℕ) (at : ℕ) (case : Case) : Type 0 where
+  -- it ends behind where it begins
   pub begins : at < case .places .end
+  -- its end is within the file
   pub ends : case .places .end ≤ length file
 
+-- a case that is read as whole lies so
 pub next-within : (file : List ℕ) (at : ℕ) {case : Case} → nextAt file at ≡ Whole case → Within file at case
 next-within file at {case} next = by-test (eqb at (length file)) (λ t. at-end (eqb-true at (length file) t)) (λ t. inside (eqb-false at (length file) t))
   where

@@ -21,14 +21,19 @@ unfoldable pub tallyBehind : (Case → Bool) → ℕ → ℕ → List Case → B
 tallyBehind test cases differ each true = tallies.Read (cases + length each) (differ + count test each)
 tallyBehind test cases differ each false = tallies.Broken (cases + length each)
 
+-- the same of the cases of a file, which is read to its end or broken off
 abbrev pub talliedBehind : (Case → Bool) → ℕ → ℕ → Cases → Tally
 talliedBehind test cases differ rest = tallyBehind test cases differ (rest .each) (rest .whole)
 
 -- `cases` cases stand before an offset, of which `differ` differ, and what is left gives what the whole file gives
 pub record Tallying (test : Case → Bool) (file : List ℕ) (at cases differ : ℕ) : Type 0 where
+  -- the offset is within the file
   pub within : at ≤ length file
+  -- each case takes a byte at least
   pub few : cases ≤ at
+  -- no more differ than were read
   pub fewer : differ ≤ cases
+  -- the cases left, behind those read, come to what all come to
   pub rest : talliedBehind test cases differ (casesFrom (suc (length file - cases)) file at) ≡ tallied test (casesIn file)
 
 at-most-one : (test : Bool) → oneIf test ≤ 1
