@@ -46,8 +46,8 @@ unfolding doubled
 window-of zero {turns = turns} {path = path} l e f = shut {turns = turns} {path = path} (omega arith) (omega arith)
 window-of (suc width) {more} {low} {turns} {path} l e f =
     let half : 2 * doubled width * more ≡ 2 * (doubled width * more) = mul-assoc 2 (doubled width) more in
-    bit {turns = turns} {path = path} {b = low % 2} {turns′ = low / 2 + doubled width} {path′ = low / 2 + doubled width * more} (omega arith) (omega arith) (omega (arith, half))
-    (window-of width (omega arith) refl refl)
+    bit {turns = turns} {path = path} {b = low % 2} {turns′ = low / 2 + doubled width} {path′ = low / 2 + doubled width * more}
+    (omega arith) (omega arith) (omega (arith, half)) (window-of width (omega arith) refl refl)
 
 -- ------------------------------------------------------------------ the path of a spelling
 
@@ -124,6 +124,7 @@ module _ (spelling : List ℕ) {turns next : ℕ} (within : next ≤ length spel
 
 -- `count` bytes are in the hash
 pub record Mixing (bytes : List ℕ) (hash count : ℕ) : Type 0 where
+  -- `count` is no further than the end
   pub within : count ≤ length bytes
   -- the bytes left, behind what has the `hash`, have the hash of all
   pub rest : secondFrom hash (drop count bytes) ≡ secondOf bytes

@@ -327,15 +327,18 @@ positive (suc number) d = omega arith
 
 -- the search by the bits of the hash
 pub record Seeking (text places links : List ℕ) (mask count : ℕ) (sought : List ℕ) (slot turns link : ℕ) : Type 0 where
+  -- the search stands at a link of a tree
   pub standing : Standing text places links mask count slot link
   -- as long as there are bits ahead, they are those of the path
   pub follows : 0 < turns → Following mask (wordsIn text places count) links sought (behindHash sought) slot turns
 
 -- the search by the whole path
 pub record Searching (text places links : List ℕ) (mask count : ℕ) (sought : List ℕ) (slot turns next link : ℕ) : Type 0 where
+  -- the search stands at a link of a tree
   pub standing : Standing text places links mask count slot link
-  -- the bytes from `next` on come behind the bits ahead
+  -- `next` is no further than the end of the spelling
   pub within : next ≤ length sought
+  -- the bits ahead are those of the path, and the bytes from `next` on come behind them
   pub following : Following mask (wordsIn text places count) links sought (bytesOf (drop next sought)) slot turns
 
 module _ {text places links : List ℕ} {mask count : ℕ} (planted : Planted text places links mask count) {sought : List ℕ}
