@@ -75,6 +75,7 @@ joined (a ∷ b ∷ ps) = a ++ joined (b ∷ ps)
 
 -- a text is made of pieces
 pub record MadeOf (text : List ℕ) (pieces : List (List ℕ)) : Type 0 where
+  -- joined, the pieces are the text
   pub whole : text ≡ joined pieces
 
 length-first : (piece : List ℕ) (ps : List (List ℕ)) → length piece ≤ length (joined (piece ∷ ps))

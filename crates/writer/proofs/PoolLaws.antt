@@ -149,6 +149,7 @@ module _ (pool spelling : List ℕ) (at : ℕ) {size count : ℕ} {rest : List �
   sized-is : Sized ≡ sets pool at (size ∷ [])
   sized-is = put-sets pool at (omega arith) first
 
+  -- both stores give the length and the spelling behind it
   pub stored-both : {count′ : ℕ} {rest′ : List ℕ} → Written spelling (remains (at + count) Sized) count′ rest′
       → withRest (at + count) Sized rest′ ≡ sets pool at (length spelling ∷ spelling)
   stored-both second =
@@ -295,8 +296,9 @@ module _ {table pool₀ pool : List ℕ} {at place : ℕ} (filling : Filling tab
     pub value-short : ((number : ℕ) → length (oneOf (lexiconOf table .outsides) number) < spellingRoom) → {value : List ℕ} → value ≡ Value
         → length value < spellingRoom
     value-short hs ev =
-        let first : oneOf (lexiconOf table .outsides) (place + 0) ≡ Value = sym (getD-drop place (lexiconOf table .outsides) 0 []) ∙ ap (λ l. getD l 0 []) one-left
-        in omega (arith, hs (place + 0), ap length first, ap length ev)
+        let others = lexiconOf table .outsides in
+        let first : oneOf others (place + 0) ≡ Value = sym (getD-drop place others 0 []) ∙ ap (λ l. getD l 0 []) one-left in
+        omega (arith, hs (place + 0), ap length first, ap length ev)
 
     -- one more name is stored
     pub filling-next : {value pool′ : List ℕ} → value ≡ Value → pool′ ≡ sets pool (place * spellingRoom) (length value ∷ value)
