@@ -188,8 +188,11 @@ module _ (bs : List ℕ) (given-scope : Scope) (heads : List ℕ)
 
 -- the heads show an environment, and none lies behind an offset
 record Shows (bs : List ℕ) (E : Env) (heads : List ℕ) (at : ℕ) : Type 0 where
+  -- there is a head for each nonterminal
   pub size : length heads ≡ 64
+  -- it is that of the nonterminal's newest signature, if it is defined
   pub knows : (nonterminal : ℕ) → nonterminal < 64 → Knows bs E heads nonterminal
+  -- none lies behind the offset
   pub below : Below heads at
 
 module _ (bs : List ℕ) (keywords outsides root : ℕ) (low : root < 64) where
