@@ -41,7 +41,8 @@ module _ {A : Type 0} {reads : List Token → ℕ → Item → List Token → �
   rowsIn (by-call {ts = ts} {p = p} vs t d v d′) = rowsOfAll ts + rowsIn d + rowsOf (p .result) + rowsIn d′
 
   -- a derivation within the limits, where o calls are open, c are begun and m cells are made
-  pub record Affords (rows o c m : ℕ) {M M′ : List A} {s s′ : List Token} {i i′ : ℕ} {ps : List Item} (d : _⊢⟨_∣_⟩_⇒⟨_∣_⟩_ A reads taken gives giveAll M s i ps s′ i′ M′) : Type 0 where
+  pub record Affords (rows o c m : ℕ) {M M′ : List A} {s s′ : List Token} {i i′ : ℕ} {ps : List Item}
+      (d : _⊢⟨_∣_⟩_⇒⟨_∣_⟩_ A reads taken gives giveAll M s i ps s′ i′ M′) : Type 0 where
     pub few-open : o + openIn d ≤ mostOpen
     pub few-calls : c + callsIn d ≤ mostCalls
     pub few-rows : m + rowsIn d ≤ rows
