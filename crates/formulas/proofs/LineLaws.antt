@@ -153,11 +153,17 @@ lays-behind {out} {n} {part} {end} {out′} lays fits =
 
 -- The lines before an offset are laid, and with those from it on they give what all lines from the first offset on give.
 pub record Telling (table input : List ℕ) (from : ℕ) (out₀ : List ℕ) (out : List ℕ) (at n : ℕ) : Type 0 where
+  -- where something is laid, a line was read
   pub moved : 0 < n → from < at
+  -- the offset is no earlier than the first
   pub begun : from ≤ at
+  -- nor behind the input
   pub inside : at ≤ length input
+  -- the room keeps its length
   pub as-long : length out ≡ length out₀
+  -- what is laid is within it
   pub within : n ≤ length out
+  -- what is laid and what is left give what all lines give
   pub gives : formulasOutput table (drop from input) ≡ take n out ++ formulasOutput table (drop at input)
 
 module _ (table input : List ℕ) (from : ℕ) (out₀ : List ℕ) where
