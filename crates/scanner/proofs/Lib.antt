@@ -4,3 +4,4 @@ pub mod ScanLoop
 pub mod ScanningLaws
 pub mod RoomLaws
 pub mod AfterScan
+pub mod NumberLaws

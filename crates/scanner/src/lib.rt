@@ -4,6 +4,9 @@ pub mod room;
 use crate::room::PLACE;
 use crate::room::TOKEN;
 use answers::Refusal;
+use answers::causes::BAD_TOKEN;
+use answers::causes::FORMULA_TOO_LONG;
+use answers::causes::TOO_MANY_TOKENS;
 use grammar::limits::MOST_OUTSIDES;
 use grammar::reader::part;
 use kinds::KEYWORD_KIND;
@@ -43,6 +46,7 @@ ghost use Rattle.lexicon.specs.LexiconRoom.{Lexical};
 ghost use Rattle.scanner.specs.Stepping.{Named, Ready, OwnWord, made, Marks, Stepped, Agrees, Scannable};
 ghost use Rattle.answers.specs.Refusals.{refusal};
 ghost use Rattle.scanner.specs.Rooms.{rowThen, placeThen, countWith, wordsIn, RoomFor, LentToScan, filled, scanInto};
+ghost use Rattle.scanner.specs.Numbered.{Scans};
 
 // The trees of a formula's words are one more than this, for a short formula, a middle one, and any.
 const SHORT_MASK: usize = 63;
@@ -301,7 +305,7 @@ fn unscanned(number: u8, a: u64) -> Scanned
 fn bad_lexeme(at: usize) -> Scanned
     ensures { λ r. ⌜ r ≡ Scanned.Unscanned (refusal 15 at 0 0) ⌝ }
 {
-    unscanned(15, at as u64)
+    unscanned(BAD_TOKEN, at as u64)
 }
 
 // The scan of a formula by the lexicon of a table.
@@ -335,7 +339,7 @@ fn scan_loop(
             }
             Step::Emit(t) => {
                 if n == MOST_TOKENS {
-                    return unscanned(16, 0);
+                    return unscanned(TOO_MANY_TOKENS, 0);
                 }
                 store_token(tokens, n, t);
                 count = store_word(words, links, count, t, spot);
@@ -368,17 +372,18 @@ fn scan_with(
 
 // The scan of a formula by the keywords and outside names of a table. Four numbers a token are stored from the front of
 // `tokens`: kind, offset, length, value; two numbers a word from the front of `words`: the offset and the length of the first
-// token that has it, for the spelling numbers from 64 on. Numbers behind these stay as they were, on a refusal too.
+// token that has it, for the spelling numbers from 64 on. Numbers behind these stay as they were, on a refusal too. The answer's number,
+// 0 or 14 to 16, and its values are those of the rules.
 // Ruled out are, among others, a scanner that takes a keyword for a word, one that refuses one byte beside the fault, one that
 // numbers words from 65, and one that clears a room before it refuses.
 pub fn scan(table: &[u8], formula: &[u8], tokens: &mut [u32], words: &mut [u32]) -> Scanned
     requires { ⌜ LentToScan (now table) (now formula) (now tokens) (now words) ⌝ }
-    ensures { λ r. ⌜ filled r (now (tokens .exit)) (now (words .exit))
-        ≡ scanInto (lexiconOf (now (table .entry))) (now (formula .entry)) (now (tokens .entry)) (now (words .entry)) ⌝ }
+    ensures { λ r. ⌜ Scans (lexiconOf (now (table .entry))) (now (formula .entry)) (now (tokens .entry)) (now (words .entry)) r
+        (now (tokens .exit)) (now (words .exit)) ⌝ }
 {
     let size = formula.len();
     if LONGEST_FORMULA < size {
-        return unscanned(14, 0);
+        return unscanned(FORMULA_TOO_LONG, 0);
     }
     if size <= SHORT {
         let mut links = [0u32; SHORT_LINKS];

@@ -43,7 +43,7 @@ module _ (point : lts.After-scan claims reads.Pre reads.Post) where
 
   -- its tokens fit
   fits : {many count : ℕ} → point .scan .result ≡ Tokens many count → TokensFit (point .scan .last .1 .1 .0) many
-  fits e = joining.scan-fills bytes (entry .pre .checked .passes) _ _ _ (point .scan .ensures) (entry .pre .rooms) e .tokens-fit
+  fits e = joining.scan-fills bytes (entry .pre .checked .passes) _ _ _ (point .scan .ensures .fills) (entry .pre .rooms) e .tokens-fit
 
 scan-requires : tie.Need-scan-requires
 scan-requires c κs =
@@ -75,14 +75,14 @@ returns : tie.Need-returns
 returns c P =
     let told = c .before .before in
     let p = told .before .before .before .before .before .before in
-    joining.stops-whole (bytes p) P _ _ _ (p .scan .ensures) _ (told .scanned .given .1) (c .halted .ensures)
+    joining.stops-whole (bytes p) P _ _ _ (p .scan .ensures .fills) _ (told .scanned .given .1) (c .halted .ensures)
 
 returns-2 : tie.Need-returns-2
 returns-2 c P =
     let ran = c .before .before in
     let told = ran .before .before .before in
     let p = scanned told in
-    joining.runs-whole (bytes p) P _ _ _ (p .scan .ensures) (entry p .pre .rooms) (told .before .scanned2 .given .1) _ (ran .run-tokens .ensures)
+    joining.runs-whole (bytes p) P _ _ _ (p .scan .ensures .fills) (entry p .pre .rooms) (told .before .scanned2 .given .1) _ (ran .run-tokens .ensures)
 
 -- `parse_passed` meets its contract.
 pub parse-passed-spec : {M : Type 1} → statement M

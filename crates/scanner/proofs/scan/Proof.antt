@@ -3,6 +3,7 @@ use mathlib.Core.Path.{_∙_}
 use native.Mathlib.Omega.{arith}
 use Rattle.scanner.proofs.ScanLoop as loop
 use Rattle.scanner.proofs.ScanningLaws as laws
+use Rattle.scanner.proofs.NumberLaws.{scans}
 use borrow.Author.Needs.{needs}
 use Rattle.scanner.proofs.scan.Statement.{statement}
 use Rattle.scanner.proofs.scan.Tie as tie
@@ -13,8 +14,9 @@ at-start p = p .before .before .before .before
 
 returns : tie.Need-returns
 returns c =
-    cc (c .unscanned .ensures)
-    ∙ loop.too-long _ _ _ _ (c .before .if1 .taken)
+    scans _ _
+    (cc (c .unscanned .ensures)
+    ∙ loop.too-long _ _ _ _ (c .before .if1 .taken))
 
 scan-with-requires : tie.Need-scan-with-requires
 scan-with-requires c κs =
@@ -60,14 +62,14 @@ scan-spec =
     scan-with-requires
     (λ c. search needs)
     (λ c. search needs)
-    (λ c. search needs)
+    (λ c. search scans)
     (λ c. search needs)
     scan-with-requires-2
     (λ c. search needs)
     (λ c. search needs)
-    (λ c. search needs)
+    (λ c. search scans)
     (λ c. search needs)
     scan-with-requires-3
     (λ c. search needs)
     (λ c. search needs)
-    (λ c. search needs))
+    (λ c. search scans))
