@@ -13,6 +13,7 @@ use Rattle.grammar.specs.Table.{Lexicon}
 use Rattle.tokens.specs.declared.Token.{Token}
 use Rattle.tokens.specs.declared.Step.{Step}
 use Rattle.tokens.specs.declared.Step.the-variants.{Skip, Stop, Emit}
+use Rattle.tokens.specs.declared.Scanned.{Scanned}
 use Rattle.tokens.specs.declared.Scanned.the-variants.{Tokens, Unscanned}
 use Rattle.tokens.specs.Scan.{Lexed, scanEnded, withToken, isNew, wordsWith, stepOf, lexFrom, scan}
 use Rattle.tokens.specs.Tokens.{mostTokens, longestFormula}
@@ -91,10 +92,11 @@ unfolding scanInto
 into lex formula tokens words lexed e = ap (fillFrom 0 0 tokens words) (sym e)
 
 -- 14 leaves the rooms as they were
-pub too-long : (lex : Lexicon) (formula tokens words : List ℕ) → longestFormula < length formula
-    → filled (Unscanned (refusal 14 0 0 0)) tokens words ≡ scanInto lex formula tokens words
+pub too-long : (lex : Lexicon) (formula tokens words : List ℕ) {scanned : Scanned} → scanned ≡ Unscanned (refusal 14 0 0 0)
+    → longestFormula < length formula
+    → filled scanned tokens words ≡ scanInto lex formula tokens words
 unfolding tokenRows wordPlaces
-too-long lex formula tokens words h = into lex formula tokens words _ (scan-long lex formula h)
+too-long lex formula tokens words told h = rw (told) (into lex formula tokens words _ (scan-long lex formula h))
 
 -- nothing is scanned yet
 pub turn-start : (lex : Lexicon) (formula tokens words : List ℕ) → length formula ≤ longestFormula
@@ -139,10 +141,11 @@ module _ {lex : Lexicon} {formula tokens₀ words₀ tokens words : List ℕ} {a
       }
 
   -- a fault gives 15 with its offset
-  pub turn-stop : at < length formula → Stop ≡ stepOf lex (wordsIn formula words count) at (drop at formula)
-      → filled (Unscanned (refusal 15 at 0 0)) tokens words ≡ scanInto lex formula tokens₀ words₀
+  pub turn-stop : at < length formula → Stop ≡ stepOf lex (wordsIn formula words count) at (drop at formula) → {scanned : Scanned}
+      → scanned ≡ Unscanned (refusal 15 at 0 0)
+      → filled scanned tokens words ≡ scanInto lex formula tokens₀ words₀
   unfolding tokenRows wordPlaces
-  turn-stop h e = rest-by h Stop e
+  turn-stop h e told = rw (told) (rest-by h Stop e)
 
   module _ (below : at < length formula) {token : Token} (equal : Emit token ≡ stepOf lex (wordsIn formula words count) at (drop at formula)) where
     -- what is left, by whether there may be one more token
@@ -161,9 +164,10 @@ module _ {lex : Lexicon} {formula tokens₀ words₀ tokens words : List ℕ} {a
     turn-less = omega (arith, lies .1)
 
     -- a token after 4,096 others gives 16
-    pub turn-full : many ≡ mostTokens → filled (Unscanned (refusal 16 0 0 0)) tokens words ≡ scanInto lex formula tokens₀ words₀
+    pub turn-full : many ≡ mostTokens → {scanned : Scanned} → scanned ≡ Unscanned (refusal 16 0 0 0)
+        → filled scanned tokens words ≡ scanInto lex formula tokens₀ words₀
     unfolding tokenRows wordPlaces
-    turn-full z = rest-emit false (le-ltb many mostTokens (omega arith))
+    turn-full z told = rw (told) (rest-emit false (le-ltb many mostTokens (omega arith)))
 
     module _ (not-full : many ≡ mostTokens → ⊥) (room : count * 2 + 2 ≤ length words) where
       -- the rooms with the token and its word

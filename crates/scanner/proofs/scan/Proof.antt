@@ -1,5 +1,4 @@
 -- `scan`: rooms for the links, by the size of the formula.
-use mathlib.Core.Path.{_∙_}
 use native.Mathlib.Omega.{arith}
 use Rattle.scanner.proofs.ScanLoop as loop
 use Rattle.scanner.proofs.ScanningLaws as laws
@@ -13,10 +12,7 @@ abbrev at-start : tie.After-slice-known2 → tie.Start
 at-start p = p .before .before .before .before
 
 returns : tie.Need-returns
-returns c =
-    scans _ _
-    (cc (c .unscanned .ensures)
-    ∙ loop.too-long _ _ _ _ (c .before .if1 .taken))
+returns c = scans _ _ (loop.too-long _ _ _ _ (c .unscanned .ensures) (c .before .if1 .taken))
 
 scan-with-requires : tie.Need-scan-with-requires
 scan-with-requires c κs =

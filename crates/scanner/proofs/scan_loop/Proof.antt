@@ -82,10 +82,7 @@ returns c =
     let turn′ = at-loop stepped in
     let inv = turn′ .loop .inv in
     let more = test .loop-test .taken in
-    cc (
-      c .bad-lexeme .ensures,
-      loop.turn-stop (inv .turn) more (laws.stop-eq inv more (stepped .step-at .ensures) (c .before .enum-told2 .given .1)),
-    )
+    loop.turn-stop (inv .turn) more (laws.stop-eq inv more (stepped .step-at .ensures) (c .before .enum-told2 .given .1)) (c .bad-lexeme .ensures)
 
 same-length-4 : tie.Need-same-length-4 Inv-loop μ-loop
 same-length-4 c =
@@ -113,7 +110,7 @@ returns-2 c =
     let more = test .loop-test .taken in
     let step = stepped .step-at .ensures in
     let emits = told .step .given .1 in
-    cc (c .unscanned .ensures, loop.turn-full (inv .turn) more (laws.emit-eq inv more step emits) (full .if1 .taken))
+    loop.turn-full (inv .turn) more (laws.emit-eq inv more step emits) (full .if1 .taken) (c .unscanned .ensures)
 
 store-token-requires : tie.Need-store-token-requires Inv-loop μ-loop
 store-token-requires c κs =
