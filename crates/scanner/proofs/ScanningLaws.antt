@@ -200,13 +200,14 @@ module _ {table room tree formula tokens₀ words₀ links₀ tokens words links
               links-same = same-links ∙ scanning .links-same;
             }
 
--- a room of zeros that is long enough is ready for a scan's links
-pub scannable : (formula : List ℕ) (mask room : ℕ) → length formula ≤ longestFormula
-    → ((size : ℕ) → size ≤ length formula → size ≤ mostTokens → mask + 1 + size * 2 ≤ room)
-    → Scannable formula (replicate room 0) mask
-scannable formula mask room short enough =
+-- a room of zeros, one for each tree and two for each word that there may be, is ready for a scan's links
+pub scannable : {formula : List ℕ} {mask : ℕ} (words : ℕ) → length formula ≤ longestFormula
+    → ((size : ℕ) → size ≤ length formula → size ≤ mostTokens → size ≤ words)
+    → Scannable formula (replicate (mask + 1 + 2 * words) 0) mask
+scannable {mask = mask} words short enough =
+    let room : ℕ = mask + 1 + 2 * words in
     record {
       short = short;
       unlinked = zeros room;
-      enough = λ n a b. rw (length-replicate {A = ℕ} room 0) (enough n a b);
+      enough = λ n a b. omega (arith, length-replicate {A = ℕ} room 0, enough n a b);
     }

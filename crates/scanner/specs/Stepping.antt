@@ -19,7 +19,7 @@ use Rattle.lexicon.specs.declared.trees.Spot.the-variants.{Node, Free}
 use Rattle.tokens.specs.Scan.{isNew, stepOf}
 use Rattle.tokens.specs.Tokens.{token, mostTokens, longestFormula}
 use Rattle.tokens.specs.Tiling.{FirstAt, NotIn}
-use Rattle.scanner.specs.Rooms.{wordsIn}
+use Rattle.scanner.specs.Rooms.{wordsIn, LentToScan}
 use Rattle.lexicon.specs.Trees.{SearchTree, FreeFor}
 use Rattle.lexicon.specs.LexiconRoom.{Lexical}
 
@@ -71,3 +71,16 @@ pub record Scannable (formula links : List ℕ) (mask : ℕ) : Type 0 where
   pub short : length formula ≤ longestFormula
   pub unlinked : (i : ℕ) → getD links i 0 ≡ 0
   pub enough : (n : ℕ) → n ≤ length formula → n ≤ mostTokens → mask + 1 + n * 2 ≤ length links
+
+-- the longest formulas for which a short room of links is lent, and one of middle size
+abbrev pub shortFormula : ℕ
+shortFormula = 64
+
+abbrev pub middleFormula : ℕ
+middleFormula = 512
+
+-- what a scan with a room of links for formulas up to a size asks: a formula that is not empty and not longer
+pub record LentWithin (longest : ℕ) (table formula tokens words : List ℕ) : Type 0 where
+  pub lent : LentToScan table formula tokens words
+  pub some : 0 < length formula
+  pub within : length formula ≤ longest

@@ -43,7 +43,7 @@ ghost use Rattle.grammar.specs.Lookup.{lexiconOf};
 ghost use Rattle.tokens.specs.Tokens.{token, mostTokens, longestFormula};
 ghost use Rattle.lexicon.specs.Trees.{hashOf, Planted, Linkable, linksWith};
 ghost use Rattle.lexicon.specs.LexiconRoom.{Lexical};
-ghost use Rattle.scanner.specs.Stepping.{Named, Ready, OwnWord, made, Marks, Stepped, Agrees, Scannable};
+ghost use Rattle.scanner.specs.Stepping.{Named, Ready, OwnWord, made, Marks, Stepped, Agrees, Scannable, middleFormula, LentWithin};
 ghost use Rattle.answers.specs.Refusals.{refusal};
 ghost use Rattle.scanner.specs.Rooms.{rowThen, placeThen, countWith, wordsIn, RoomFor, LentToScan, filled, scanInto};
 ghost use Rattle.scanner.specs.Numbered.{Scans};
@@ -370,6 +370,35 @@ fn scan_with(
     scan_loop(table, &room, &tree, formula, tokens, words, links, mask)
 }
 
+// The scan of a formula of up to 512 bytes, with a room for the links of its words. It calls itself on what it is never passed, an empty formula: the back end
+// lays no such function into its caller, whose frame stays without this room.
+fn scan_middle(table: &[u8], formula: &[u8], tokens: &mut [u32], words: &mut [u32]) -> Scanned
+    requires { ⌜ LentWithin middleFormula (now table) (now formula) (now tokens) (now words) ⌝ }
+    ensures { λ r. ⌜ filled r (now (tokens .exit)) (now (words .exit))
+        ≡ scanInto (lexiconOf (now (table .entry))) (now (formula .entry)) (now (tokens .entry)) (now (words .entry)) ⌝ }
+{
+    if formula.len() == 0 {
+        let blank = [32u8; 1];
+        return scan_middle(table, &blank, tokens, words);
+    }
+    let mut links = [0u32; MIDDLE_LINKS];
+    scan_with(table, formula, tokens, words, &mut links, MIDDLE_MASK)
+}
+
+// The same of a formula of any size that is not refused for it.
+fn scan_long(table: &[u8], formula: &[u8], tokens: &mut [u32], words: &mut [u32]) -> Scanned
+    requires { ⌜ LentWithin longestFormula (now table) (now formula) (now tokens) (now words) ⌝ }
+    ensures { λ r. ⌜ filled r (now (tokens .exit)) (now (words .exit))
+        ≡ scanInto (lexiconOf (now (table .entry))) (now (formula .entry)) (now (tokens .entry)) (now (words .entry)) ⌝ }
+{
+    if formula.len() == 0 {
+        let blank = [32u8; 1];
+        return scan_long(table, &blank, tokens, words);
+    }
+    let mut links = [0u32; LINKS];
+    scan_with(table, formula, tokens, words, &mut links, LARGEST_MASK)
+}
+
 // The scan of a formula by the keywords and outside names of a table. Four numbers a token are stored from the front of
 // `tokens`: kind, offset, length, value; two numbers a word from the front of `words`: the offset and the length of the first
 // token that has it, for the spelling numbers from 64 on. Numbers behind these stay as they were, on a refusal too. The answer's number,
@@ -390,9 +419,7 @@ pub fn scan(table: &[u8], formula: &[u8], tokens: &mut [u32], words: &mut [u32])
         return scan_with(table, formula, tokens, words, &mut links, SHORT_MASK);
     }
     if size <= MIDDLE {
-        let mut links = [0u32; MIDDLE_LINKS];
-        return scan_with(table, formula, tokens, words, &mut links, MIDDLE_MASK);
+        return scan_middle(table, formula, tokens, words);
     }
-    let mut links = [0u32; LINKS];
-    scan_with(table, formula, tokens, words, &mut links, LARGEST_MASK)
+    scan_long(table, formula, tokens, words)
 }
