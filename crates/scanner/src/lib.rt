@@ -1,8 +1,11 @@
 // The scanner: from the bytes of a formula to its tokens.
 pub mod room;
 
+use crate::room::LENGTH;
+use crate::room::OFFSET;
 use crate::room::PLACE;
 use crate::room::TOKEN;
+use crate::room::VALUE;
 use answers::Refusal;
 use answers::causes::BAD_TOKEN;
 use answers::causes::FORMULA_TOO_LONG;
@@ -269,9 +272,9 @@ fn store_token(tokens: &mut [u32], n: usize, t: Token)
 {
     let i = n * TOKEN;
     tokens[i] = t.kind;
-    tokens[i + 1] = t.at;
-    tokens[i + 2] = t.size;
-    tokens[i + 3] = t.value;
+    tokens[i + OFFSET] = t.at;
+    tokens[i + LENGTH] = t.size;
+    tokens[i + VALUE] = t.value;
 }
 
 // The place of a word that is new is stored, and the word is linked; the answer is how many words there are then.
