@@ -12,7 +12,7 @@ use Rattle.terms.specs.Rows.{Constructor, varRow, funRow, appRow, rcdRow, dotRo
 use Rattle.terms.specs.Rows.{termBy, isCons, fieldsBy, termAt, fieldListAt}
 use Rattle.rows.specs.declared.sums.Total.{Total}
 use Rattle.rows.specs.declared.sums.Total.the-variants.{Of}
-use Rattle.rows.specs.Sizes.{noSpell, sizeAt, sizeFieldsAt, cutSize, mostBound, Ones}
+use Rattle.rows.specs.Sizes.{rowsHeld, noSpell, sizeAt, sizeFieldsAt, cutSize, mostBound, Ones}
 use Rattle.rows.specs.Sums.{rowIs, partsOf, sumOf, isFields, totalOf}
 use Rattle.rows.proofs.RowLaws as rows
 use Rattle.rows.proofs.SumLaws.{Adds, total-adds, adds-by}
@@ -134,6 +134,15 @@ pub size-some-fields : (fields : Fields Name) → 0 < sizeFields fields
 unfolding sizeFields
 size-some-fields nil = omega arith
 size-some-fields (cons l t fields) = omega arith
+
+-- a term of more than one constructor has a row
+pub some-cells : (cells : List ℕ) (root : ℕ) {count : ℕ} → count ≡ cutSize cells (rowsHeld cells) root → 1 < count → 0 < length cells
+unfolding size termAt
+some-cells cells root {count} e l = by (rowsHeld cells) refl
+  where
+    by : (rows : ℕ) → rowsHeld cells ≡ rows → 0 < length cells
+    by zero z = let one : count ≡ min mostBound 1 = rw z at e in absurd (omega arith)
+    by (suc rows) z = omega arith
 
 -- ------------------------------------------------------------------ sizes by a pass over the rows
 

@@ -91,15 +91,15 @@ fn size_by_rows(cells: &[u32], root: u32, ones: &mut [u32]) -> usize
     }
 }
 
-// The same with room for many rows. It calls itself on what it is never passed, no rows: the back end lays no such function into its caller, whose frame
+// The same with room for many rows. It calls itself on what it is never passed, no cells: the back end lays no such function into its caller, whose frame
 // stays without this room.
 fn size_of_many(cells: &[u32], made: usize, root: u32) -> usize
-    requires { ⌜ (0 < made) × (made ≤ manyRows) ⌝ }
+    requires { ⌜ (0 < length (now cells)) × (made ≤ manyRows) ⌝ }
     ensures { λ r. ⌜ r ≡ cutSize (now (cells .entry)) made root ⌝ }
 {
-    if made == 0 {
+    if cells.len() == 0 {
         let blank = [0u32; COLUMNS];
-        return size_of_many(&blank, 1, root);
+        return size_of_many(&blank, made, root);
     }
     let mut ones = [1u32; MANY_ROWS];
     size_by_rows(cells, root, &mut ones[..made])

@@ -1,4 +1,4 @@
--- `size_of_many`: it is passed some rows, so that it never calls itself.
+-- `size_of_many`: it is passed some cells, so that it never calls itself.
 use Prim.Native.Nat.{ℕ, _<_}
 use mathlib.Core.Path.{sym}
 use native.Mathlib.Omega.{arith}
