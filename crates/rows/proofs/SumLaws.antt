@@ -158,10 +158,15 @@ module _ (cap : ℕ) (sums : List ℕ) {parts : Parts} where
 
 -- a room with the sums at the first rows, and the own weights of the others
 pub record Passed (cells : List ℕ) (cap : ℕ) (weights sums : List ℕ) (row : ℕ) : Type 0 where
+  -- a place for each weight
   pub long : length sums ≡ length weights
+  -- the rows passed have places
   pub within : row ≤ length weights
+  -- they are in order
   pub ordered : areOrdered cells row ≡ true
+  -- each of them has its sum, for any bound of the depth that is above it
   pub each : (q depth : ℕ) → q < row → q < depth → getD sums q 0 ≡ min cap (sumAt depth weights cells q)
+  -- each other row has its own weight
   pub behind : (q : ℕ) → row ≤ q → getD sums q 0 ≡ getD weights q 0
 
 -- at the start no row has its sum
@@ -248,8 +253,10 @@ module _ {cells : List ℕ} {cap : ℕ} {weights sums : List ℕ} {ordered befor
 
 -- Measures of terms and of field lists, by depth and row, that give each row its own weight and add up its parts.
 pub record Adds (weights cells : List ℕ) (rows : ℕ) (terms fields : ℕ → ℕ → ℕ) : Type 0 where
+  -- at the row of a term
   pub term : (depth row : ℕ) → row < rows → isFields (rowIs cells row) ≡ false
       → terms (suc depth) row ≡ getD weights row 0 + sumOf (partsAt cells row) (terms depth) (fields depth)
+  -- at the row of a field list
   pub list : (depth row : ℕ) → row < rows → isFields (rowIs cells row) ≡ true
       → fields (suc depth) row ≡ getD weights row 0 + sumOf (partsAt cells row) (terms depth) (fields depth)
 
