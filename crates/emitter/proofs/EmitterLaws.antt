@@ -52,7 +52,10 @@ module _ (cells : List ℕ) (root : ℕ) where
         small = never;
         each =
             λ spell d w.
-            record { answer = rw (judged-large (rowsHeld cells) (termAt (rowsHeld cells) spell cells root) (omega (arith, sized spell)), e) refl; named = never };
+            record {
+              answer = rw (judged-large (rowsHeld cells) (termAt (rowsHeld cells) spell cells root) (omega (arith, sized spell)), e) refl;
+              named = never;
+            };
       }
 
   module _ {marks marks′ : List ℕ} {constructors : ℕ} {resolution : Resolution} (s : Sized cells root constructors) (few : constructors ≤ largestTerm)
@@ -68,7 +71,10 @@ module _ (cells : List ℕ) (root : ℕ) where
             each =
                 λ spell d w.
                 let walked = resolved .0 spell d w .answer ∙ ap (λ r. walkOf r (size (termAt (rowsHeld cells) spell cells root))) en in
-                record { answer = rw (judged-loose (rowsHeld cells) (termAt (rowsHeld cells) spell cells root) (omega (arith, sized spell)) walked, e) refl; named = never };
+                record {
+                  answer = rw (judged-loose (rowsHeld cells) (termAt (rowsHeld cells) spell cells root) (omega (arith, sized spell)) walked, e) refl;
+                  named = never;
+                };
           }
 
       -- else the term passes, and its new names are numbered
