@@ -104,7 +104,7 @@ fn emit_in(
     }
 }
 
-// The last step for a term of more than 256 constructors, but not too many. It calls itself on what it is never passed, a small term: the back end lays no
+// The last step for a term of more than 256 constructors, but not too many. It calls itself on what it is never passed, no cells: the back end lays no
 // such function into its caller, whose frame stays without this room.
 fn emit_large(
     table: &[u8],
@@ -118,16 +118,16 @@ fn emit_large(
 ) -> Answer
     requires { ⌜ Emittable (now table) (now formula) (now words) count (now cells) root ⌝ }
     requires { ⌜ Sized (now cells) root size ⌝ }
-    requires { ⌜ (256 < size) × (size ≤ largestTerm) ⌝ }
+    requires { ⌜ (0 < length (now cells)) × (size ≤ largestTerm) ⌝ }
     ensures { λ r. ⌜
         emitted textOf (rowsHeld (now (cells .entry)))
         (termOf (now (table .entry)) (now (formula .entry)) (now (words .entry)) count (now (cells .entry)) root)
         (now (text .entry)) ≡ record { answer = r; text = now (text .exit) }
         ⌝ }
 {
-    if size <= SMALL_TERM {
-        let none = [0u32; 1];
-        return emit_large(table, formula, &none, 0, cells, root, size, text);
+    if cells.len() == 0 {
+        let blank = [0u32; COLUMNS];
+        return emit_large(table, formula, words, count, &blank, root, size, text);
     }
     let mut marks = [0u16; LARGEST_TERM];
     let mut room = &mut marks[..size];

@@ -1,4 +1,4 @@
--- `emit_large`: it is passed no small term, so that it never calls itself.
+-- `emit_large`: it is passed some cells, so that it never calls itself.
 use Prim.Native.Nat.{ℕ, _<_}
 use mathlib.Core.Path.{sym}
 use native.Mathlib.Omega.{arith}

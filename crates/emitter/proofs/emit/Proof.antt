@@ -5,6 +5,7 @@ use native.Mathlib.Omega.{arith}
 use lib.Seq.{length-take-le}
 use lib.ListN.{length-replicate}
 use borrow.Author.Needs.{needs}
+use Rattle.rows.proofs.SizeLaws.{some-cells}
 use Rattle.emitter.proofs.EmitterLaws as laws
 use Rattle.emitter.proofs.emit.Statement.{statement}
 use Rattle.emitter.proofs.emit.Tie as tie
@@ -17,6 +18,12 @@ emit-in-requires c κs =
     let sized = c .before .before .before .before in
     let pre = sized .before .before .before .before .before .before .pre in
     (pre, laws.markable (pre .whole) (sized .size-at .ensures) 256 (omega arith))
+
+emit-large-requires : tie.Need-emit-large-requires
+emit-large-requires c κs =
+    let sized = c .before .before .before in
+    let entry = sized .before .before .before .before .before .before in
+    (entry .pre, (sized .size-at .ensures, (some-cells (entry .args .cells .now) (entry .args .root) (sized .size-at .ensures) (omega arith), omega arith)))
 
 emit-in-requires-2 : tie.Need-emit-in-requires-2
 emit-in-requires-2 c κs =
@@ -35,7 +42,7 @@ emit-spec =
     emit-in-requires
     (λ c. search needs)
     (λ c. search needs)
-    (λ c κs. search needs)
+    emit-large-requires
     (λ c. search needs)
     (λ c. search needs)
     (λ c. search needs)
