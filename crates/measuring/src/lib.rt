@@ -21,6 +21,8 @@ ghost use Rattle.writer.specs.Pool.{spellIn};
 ghost use Rattle.writer.specs.Beginnings.{nameText};
 ghost use Rattle.measuring.specs.Lengths.{termLength, fieldsLength, TermMeasurable, FieldsMeasurable, Measured};
 
+pub mod by_rows;
+
 fn wide(x: u16) -> u32
     ensures { λ r. ⌜ r ≡ x ⌝ }
 {
@@ -64,7 +66,7 @@ fn shown_at(shown: &[u16], place: usize) -> u16
 }
 
 // The length of the text of the term at a row. `place` moves on by its constructors.
-pub fn length_term(
+fn length_term(
     pool: &&[u8],
     cells: &&[u32],
     shown: &&[u16],

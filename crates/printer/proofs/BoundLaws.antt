@@ -1,48 +1,36 @@
 -- A text has at most 46 bytes a constructor.
-use Prim.Native.Nat.{ℕ, zero, suc, _+_, _*_, _/_, _%_, _<_, _≤_}
+use Prim.Native.Nat.{ℕ, zero, suc, _+_, _*_, _<_, _≤_}
 use mathlib.Core.Path.{_≡_}
 use mathlib.Core.Bool.{Bool, true, false}
 use mathlib.Core.List.{List}
 use native.Mathlib.Omega.{arith}
-use lib.Dec.{eqb}
-use lib.ListN.{length, getD, drop, length-take}
-use borrow.Author.Tests.{eqb-true, eqb-false}
-use Rattle.spellings.proofs.BytesLaws.{by-test}
+use lib.ListN.{length, getD}
 use Rattle.spellings.proofs.DecimalLaws.{decimal-bound}
-use Rattle.terms.specs.Cells.{column, nameBase, columns}
+use Rattle.terms.specs.Cells.{column, columns}
 use Rattle.terms.specs.Term.{Name, Term, Fields, size, sizeFields}
 use Rattle.terms.specs.Rows.{nameOf, Constructor, varRow, funRow, appRow, rcdRow, dotRow, nilRow, consRow, numRow}
 use Rattle.terms.specs.Rows.{constructorOf, termBy, isCons, fieldsBy, termAt, fieldListAt}
-use Rattle.terms.specs.Rename.{newName, written}
+use Rattle.terms.specs.Rename.{newName}
 use Rattle.terms.specs.TextSize.{textSize, textSizeFields}
 use Rattle.terms.specs.Labelled.{nameShown, labelled, labelledFields}
 use Rattle.spellings.specs.Bytes.{longestWord}
 use Rattle.writer.specs.Writing.{Fits}
-use Rattle.writer.specs.Pool.{spellingRoom, spellIn, ShortSpellings}
+use Rattle.writer.specs.Pool.{spellIn}
 use Rattle.printing.specs.PrintedParts.{termPart, partText, PartFits}
-use Rattle.measuring.specs.Lengths.{termLength, TermMeasurable, Measured}
+use Rattle.measuring.specs.Lengths.{termLength}
+use Rattle.measuring.specs.OwnLengths.{TextMeasurable}
+use Rattle.measuring.proofs.OwnLaws.{spelling-short, written-short}
 use Rattle.printer.specs.Printed.{PrintableBy}
 use Rattle.rows.specs.Sizes.{noSpell}
-use Rattle.rows.proofs.RowLaws.{as-word, as-fresh, as-outside}
 use Rattle.rows.proofs.SizeLaws.{size-spell}
 use Rattle.terms.proofs.TextLength.{text-length}
 
 module _ (spell : ℕ → List ℕ) (cells numbers : List ℕ) (short : (number : ℕ) → length (spell number) ≤ longestWord)
     (few : (place : ℕ) → getD numbers place 0 < 65536)
     (wide : (place : ℕ) → getD cells place 0 < 4294967296) where
-  written-short : (value : ℕ) → length (written (nameOf spell value)) ≤ longestWord
-  unfolding newName
-  written-short value =
-      by-test (eqb (value / nameBase) 1)
-      (λ e. rw (as-word spell value (eqb-true (value / nameBase) 1 e)) (short (value % nameBase)))
-      (λ e.
-      by-test (eqb (value / nameBase) 2)
-      (λ f. rw (as-fresh spell value (eqb-true (value / nameBase) 2 f)) (omega (arith, decimal-bound 0 0 (omega arith))))
-      (λ f. rw (as-outside spell value (eqb-false (value / nameBase) 1 e) (eqb-false (value / nameBase) 2 f)) (short (value % nameBase))))
-
   name-short : (number value : ℕ) → number < 65536 → length (nameShown number (nameOf spell value)) ≤ longestWord
   unfolding newName
-  name-short zero value h = written-short value
+  name-short zero value h = written-short spell short value
   name-short (suc number) value h = omega (arith, decimal-bound 4 (suc number) (omega arith))
 
   abbrev Short : (ℕ → Term Name) → Type 0
@@ -89,11 +77,6 @@ module _ (spell : ℕ → List ℕ) (cells numbers : List ℕ) (short : (number 
         place
         (isCons (constructorOf (column cells row 0)))
 
--- a spelling of the room is short
-spelling-short : (pool : List ℕ) → ShortSpellings pool → (number : ℕ) → length (spellIn pool number) ≤ longestWord
-unfolding spellIn
-spelling-short pool h number = omega (arith, h number, length-take (getD pool (number * spellingRoom) 0) (drop (number * spellingRoom + 1) pool))
-
 module _ {pool cells numbers : List ℕ} {made root : ℕ} (printable-by : PrintableBy pool cells made root numbers)
     (wide : (place : ℕ) → getD cells place 0 < 4294967296) (few : (place : ℕ) → getD numbers place 0 < 65536) where
   -- the text of a term has at most 46 bytes for each number
@@ -108,8 +91,14 @@ module _ {pool cells numbers : List ℕ} {made root : ℕ} (printable-by : Print
       )
 
   -- the text of a term that is not too large can be measured
-  pub measurable : TermMeasurable pool cells numbers made root 0
-  measurable = record { room = omega (arith, text-short, printable-by .small); inside = omega (arith, printable-by .marked); few = printable-by .small }
+  pub measurable : TextMeasurable pool cells numbers made root
+  measurable =
+      record {
+        weighable = record { short = printable-by .short; wide = wide };
+        room = omega (arith, text-short, printable-by .small);
+        inside = printable-by .marked;
+        few = printable-by .small;
+      }
 
   fits-by : {text : List ℕ} → termLength pool cells numbers made root 0 ≤ length text → PartFits pool cells numbers (termPart made root) 0 text
   unfolding partText termLength
@@ -131,7 +120,7 @@ module _ {pool cells numbers : List ℕ} {made root : ℕ} (printable-by : Print
   measured-fits e l = fits-by (omega (arith, text-length (labelled numbers 0 (termAt made (spellIn pool) cells root))))
 
 -- what is measured is the length of the text
-pub measured-text : (pool cells numbers : List ℕ) (made root : ℕ) {size place count place′ : ℕ}
-    → Measured (termLength pool cells numbers made root 0) size place count place′ → count ≡ length (partText pool cells numbers (termPart made root) 0)
+pub measured-text : (pool cells numbers : List ℕ) (made root : ℕ) {count : ℕ}
+    → count ≡ termLength pool cells numbers made root 0 → count ≡ length (partText pool cells numbers (termPart made root) 0)
 unfolding partText termLength
-measured-text pool cells numbers made root m = omega (arith, m .counted, text-length (labelled numbers 0 (termAt made (spellIn pool) cells root)))
+measured-text pool cells numbers made root e = omega (arith, e, text-length (labelled numbers 0 (termAt made (spellIn pool) cells root)))

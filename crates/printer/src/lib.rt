@@ -1,5 +1,5 @@
 // Printing a term whose new names are numbered.
-use measuring::length_term;
+use measuring::by_rows::text_length;
 use printing::print_term;
 use spellings::LONGEST_WORD;
 use tokens::MOST_TOKENS;
@@ -11,7 +11,7 @@ ghost use mathlib.Core.Path.{_≡_};
 ghost use lib.ListN.{length, getD};
 ghost use Rattle.writer.specs.Pool.{spelledBy};
 ghost use Rattle.printing.specs.PrintedParts.{termPart, partText, PartFits};
-ghost use Rattle.measuring.specs.Lengths.{TermMeasurable};
+ghost use Rattle.measuring.specs.OwnLengths.{TextMeasurable};
 ghost use Rattle.printer.specs.Printed.{moreWords, textBy, Printable, PrintableBy, Prints};
 
 // The most bytes that a constructor adds to a text: mkFieldCons with a label of 31 bytes takes 46.
@@ -51,11 +51,10 @@ fn narrow_numbers(s: &[u16]) -> u16
 
 // The length of the text of the term at a row.
 fn measure(pool: &[u8], cells: &[u32], shown: &[u16], made: usize, root: u32) -> usize
-    requires { ⌜ TermMeasurable (now pool) (now cells) (now shown) made root 0 ⌝ }
+    requires { ⌜ TextMeasurable (now pool) (now cells) (now shown) made root ⌝ }
     ensures { λ r. ⌜ r ≡ length (partText (now (pool .entry)) (now (cells .entry)) (now (shown .entry)) (termPart made root) 0) ⌝ }
 {
-    let mut place: usize = 0;
-    length_term(&pool, &cells, &shown, made, root, &mut place)
+    text_length(pool, cells, shown, made, root)
 }
 
 // The text of the term at a row, at the front of a buffer that has room for it.

@@ -88,7 +88,7 @@ numeral-code =
     (λ code u f p r t n o v a b c d. numeral-num)
 
 -- a code of none but mkTermNum
-num-code : (code : ℕ) → (code ≡ 0x20 → ⊥) → (code ≡ 0x21 → ⊥) → (code ≡ 0x22 → ⊥) → (code ≡ 0x23 → ⊥) → (code ≡ 0x24 → ⊥) → (code ≡ 0x25 → ⊥)
+pub num-code : (code : ℕ) → (code ≡ 0x20 → ⊥) → (code ≡ 0x21 → ⊥) → (code ≡ 0x22 → ⊥) → (code ≡ 0x23 → ⊥) → (code ≡ 0x24 → ⊥) → (code ≡ 0x25 → ⊥)
     → (code ≡ 0x26 → ⊥)
     → constructorOf code ≡ numRow
 num-code =
