@@ -29,9 +29,13 @@ use Rattle.meaning.proofs.Stages.{expand-refused, Finish, is-refused, t
 
 -- Of the cells and the text that were lent to an expansion: they are as many, what is written fits, and the text behind it is as it was.
 pub record Keeps (cells text : List ℕ) (x : Expanded) : Type 0 where
+  -- there are as many cells as were lent
   pub as-many-cells : length (x .cells) ≡ length cells
+  -- the text's room keeps its length
   pub as-long : length (x .text) ≡ length text
+  -- what is written fits it
   pub fits : written (x .answer) ≤ length text
+  -- behind what is written, it is as it was
   pub text-behind : drop (written (x .answer)) (x .text) ≡ drop (written (x .answer)) text
 
 module _ (cells text : List ℕ) where
@@ -81,14 +85,20 @@ formulaAt formulas ends i = formulaIn formulas (getD (0 ∷ ends) i 0) (getD end
 
 -- What some expansions leave: as many cells, and as rest of the text what was lent behind their texts.
 pub record KeepAll (cells text : List ℕ) (all : Series) : Type 0 where
+  -- there are as many cells as were lent
   pub as-many-cells : length (all .cells) ≡ length cells
+  -- the texts fit what was lent for them
   pub texts-fit : length (all .texts) ≤ length text
+  -- the rest is what was lent behind them
   pub rest-is : all .rest ≡ drop (length (all .texts)) text
 
 -- nothing is written, and the cells and the text are as lent
 pub record Untouched (cells text : List ℕ) (all : Series) : Type 0 where
+  -- the cells are as lent
   pub same-cells : all .cells ≡ cells
+  -- no text is written
   pub no-texts : all .texts ≡ []
+  -- the rest is all of the text's room
   pub same-rest : all .rest ≡ text
 
 alone-untouched : {cells text : List ℕ} {x : Expanded} {cause : Refusal} → x ≡ refused cause cells text → Untouched cells text (alone x)

@@ -206,7 +206,7 @@ module _ (table : Table) (passing : Passing table) (formula cells text : List �
   cells-kept cause u = rw (unscanned-ends table passing formula cells text u)
 
   ran : (ts : List Token) {result : Result ℕ} → RunsTo table passing formula cells text ts result → Leaves (rowsLent (length cells)) 0 cells result
-  ran ts e = subst (Leaves (rowsLent (length cells)) 0 cells) e (run-leaves (rowsLent (length cells)) (inputOf (grammarOf table) ts cells) refl (table .root) cells)
+  ran ts e = rw e at (run-leaves (rowsLent (length cells)) (inputOf (grammarOf table) ts cells) refl (table .root) cells)
 
   -- Where a term is derived within the limits, the numbers behind the cells that it costs are as lent.
   pub cells-behind : {meant : Term Name} (means-within : MeansWithin syntax formula cells meant) → Left (cellsOf means-within) cells (X .cells)

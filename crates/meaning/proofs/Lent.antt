@@ -27,7 +27,9 @@ use Rattle.meaning.proofs.Exactly.{refused-exactly, accepted-exactly, a
 
 -- two expansions answer alike and write the same text
 pub record Alike (x y : Expanded) : Type 0 where
+  -- the answers are the same
   pub answers : x .answer ≡ y .answer
+  -- so are the texts that are written
   pub texts : take (written (x .answer)) (x .text) ≡ take (written (y .answer)) (y .text)
 
 -- cells and texts of one length
