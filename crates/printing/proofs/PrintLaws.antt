@@ -90,11 +90,17 @@ module _ {pool cells numbers out : List ℕ} {depth row place : ℕ} (fits : Par
 
 -- a row is read, and what its term begins with is written
 pub record TermRow (pool cells numbers : List ℕ) (depth row place : ℕ) (out : List ℕ) (code first last end : ℕ) (out′ : List ℕ) : Type 0 where
+  -- the text of the term fits
   pub fits : PartFits pool cells numbers (termPart depth row) place out
+  -- there is depth left
   pub some : depth ≡ 0 → ⊥
+  -- the row's constructor
   pub read : code ≡ column cells row 0
+  -- its first part
   pub one : first ≡ column cells row 1
+  -- its second part
   pub two : last ≡ column cells row 2
+  -- what the text begins with is written
   pub begun : Written (termBeginning pool cells numbers depth row place) out end out′
 
 module _ {pool cells numbers out : List ℕ} {depth row place code first last end : ℕ} {out′ : List ℕ}
@@ -338,9 +344,13 @@ module _ {pool cells numbers out : List ℕ} {depth row place : ℕ} (fits : Par
 
 -- a row is read, and what its field list begins with is written
 pub record FieldsRow (pool cells numbers : List ℕ) (depth row place : ℕ) (out : List ℕ) (code end : ℕ) (out′ : List ℕ) : Type 0 where
+  -- the text of the field list fits
   pub fits : PartFits pool cells numbers (fieldsPart depth row) place out
+  -- there is depth left
   pub some : depth ≡ 0 → ⊥
+  -- the row's constructor
   pub read : code ≡ column cells row 0
+  -- what the text begins with is written
   pub begun : Written (fieldsBeginning pool cells depth row) out end out′
 
 module _ {pool cells numbers out : List ℕ} {depth row place code end : ℕ} {out′ : List ℕ} (r : FieldsRow pool cells numbers depth row place out code end out′)

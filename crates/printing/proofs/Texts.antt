@@ -36,10 +36,11 @@ mutual
 abbrev pub fieldsPrint : Fields (List ℕ) → List ℕ
 fieldsPrint f = showThen (treeOfFields f) []
 
--- the parenthesis behind the last part, and the space between two
+-- the parenthesis behind the last part
 abbrev pub close : List ℕ
 close = 0x29 ∷ []
 
+-- the space between two parts
 abbrev pub space : List ℕ
 space = 0x20 ∷ []
 
