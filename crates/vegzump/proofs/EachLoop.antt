@@ -64,12 +64,19 @@ laid answers cells text i at = record { numbers = take (i * numbersEach) answers
 -- The formulas from place i on, of which the first begins at `from`, with the cells and the text behind `at` bytes as they are, give with what is laid what
 -- all formulas give; the places of answers that are ahead are as lent.
 pub record Expanding (table formulas ends answers₀ cells₀ text₀ : List ℕ) (count : ℕ) (answers cells text : List ℕ) (i from at : ℕ) : Type 0 where
+  -- place i is no further than the last
   pub counted : i ≤ count
+  -- the room of the answers keeps its length
   pub as-many-answers : length answers ≡ length answers₀
+  -- so do the cells
   pub as-many-cells : length cells ≡ length cells₀
+  -- and so does the text
   pub as-long : length text ≡ length text₀
+  -- the texts laid are within it
   pub inside : at ≤ length text
+  -- the places of answers ahead are as lent
   pub ahead : drop (i * numbersEach) answers ≡ drop (i * numbersEach) answers₀
+  -- what is laid and what is left give what all formulas give
   pub gives : behind (laid answers cells text i at) (expandAll table formulas from (drop i (take count ends)) cells (drop at text))
       ≡ expandAll table formulas 0 (take count ends) cells₀ text₀
 
