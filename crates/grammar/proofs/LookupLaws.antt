@@ -200,8 +200,11 @@ field-lies table at e = rw e (lies-by table at (frontOf (drop at table)) (front-
 
 -- A walk over fields that gives the same at the end, at a field that is cut and at a last field of tag 0 without a value.
 pub record Walk {A : Type 0} (walk : RawFields → A) (last : A) : Type 0 where
+  -- at the end of the table
   pub at-end : (at : ℕ) → walk (end at) ≡ last
+  -- at a field that is cut
   pub at-cut : (at : ℕ) → walk (cut at) ≡ last
+  -- at a last field of tag 0 without a value
   pub at-none : (at to : ℕ) → walk (next at 0 [] (end to)) ≡ last
 
 module _ {A : Type 0} {walk : RawFields → A} {last : A} (given-walk : Walk walk last) (table : List ℕ) (at : ℕ) where
