@@ -1,6 +1,6 @@
 -- The number and values of a scan's answer are those of the rules for 14, 15 and 16.
 use Prim.Native.Nat.{ℕ}
-use mathlib.Core.Path.{_≡_, ap}
+use mathlib.Core.Path.{_≡_, refl}
 use mathlib.Core.List.{List}
 use lib.ListN.{length}
 use Rattle.grammar.specs.Table.{Lexicon}
@@ -23,8 +23,7 @@ module _ (table formula : List ℕ) where
       let lexed : Lexed = scan lex formula in
       let counted = tokens-counted lex (few-outsides table) formula e in
       let answer : lexed .answer ≡ Tokens (length (lexed .tokens)) (length (lexed .words)) = cc in
-      let tiled = accepted-exactly lex (few-outsides table) formula (lexed .tokens) (lexed .words) .0
-      (ap (λ (a : Scanned). record { answer = a; tokens = lexed .tokens; words = lexed .words }) answer) in
+      let tiled = accepted-exactly lex (few-outsides table) formula (lexed .tokens) (lexed .words) .0 (rw (← answer) refl) in
       no-refusal (tiled .0) (tiled .1) (tiled .2)
   numbered-by (Unscanned cause) e = a-refusal (refused-exactly lex (few-outsides table) formula cause .0 e)
 
