@@ -5,8 +5,8 @@ use Rattle.boundaries.proofs.lay_line.Statement.{statement}
 use Rattle.boundaries.proofs.lay_line.Tie as tie
 
 returns : tie.Need-returns
-returns c = lays-then (c .before .before .lay-label .ensures) (c .lay-saying .ensures)
+returns c = let said = c .before .before in lays-then (said .before .before .before .before .lay-label .ensures) (said .lay-saying .ensures)
 
 -- the function meets its contract
 pub lay-line-spec : {M : Type 1} → statement M
-lay-line-spec = tie.close (tie.spec (λ c κs. search needs) (λ c κs. search needs) returns)
+lay-line-spec = tie.close (tie.spec (λ c κs. search needs) (λ c κs. search needs) (λ c. search needs) returns)

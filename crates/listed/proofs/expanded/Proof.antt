@@ -10,17 +10,15 @@ returns : tie.Need-returns
 unfolding lentCells longText
 returns c =
     let expansion = c .before .before in
-    let second = expansion .before .before .before in
-    let first = second .before .before in
-    run-long (first .front .ensures) (second .front2 .ensures) (first .before .before .if1 .taken) (expansion .expand .ensures .0)
+    let cut = expansion .before .before .before in
+    run-long _ (cut .front .ensures) (cut .before .before .if1 .taken) (expansion .expand .ensures .0)
 
 returns-2 : tie.Need-returns-2
 unfolding lentCells lentText
 returns-2 c =
     let expansion = c .before .before in
-    let second = expansion .before .before .before in
-    let first = second .before .before in
-    run-short (first .front3 .ensures) (second .front4 .ensures) (first .before .before .if1 .left) (expansion .expand2 .ensures .0)
+    let cut = expansion .before .before .before in
+    run-short _ (cut .front2 .ensures) (cut .before .before .if1 .left) (expansion .expand2 .ensures .0)
 
 -- the function meets its contract
 pub expanded-spec : {M : Type 1} → statement M
@@ -28,12 +26,10 @@ expanded-spec =
     tie.close
     (tie.spec
     (λ c κs. search needs)
-    (λ c κs. search needs)
     (λ c. search needs)
     (λ c. search needs)
     (λ c κs. search needs)
     returns
-    (λ c κs. search needs)
     (λ c κs. search needs)
     (λ c. search needs)
     (λ c. search needs)
