@@ -5,8 +5,9 @@ use mathlib.Core.Bool.{Bool, true, false}
 use mathlib.Core.List.{List, [], _∷_, _++_, append-assoc, append-nil}
 use native.Mathlib.Decide.{decLe}
 use native.Mathlib.Omega.{arith}
-use lib.ListN.{length, getD, take, drop, length-append, length-take, length-drop, length-replicate, drop-of-length-le}
-use lib.Seq.{take-all, take-at, drop-drop, length-take-le}
+use lib.ListN.{length, getD, take, drop, length-append, length-take, length-drop, length-replicate, take-append-drop, drop-of-length-le}
+use lib.Seq.{take-all, take-at, drop-at, drop-drop, length-take-le}
+use borrow.Author.Tests.{lt-ltb, le-ltb}
 use Rattle.answers.specs.declared.Answer.{Answer}
 use Rattle.answers.specs.declared.Answer.the-variants.{Accepted, Refusing}
 use Rattle.spellings.specs.Bytes.{longestRun}
@@ -19,7 +20,7 @@ use Rattle.rooms.specs.Laying.{laidEnd, laid, Lays}
 use Rattle.rooms.proofs.LayingLaws.{lays-length}
 use Rattle.phrases.specs.Output.{lentCells, lentText, textLine, toldLines, told, phraseOutput}
 use Rattle.formulas.specs.declared.lines.Laid.{Laid}
-use Rattle.formulas.specs.Output.{isLineByte, unended, linesBehind, outputs, formulasOutput, Tells}
+use Rattle.formulas.specs.Output.{isLineByte, unended, linesBehind, outputs, formulasOutput, placed, extent, placedFrom, Tells}
 
 -- ------------------------------------------------------------------ one line
 
@@ -108,21 +109,21 @@ one-line : (bytes : List ℕ) → 0 < length bytes → unended bytes ≡ bytes �
 one-line [] h = absurd (omega arith)
 one-line (b ∷ bytes) h = refl
 
--- The first line of what is left is written, then the lines behind it.
-pub line-first : (table input : List ℕ) (at : ℕ) → at < length input
-    → formulasOutput table (drop at input)
-    ≡ phraseOutput table (take (run (drop at input)) (drop at input))
-    ++ formulasOutput table (drop (min (at + run (drop at input) + 1) (length input)) input)
-unfolding outputs linesBehind
-line-first table input at h = by (decLe (length (drop at input)) (run (drop at input)))
+-- The lines of what is left are the first of them, then those behind it.
+line-first : (input : List ℕ) (at : ℕ) → at < length input
+    → linesBehind [] (drop at input)
+    ≡ take (run (drop at input)) (drop at input)
+    ∷ linesBehind [] (drop (min (at + run (drop at input) + 1) (length input)) input)
+unfolding linesBehind
+line-first input at h = by (decLe (length (drop at input)) (run (drop at input)))
   where
     many : length (drop at input) ≡ length input - at
     many = length-drop at input
 
     by : Dec (length (drop at input) ≤ run (drop at input))
-        → formulasOutput table (drop at input)
-        ≡ phraseOutput table (take (run (drop at input)) (drop at input))
-        ++ formulasOutput table (drop (min (at + run (drop at input) + 1) (length input)) input)
+        → linesBehind [] (drop at input)
+        ≡ take (run (drop at input)) (drop at input)
+        ∷ linesBehind [] (drop (min (at + run (drop at input) + 1) (length input)) input)
     by (yes all) =
         let behind : length input ≤ min (at + run (drop at input) + 1) (length input) = omega (arith, many) in
         rw (
@@ -139,19 +140,41 @@ line-first table input at h = by (decLe (length (drop at input)) (run (drop at i
 
 -- ------------------------------------------------------------------ the room
 
--- a part that fits behind what was laid stands there whole
+-- a part that fits behind what was laid stands there whole, and behind it nothing is changed
 lays-behind : {out : List ℕ} {n : ℕ} {part : List ℕ} {end : ℕ} {out′ : List ℕ} → Lays out n part end out′ → n + length part ≤ length out
-    → (end ≡ n + length part) × (take end out′ ≡ take n out ++ part) × (length out′ ≡ length out)
+    → (end ≡ n + length part) × (take end out′ ≡ take n out ++ part) × (drop end out′ ≡ drop end out) × (length out′ ≡ length out)
 unfolding laidEnd laid
 lays-behind {out} {n} {part} {end} {out′} lays fits =
     let e : end ≡ n + length part = omega (arith, lays .end) in
     let all : length (take n out ++ part) ≡ end = simp (length-append, length-take) (omega arith) in
     let put : out′ ≡ take end (take n out ++ part) ++ drop end out = cc (lays .put, lays .end) in
     let whole : take end (take n out ++ part) ≡ take n out ++ part = take-all end (take n out ++ part) (omega arith) in
-    let is : out′ ≡ (take n out ++ part) ++ drop end out = cc (put, whole) in
-    (e, rw is (take-at (take n out ++ part) (drop end out) end all), lays-length lays)
+    let is : out′ ≡ (take n out ++ part) ++ drop end out = cc (put, whole) in (
+      e,
+      rw is (take-at (take n out ++ part) (drop end out) end all),
+      rw is (drop-at (take n out ++ part) (drop end out) end all),
+      lays-length lays,
+    )
 
--- The lines before an offset are laid, and with those from it on they give what all lines from the first offset on give.
+-- a line that has place is laid before the others
+placed-more : (table : List ℕ) (place : ℕ) (line : List ℕ) (lines : List (List ℕ)) → 65664 ≤ place
+    → placed table place (line ∷ lines) ≡ line ∷ placed table (place - length (phraseOutput table line)) lines
+unfolding placed
+placed-more table place line lines h = rw (le-ltb place 65664 h, placed) refl
+
+-- without place none is laid
+placed-none : (table : List ℕ) (place : ℕ) (lines : List (List ℕ)) → place < 65664 → placed table place lines ≡ []
+unfolding placed
+placed-none table place [] h = refl
+placed-none table place (line ∷ lines) h = rw (lt-ltb place 65664 h, placed) refl
+
+-- where no byte is left, no line is
+placed-end : (table : List ℕ) (place : ℕ) (input : List ℕ) {at : ℕ} → length input ≤ at → placed table place (linesBehind [] (drop at input)) ≡ []
+unfolding placed linesBehind
+placed-end table place input h = rw (drop-of-length-le input h) refl
+
+-- The lines before an offset are laid, and with those from it on they give what all lines from the first offset on give: those that have place, where these
+-- end, and all that is to be written. What is behind the bytes laid is as it was.
 pub record Telling (table input : List ℕ) (from : ℕ) (out₀ : List ℕ) (out : List ℕ) (at n : ℕ) : Type 0 where
   -- where something is laid, a line was read
   pub moved : 0 < n → from < at
@@ -163,6 +186,15 @@ pub record Telling (table input : List ℕ) (from : ℕ) (out₀ : List ℕ) (ou
   pub as-long : length out ≡ length out₀
   -- what is laid is within it
   pub within : n ≤ length out
+  -- what lies behind is as it was
+  pub behind : drop n out ≡ drop n out₀
+  -- the lines that have place end at the same offset
+  pub reaches :
+      min (length input) (from + extent (placedFrom table input from out₀))
+      ≡ min (length input) (at + extent (placed table (length out₀ - n) (linesBehind [] (drop at input))))
+  -- what is laid and what still has place give what all lines with place give
+  pub tells :
+      outputs table (placedFrom table input from out₀) ≡ take n out ++ outputs table (placed table (length out₀ - n) (linesBehind [] (drop at input)))
   -- what is laid and what is left give what all lines give
   pub gives : formulasOutput table (drop from input) ≡ take n out ++ formulasOutput table (drop at input)
 
@@ -170,43 +202,77 @@ module _ (table input : List ℕ) (from : ℕ) (out₀ : List ℕ) where
   -- nothing is laid yet
   pub telling-start : from ≤ length input → Telling table input from out₀ out₀ from 0
   telling-start h =
-      record { moved = λ none. absurd (omega arith); begun = omega arith; inside = h; as-long = refl; within = omega arith; gives = refl }
+      let all : length out₀ - 0 ≡ length out₀ = omega arith in
+      record {
+        moved = λ none. absurd (omega arith);
+        begun = omega arith;
+        inside = h;
+        as-long = refl;
+        within = omega arith;
+        behind = refl;
+        reaches = rw all refl;
+        tells = rw all refl;
+        gives = refl;
+      }
 
   module _ {out : List ℕ} {at n : ℕ} (before : Telling table input from out₀ out at n) where
     -- a line is laid behind those before
-    pub telling-next : at < length input → {stop : ℕ} → stop ≡ at + run (drop at input) → {end : ℕ} {out′ : List ℕ}
+    pub telling-next : at < length input → 65664 ≤ length out - n → {stop : ℕ} → stop ≡ at + run (drop at input) → {end : ℕ} {out′ : List ℕ}
         → Lays out n (phraseOutput table (take (stop - at) (drop at input))) end out′
         → n + length (phraseOutput table (take (stop - at) (drop at input))) ≤ length out
         → {next : ℕ} → next ≡ min (stop + 1) (length input)
         → Telling table input from out₀ out′ next end
-    telling-next h {stop} runs {end} {out′} lays fits {next} ends =
-        let (e, put, long) = lays-behind lays fits in
+    unfolding outputs extent
+    telling-next h place {stop} runs {end} {out′} lays fits {next} ends =
+        let (e, put, kept, long) = lays-behind lays fits in
+        let line : List ℕ = take (stop - at) (drop at input) in
         let size : stop - at ≡ run (drop at input) = omega arith in
-        let own : take (stop - at) (drop at input) ≡ take (run (drop at input)) (drop at input) = rw size refl in
         let moves : next ≡ min (at + run (drop at input) + 1) (length input) = omega arith in
+        let first : linesBehind [] (drop at input) ≡ line ∷ linesBehind [] (drop next input) = rw (size, moves) (line-first input at h) in
+        let left : length out₀ - n - length (phraseOutput table line) ≡ length out₀ - end = omega arith in
+        let more : placed table (length out₀ - n) (linesBehind [] (drop at input)) ≡ line ∷ placed table (length out₀ - end) (linesBehind [] (drop next input)) =
+        rw (first, ← left) (placed-more table (length out₀ - n) line (linesBehind [] (drop next input)) (omega (arith, before .as-long))) in
+        let bytes : length line ≡ stop - at =
+        length-take-le (stop - at) (drop at input) (omega (arith, run-within (drop at input))) in
+        let far : end ≡ n + (end - n) = omega arith in
         record {
           moved = λ some. omega (arith, before .begun);
           begun = omega (arith, before .begun);
           inside = omega arith;
           as-long = long ∙ before .as-long;
           within = omega arith;
+          behind =
+              kept
+              ∙ rw (far, ← drop-drop (end - n) n out, ← drop-drop (end - n) n out₀) (ap (drop (end - n)) (before .behind));
+          reaches = before .reaches ∙ rw more (omega arith);
+          tells =
+              before .tells
+              ∙ rw (more, put)
+              (sym (append-assoc (take n out) (phraseOutput table line) (outputs table (placed table (length out₀ - end) (linesBehind [] (drop next input))))));
           gives =
-              before .gives
-              ∙ rw (line-first table input at h, ← own, ← moves, put)
-              (sym (append-assoc (take n out) (phraseOutput table (take (stop - at) (drop at input))) (formulasOutput table (drop next input))));
+              before .gives ∙ rw (first, put) (sym (append-assoc (take n out) (phraseOutput table line) (formulasOutput table (drop next input))));
+        }
+
+    -- where no more lines are laid
+    laid-all : placed table (length out₀ - n) (linesBehind [] (drop at input)) ≡ [] → (from < length input → from < at)
+        → Tells table input from out₀ (record { next = at; size = n }) out
+    unfolding outputs extent
+    laid-all none forward =
+        let all : outputs table (placedFrom table input from out₀) ≡ take n out = rw (none, append-nil) at (before .tells) in
+        let ends : min (length input) (from + extent (placedFrom table input from out₀)) ≡ min (length input) (at + 0) = rw none at (before .reaches) in
+        record {
+          goes-on = omega (arith, ends, before .inside);
+          many = rw all (sym (length-take-le n out (before .within)));
+          put = rw (all, ← before .behind) (sym (take-append-drop n out));
+          forward = forward;
+          gives = before .gives;
         }
 
     -- where no line is left
     pub telling-end : length input ≤ at → Tells table input from out₀ (record { next = at; size = n }) out
-    telling-end h =
-        record { forward = λ some. omega arith; inside = before .inside; within = omega (arith, before .within, before .as-long); gives = before .gives }
+    telling-end h = laid-all (placed-end table (length out₀ - n) input h) (λ some. omega arith)
 
     -- where the room has no place for another, some are told
-    pub telling-full : 0 < n → Tells table input from out₀ (record { next = at; size = n }) out
-    telling-full some =
-        record {
-          forward = λ any. before .moved some;
-          inside = before .inside;
-          within = omega (arith, before .within, before .as-long);
-          gives = before .gives;
-        }
+    pub telling-full : 0 < n → length out - n < 65664 → Tells table input from out₀ (record { next = at; size = n }) out
+    telling-full some full =
+        laid-all (placed-none table (length out₀ - n) (linesBehind [] (drop at input)) (omega (arith, before .as-long))) (λ any. before .moved some)

@@ -16,10 +16,10 @@ loop-less : tie.Need-loop-less Inv-loop μ-loop
 loop-less c =
     let laid = c .before .before in
     let told = laid .lay-lines .ensures in
-    omega (arith, told .forward (laid .before .before .loop-test .taken), told .inside)
+    omega (arith, told .forward (laid .before .before .loop-test .taken), told .goes-on)
 
 loop-again : tie.Need-loop-again Inv-loop μ-loop
-loop-again c = c .before .before .lay-lines .ensures .inside
+loop-again c = omega (arith, c .before .before .lay-lines .ensures .goes-on)
 
 -- the function meets its contract
 pub tell-spec : {M : Type 1} → statement M

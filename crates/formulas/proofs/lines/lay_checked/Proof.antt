@@ -17,15 +17,15 @@ loop-holds : tie.Need-loop-holds Inv-loop μ-loop
 loop-holds c = laws.telling-start _ _ _ _ (search needs)
 
 returns : tie.Need-returns Inv-loop μ-loop
-returns c = laws.telling-full _ _ _ _ (c .before .before .loop .inv) (search needs)
+returns c = laws.telling-full _ _ _ _ (c .before .before .loop .inv) (search needs) (search needs)
 
 loop-again : tie.Need-loop-again Inv-loop μ-loop
 loop-again c =
     let laid = c .before .before .before in
     let cut = laid .before .before .before .before .before in
     let turn = cut .before .before in
-    laws.telling-next _ _ _ _ (turn .before .loop .inv) (turn .loop-test .taken) (cut .line-end .ensures .0) (laid .lay-line .ensures .0)
-    (omega (arith, laid .lay-line .ensures .1, cut .before .if1 .left)) (c .next-line .ensures)
+    laws.telling-next _ _ _ _ (turn .before .loop .inv) (turn .loop-test .taken) (omega (arith, cut .before .if1 .left)) (cut .line-end .ensures .0)
+    (laid .lay-line .ensures .0) (omega (arith, laid .lay-line .ensures .1, cut .before .if1 .left)) (c .next-line .ensures)
 
 returns-2 : tie.Need-returns-2 Inv-loop μ-loop
 returns-2 c = laws.telling-end _ _ _ _ (c .before .loop .inv) (c .loop-test .left)
