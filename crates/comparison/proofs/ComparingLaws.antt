@@ -14,9 +14,12 @@ use Rattle.answers.specs.Refusals.{numbered}
 use Rattle.meaning.specs.Expand.{Expanded, expanded, expand}
 use Rattle.reports.specs.declared.lines.Compared.{Compared}
 use Rattle.reports.specs.declared.lines.Compared.the-variants.{Same, OtherAnswer, OtherRooms}
-use Rattle.reports.specs.Lines.{sameRefusal}
+use Rattle.reports.specs.declared.lines.Tally.{Tally}
+use Rattle.reports.specs.Lines.{sameRefusal, comparedLine, tallyLine}
+use Rattle.rooms.specs.Laying.{Lays}
 use Rattle.cases.specs.declared.case.Case.{Case}
 use Rattle.cases.specs.Cases.{tableOf, formulaOf, leftAsExpected}
+use Rattle.cases.specs.Tallies.{tallied, casesIn}
 use Rattle.comparison.specs.Comparing.{expandedIn, judged, comparedIn, differs, counts}
 
 front-is : (room : List ℕ) (asked : ℕ) {count : ℕ} → count ≡ min asked (length room) → take count room ≡ take asked room
@@ -69,3 +72,16 @@ module _ (file : List ℕ) (c : Case) {whole : Expanded} {answer : Answer} {cell
 pub counted : {compares test differing : Bool} → compares ≡ true → test ≡ differing → {value : Bool} → test ≡ value
     → oneIf value ≡ oneIf (compares && differing)
 counted e d t = rw (e, ← d, t) refl
+
+module _ {room room′ : List ℕ} {r : ℕ} where
+  -- the line laid for what was found is that of what there is to find
+  pub case-laid : (index : ℕ) (expected : Refusal) {found is : Compared} → found ≡ is → Lays room 0 (comparedLine index expected found) r room′
+      → Lays room 0 (comparedLine index expected is) r room′
+  case-laid index expected e lays = rw (← e) lays
+
+  -- the same of what the cases of a file come to
+  pub run-laid : {file front : List ℕ} {found : Tally} → front ≡ file → found ≡ tallied (differs front) (casesIn front)
+      → Lays room 0 (tallyLine found) r room′ → Lays room 0 (tallyLine (tallied (differs file) (casesIn file))) r room′
+  run-laid {file} {front} {found} same e lays =
+      let is : found ≡ tallied (differs file) (casesIn file) = e ∙ ap (λ (x : List ℕ). tallied (differs x) (casesIn x)) same in
+      rw (← is) lays
