@@ -230,7 +230,8 @@ module _ (table input : List ℕ) (from : ℕ) (out₀ : List ℕ) where
         let moves : next ≡ min (at + run (drop at input) + 1) (length input) = omega arith in
         let first : linesBehind [] (drop at input) ≡ line ∷ linesBehind [] (drop next input) = rw (size, moves) (line-first input at h) in
         let left : length out₀ - n - length (phraseOutput table line) ≡ length out₀ - end = omega arith in
-        let more : placed table (length out₀ - n) (linesBehind [] (drop at input)) ≡ line ∷ placed table (length out₀ - end) (linesBehind [] (drop next input)) =
+        let rest : List (List ℕ) = placed table (length out₀ - end) (linesBehind [] (drop next input)) in
+        let more : placed table (length out₀ - n) (linesBehind [] (drop at input)) ≡ line ∷ rest =
         rw (first, ← left) (placed-more table (length out₀ - n) line (linesBehind [] (drop next input)) (omega (arith, before .as-long))) in
         let bytes : length line ≡ stop - at =
         length-take-le (stop - at) (drop at input) (omega (arith, run-within (drop at input))) in
@@ -248,7 +249,7 @@ module _ (table input : List ℕ) (from : ℕ) (out₀ : List ℕ) where
           tells =
               before .tells
               ∙ rw (more, put)
-              (sym (append-assoc (take n out) (phraseOutput table line) (outputs table (placed table (length out₀ - end) (linesBehind [] (drop next input))))));
+              (sym (append-assoc (take n out) (phraseOutput table line) (outputs table rest)));
           gives =
               before .gives ∙ rw (first, put) (sym (append-assoc (take n out) (phraseOutput table line) (formulasOutput table (drop next input))));
         }

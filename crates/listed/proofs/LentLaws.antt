@@ -20,7 +20,7 @@ use Rattle.boundaries.specs.declared.Table.{Table}
 use Rattle.boundaries.specs.Lines.{times, between, formulaBytes, firstLines, lineAt, labelAt, differs, saying}
 use Rattle.phrases.specs.Output.{lentCells, lentText}
 use Rattle.listed.specs.declared.Told.{Told}
-use Rattle.listed.specs.Lent.{longText, expandedIn, answerAt, differsAt, toldAt, Files, bytesOf, tableAt, toldTo, differTo, listedOutput, Tells}
+use Rattle.listed.specs.Lent.{longText, expandedIn, answerAt, differsAt, Files, bytesOf, tableAt, toldTo, differTo, listedOutput, Tells}
 
 module _ (table : List ℕ) {long : Bool} {y formula cells text : List ℕ} {answer : Answer} (ey : y ≡ formula) where
   -- with the longer text
@@ -91,7 +91,8 @@ answered-by i table {room} {line} {m} {answer} is lays e =
 module _ (i : ℕ) {table : List ℕ} {line : Line} {found : Answer} (is : line ≡ lineAt i) (e : found ≡ answerAt i table) {told r : Told} {out out′ : List ℕ}
     (lays : Lays out (told .size) (labelAt i ++ saying (line .expected) found) (r .size) out′) where
   -- a line that is told, and counted by a test
-  pub tells : {test value : Bool} → test ≡ differs (line .expected) found → test ≡ value → r .differ ≡ told .differ + oneIf value → Tells i table told out r out′
+  pub tells : {test value : Bool} → test ≡ differs (line .expected) found → test ≡ value → r .differ ≡ told .differ + oneIf value
+      → Tells i table told out r out′
   tells {test} {value} et t counted =
       let same : differs (line .expected) found ≡ differsAt i table = rw (is, e) refl in
       let own : value ≡ differsAt i table = sym t ∙ et ∙ same in

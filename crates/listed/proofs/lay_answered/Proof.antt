@@ -10,13 +10,15 @@ returns : tie.Need-returns
 returns c =
     let laid = c .before .before .before .before in
     let found = laid .before .before in
-    laws.tells _ (found .before .line-at .ensures) (found .answered .ensures) (laid .lay-line .ensures) (c .before .differs .ensures) (c .if1 .taken) refl
+    laws.tells _ (found .before .line-at .ensures) (found .answered .ensures) (laid .lay-line .ensures) (c .before .differs .ensures) (c .if1 .taken)
+    refl
 
 returns-2 : tie.Need-returns-2
 returns-2 c =
     let laid = c .before .before .before .before in
     let found = laid .before .before in
-    laws.tells _ (found .before .line-at .ensures) (found .answered .ensures) (laid .lay-line .ensures) (c .before .differs .ensures) (c .if1 .left) (omega arith)
+    laws.tells _ (found .before .line-at .ensures) (found .answered .ensures) (laid .lay-line .ensures) (c .before .differs .ensures) (c .if1 .left)
+    (omega arith)
 
 -- the function meets its contract
 pub lay-answered-spec : {M : Type 1} → statement M
