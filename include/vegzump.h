@@ -21,7 +21,7 @@ extern "C" {
 
 /* Bytes of stack: at every limit of the language, and for the formulas of a kitchen's day. As tests/stack measures them. */
 #define VEGZUMP_STACK 3670016u
-#define VEGZUMP_STACK_ORDINARY 307200u
+#define VEGZUMP_STACK_ORDINARY 196608u
 
 /* As much as a call ever reads or makes. Longer tables and formulas are refused; more cells or text may be lent, and are left as they were. */
 #define VEGZUMP_TABLE_BYTES 16384u
