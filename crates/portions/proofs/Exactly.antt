@@ -1,12 +1,16 @@
 -- The list of portions is the one that the rules give, and has three numbers for each of the term's.
-use Prim.Native.Nat.{ℕ, _+_, _*_, _/_, _%_, _<_, _≤_}
+use Prim.Native.Nat.{ℕ, zero, suc, _+_, _*_, _/_, _%_, _<_, _≤_}
 use mathlib.Core.Path.{_≡_, refl, sym, ap, _∙_}
+use mathlib.Core.Bool.{Bool, true, false}
 use mathlib.Core.Logic.{_↔_}
 use mathlib.Core.List.{List, [], _∷_, _++_}
 use native.Mathlib.Nat.{div-add-mod', mod-lt, mul-add-div-right, mul-add-mod-self-right, mod-eq-of-lt, div-eq-of-lt, add-zero}
 use native.Mathlib.Omega.{arith}
 use lib.ListN.{length, length-append}
+use Rattle.terms.specs.Cells.{column}
 use Rattle.terms.specs.Term.{Name, Term, Fields, variable, function, apply, rcd, dot, number, nil, cons, size, sizeFields}
+use Rattle.terms.specs.Rows.{Constructor, varRow, funRow, appRow, rcdRow, dotRow, nilRow, consRow, numRow, constructorOf}
+use Rattle.terms.specs.Rows.{termBy, isCons, fieldsBy, termAt, fieldListAt}
 use Rattle.portions.specs.Portions.{numbers, numbersFields, entriesFor, portionsOf}
 use Rattle.portions.specs.Portioned.{Portioned, a-number, a-variable, a-function, an-application, a-record, a-selection}
 use Rattle.portions.specs.Portioned.{PortionedFields, no-field, a-field}
@@ -40,6 +44,49 @@ mutual
   numbers-fields-few : {N : Type 0} (f : Fields N) → length (numbersFields f) ≤ sizeFields f
   numbers-fields-few nil = omega arith
   numbers-fields-few (cons l t f) = omega (arith, length-append (numbers t) (numbersFields f), numbers-few t, numbers-fields-few f)
+
+-- ------------------------------------------------------------------ numbers do not depend on spellings
+
+module _ (spell spell′ : ℕ → List ℕ) (cells : List ℕ) where
+  abbrev Same : ℕ → ℕ → Type 0
+  Same depth row = numbers (termAt depth spell cells row) ≡ numbers (termAt depth spell′ cells row)
+
+  abbrev SameFields : ℕ → ℕ → Type 0
+  SameFields depth row = numbersFields (fieldListAt depth spell cells row) ≡ numbersFields (fieldListAt depth spell′ cells row)
+
+  same-by : (constructed : Constructor) (depth row : ℕ) → ((part : ℕ) → Same depth part) → ((part : ℕ) → SameFields depth part)
+      → numbers (termBy constructed spell cells row (λ q. termAt depth spell cells q) (λ q. fieldListAt depth spell cells q))
+      ≡ numbers (termBy constructed spell′ cells row (λ q. termAt depth spell′ cells q) (λ q. fieldListAt depth spell′ cells q))
+  unfolding numbers termBy
+  same-by varRow depth row t f = refl
+  same-by funRow depth row t f = t (column cells row 2)
+  same-by appRow depth row t f = cc (t (column cells row 1), t (column cells row 2))
+  same-by rcdRow depth row t f = f (column cells row 1)
+  same-by dotRow depth row t f = t (column cells row 1)
+  same-by nilRow depth row t f = refl
+  same-by consRow depth row t f = refl
+  same-by numRow depth row t f = refl
+
+  same-by-fields : (more : Bool) (depth row : ℕ) → ((part : ℕ) → Same depth part) → ((part : ℕ) → SameFields depth part)
+      → numbersFields (fieldsBy more spell cells row (λ q. termAt depth spell cells q) (λ q. fieldListAt depth spell cells q))
+      ≡ numbersFields (fieldsBy more spell′ cells row (λ q. termAt depth spell′ cells q) (λ q. fieldListAt depth spell′ cells q))
+  unfolding numbersFields fieldsBy
+  same-by-fields true depth row t f = cc (t (column cells row 2), f (column cells row 3))
+  same-by-fields false depth row t f = refl
+
+  mutual
+    unfolding termAt fieldListAt
+
+    -- How names are spelled does not matter to the numbers.
+    pub numbers-spell : (depth row : ℕ) → Same depth row
+    numbers-spell zero row = refl
+    numbers-spell (suc depth) row =
+        same-by (constructorOf (column cells row 0)) depth row (λ q. numbers-spell depth q) (λ q. numbers-spell-fields depth q)
+
+    numbers-spell-fields : (depth row : ℕ) → SameFields depth row
+    numbers-spell-fields zero row = refl
+    numbers-spell-fields (suc depth) row =
+        same-by-fields (isCons (constructorOf (column cells row 0))) depth row (λ q. numbers-spell depth q) (λ q. numbers-spell-fields depth q)
 
 -- ------------------------------------------------------------------ by rules
 

@@ -18,9 +18,9 @@ use Rattle.terms.specs.Rows.{termAt, fieldListAt}
 use Rattle.rows.specs.Sizes.{noSpell, rowsHeld}
 use Rattle.rows.proofs.ListLaws.{sets-append}
 use Rattle.rows.proofs.RowLaws as rows
-use Rattle.portions.specs.Portions.{numbers, numbersFields, entriesFor}
+use Rattle.portions.specs.Portions.{numbers, numbersFields, entriesFor, portionsOf}
 use Rattle.portions.specs.Lists.{entriesAt, fieldEntriesAt, EntryFits, TermFits, FieldsFit, Wrote, Portionable, Listed}
-use Rattle.portions.proofs.Exactly.{entries-append, entries-length, numbers-few}
+use Rattle.portions.proofs.Exactly.{entries-append, entries-length, numbers-few, numbers-spell}
 
 -- ------------------------------------------------------------------ writing
 
@@ -249,6 +249,12 @@ module _ {written wanted : ℕ} {cells : List ℕ} {depth row at : ℕ} (m : Fie
         cons-wrote w′ = rw cons-entries (wrote-then w w′)
 
 -- ------------------------------------------------------------------ a whole term
+
+-- The entries of a row are the portions of its term, however names are spelled.
+pub entries-portions : (written wanted : ℕ) (cells : List ℕ) (depth row : ℕ) (spell : ℕ → List ℕ)
+    → entriesAt written wanted cells depth row ≡ portionsOf written wanted (termAt depth spell cells row)
+unfolding entriesAt
+entries-portions written wanted cells depth row spell = ap (entriesFor written wanted) (numbers-spell noSpell spell cells depth row)
 
 module _ {written wanted : ℕ} {cells : List ℕ} {root : ℕ} (m : Portionable written wanted cells root) where
   abbrev All : List ℕ
