@@ -125,7 +125,8 @@ module _ (write : Term Name → List ℕ) (table : Table) (passing : Passing tab
       record { means = means-within; passes = p; fits = b; cells-are = (cc); size-is = (cc); length-is = (cc) }
 
   accepts-of : {expanded : Expanded} {made constructors text-size : ℕ} → Stage table passing formula cells write text expanded
-      → expanded .answer ≡ Accepted made constructors text-size → (meant : Term Name) × Accepts write syntax formula cells text meant made constructors text-size
+      → expanded .answer ≡ Accepted made constructors text-size
+      → (meant : Term Name) × Accepts write syntax formula cells text meant made constructors text-size
   accepts-of (in-scan u) e = never (sym e)
   accepts-of (in-parse S h k) e = never (sym e)
   accepts-of (at-last {core-term = u} E R f) e = (u, accepts-last E f e)
@@ -155,7 +156,8 @@ module _ (write : Term Name → List ℕ) (table : Table) (passing : Passing tab
       → X .text ≡ write meant ++ drop (length (write meant)) text
   accepted-text made constructors text-size = text-of (stages table passing formula cells write text)
 
-  finish-cells : {made : ℕ} {meant : Term Name} {cells′ : List ℕ} {expanded : Expanded} → Finish write made meant cells′ text expanded → expanded .cells ≡ cells′
+  finish-cells : {made : ℕ} {meant : Term Name} {cells′ : List ℕ} {expanded : Expanded} → Finish write made meant cells′ text expanded
+      → expanded .cells ≡ cells′
   finish-cells (is-refused j) = refl
   finish-cells (too-long p b) = refl
   finish-cells (prints p b) = refl

@@ -31,7 +31,8 @@ pub record Alike (x y : Expanded) : Type 0 where
   pub texts : take (written (x .answer)) (x .text) ≡ take (written (y .answer)) (y .text)
 
 -- cells and texts of one length
-module _ (write : Term Name → List ℕ) (formula cells cells′ text text′ : List ℕ) (as-many : length cells ≡ length cells′) (as-long : length text ≡ length text′) where
+module _ (write : Term Name → List ℕ) (formula cells cells′ text text′ : List ℕ) (as-many : length cells ≡ length cells′)
+    (as-long : length text ≡ length text′) where
   module _ (syntax : Syntax) where
     abbrev within : {meant : Term Name} → MeansWithin syntax formula cells meant → MeansWithin syntax formula cells′ meant
     within means = record { means = means .means; affords = rw as-many at (means .affords) }
@@ -64,7 +65,8 @@ module _ (write : Term Name → List ℕ) (formula cells cells′ text text′ :
     by-answer : (answer : Answer) → X .answer ≡ answer → Alike X X′
     by-answer (Refusing r) e =
         let e′ : X′ .answer ≡ Refusing r =
-        refused-exactly write table passing formula cells′ text′ r .1 (cause-lent (syntaxOf table) (refused-exactly write table passing formula cells text r .0 e)) in
+        refused-exactly write table passing formula cells′ text′ r .1
+        (cause-lent (syntaxOf table) (refused-exactly write table passing formula cells text r .0 e)) in
         record { answers = e ∙ sym e′; texts = rw (e, e′) refl }
     by-answer (Accepted made size bytes) e =
         let (meant, A) = accepted-exactly write table passing formula cells text made size bytes .0 e in
@@ -78,11 +80,13 @@ module _ (write : Term Name → List ℕ) (formula cells cells′ text text′ :
         record { answers = e ∙ sym e′; texts = rw (e, e′) (t ∙ sym t′) }
 
   -- The answer of an expansion and the text that it writes depend on how many cells and how much text are lent, and not on what they held.
-  pub lent-alike : (table : List ℕ) → ((at : ℕ) → getD table at 0 < 256) → Alike (expandBy write table formula cells text) (expandBy write table formula cells′ text′)
+  pub lent-alike : (table : List ℕ) → ((at : ℕ) → getD table at 0 < 256)
+      → Alike (expandBy write table formula cells text) (expandBy write table formula cells′ text′)
   lent-alike table bytes = go (check table) refl
     where
       go : (given : Verdict) → check table ≡ given → Alike (expandBy write table formula cells text) (expandBy write table formula cells′ text′)
-      go (Refused r) e = rw (expand-refused write table e formula cells text, expand-refused write table e formula cells′ text′) (record { answers = refl; texts = refl })
+      go (Refused r) e =
+          rw (expand-refused write table e formula cells text, expand-refused write table e formula cells′ text′) (record { answers = refl; texts = refl })
       go Passed e =
           let passes : Passes table = check-exactly table bytes .0 e in
           rw (expand-passed write table passes formula cells text, expand-passed write table passes formula cells′ text′)

@@ -12,14 +12,21 @@ ghost use Prim.Native.Nat.{_<_};
 ghost use mathlib.Core.Path.{_≡_};
 ghost use mathlib.Core.List.{[], _∷_};
 ghost use Rattle.rows.specs.Sizes.{rowsHeld};
-ghost use Rattle.portions.specs.Portions.{entriesFor};
+ghost use Rattle.portions.specs.Portions.{entriesFor, areCounts};
 ghost use Rattle.portions.specs.Lists.{entriesAt, fieldEntriesAt, EntryFits, TermFits, FieldsFit, Wrote, Portionable, Listed};
 
 // The most portions that may be written or wanted.
-pub const MOST_PORTIONS: u64 = 10_000;
+const MOST_PORTIONS: u64 = 10_000;
 
 // The numbers of an entry: the number, the whole grams and the remainder.
 const ENTRY: usize = 3;
+
+// Whether portions may be written and wanted in these counts: from 1 to 10,000.
+pub fn are_counts(written: u64, wanted: u64) -> bool
+    ensures { λ r. ⌜ r ≡ areCounts written wanted ⌝ }
+{
+    (1 <= written) & (written <= MOST_PORTIONS) & ((1 <= wanted) & (wanted <= MOST_PORTIONS))
+}
 
 fn wide(n: u32) -> u64
     ensures { λ r. ⌜ (r ≡ n) × (r < 4294967296) ⌝ }

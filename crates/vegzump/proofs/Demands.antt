@@ -42,7 +42,7 @@ use Rattle.terms.specs.Term.{Name, Term}
 use Rattle.terms.specs.Cells.{columns, column, rowsLent}
 use Rattle.terms.specs.Rows.{termAt}
 use Rattle.terms.specs.Print.{print}
-use Rattle.meaning.specs.Expand.{Expanded, expanded, expandBy, expand}
+use Rattle.meaning.specs.Expand.{Expanded, expanded, expandTable, expandBy, expand}
 use Rattle.meaning.specs.Naming.{Named}
 use Rattle.meaning.specs.Each.{written}
 use Rattle.meaning.specs.Meaning.{Scans, spellOf, Means, MeansWithin, cellsOf, Cause, Accepts}
@@ -98,14 +98,18 @@ module _ (write : Term Name → List ℕ) (table formula cells text : List ℕ) 
     abbrev pub syntax : Syntax
     syntax = syntaxOf (passes .table)
 
+    -- The expansion is that of the syntax.
+    by-syntax : X ≡ expandTable write syntax formula cells text
+    by-syntax = expand-passed write table passes formula cells text
+
     -- A refusal is given exactly in its case of document 01's table of causes, with the values listed there.
     pub refused-exactly : (refusal : Refusal) → (X .answer ≡ Refusing refusal) ↔ Cause write syntax formula cells text refusal
-    refused-exactly = rw (expand-passed write table passes formula cells text) (exactly.refused-exactly write (passes .table) (passingOf passes) formula cells text)
+    refused-exactly = rw by-syntax (exactly.refused-exactly write (passes .table) (passingOf passes) formula cells text)
 
     -- A formula is accepted exactly if Figure 3 derives a term that `Accepts` asks for; `made`, `size`, `bytes`: its cells, constructors, bytes.
     pub accepted-exactly : (made size bytes : ℕ)
         → (X .answer ≡ Accepted made size bytes) ↔ ((meant : Term Name) × Accepts write syntax formula cells text meant made size bytes)
-    accepted-exactly = rw (expand-passed write table passes formula cells text) (exactly.accepted-exactly write (passes .table) (passingOf passes) formula cells text)
+    accepted-exactly = rw by-syntax (exactly.accepted-exactly write (passes .table) (passingOf passes) formula cells text)
 
     -- Figure 3 derives one term at most.
     pub one-term : {meant other : Term Name} → Means syntax formula meant → Means syntax formula other → meant ≡ other
@@ -114,27 +118,27 @@ module _ (write : Term Name → List ℕ) (table formula cells text : List ℕ) 
     -- What is written of that term stands in the text of an acceptance, with what was lent behind it.
     pub accepted-text : (made size bytes : ℕ) → X .answer ≡ Accepted made size bytes → {meant : Term Name}
         → Means syntax formula meant → X .text ≡ write meant ++ drop (length (write meant)) text
-    accepted-text = rw (expand-passed write table passes formula cells text) (exactly.accepted-text write (passes .table) (passingOf passes) formula cells text)
+    accepted-text = rw by-syntax (exactly.accepted-text write (passes .table) (passingOf passes) formula cells text)
 
     -- A row of those made shows that term, whatever the other rows held, and each row made has the code of a constructor.
     pub accepted-cells : (made size bytes : ℕ) → X .answer ≡ Accepted made size bytes → {meant : Term Name} (means : Means syntax formula meant)
         → ((row : ℕ) × (row < made) × (termAt made (spellOf syntax (means .words)) (take (made * columns) (X .cells)) row ≡ meant))
         × ((row : ℕ) → row < made → (0x20 ≤ column (X .cells) row 0) × (column (X .cells) row 0 ≤ 0x27))
-    accepted-cells = rw (expand-passed write table passes formula cells text) (exactly.accepted-cells write (passes .table) (passingOf passes) formula cells text)
+    accepted-cells = rw by-syntax (exactly.accepted-cells write (passes .table) (passingOf passes) formula cells text)
 
     -- 14, 15 and 16 leave the cells as they were, too.
     pub cells-kept : (refusal : Refusal) → Unscans (syntax .lexicon) formula refusal → X .cells ≡ cells
-    cells-kept = rw (expand-passed write table passes formula cells text) (exactly.cells-kept write (passes .table) (passingOf passes) formula cells text)
+    cells-kept = rw by-syntax (exactly.cells-kept write (passes .table) (passingOf passes) formula cells text)
 
     -- Acceptance, 22, 23 and 24 leave the cells behind those that the term costs.
     pub cells-behind : {meant : Term Name} (means-within : MeansWithin syntax formula cells meant) → Left (cellsOf means-within) cells (X .cells)
-    cells-behind within = rw (expand-passed write table passes formula cells text) (exactly.cells-behind write (passes .table) (passingOf passes) formula cells text within)
+    cells-behind within = rw by-syntax (exactly.cells-behind write (passes .table) (passingOf passes) formula cells text within)
 
     -- 17 to 21 leave the cells behind those that are made where the rules stop.
     pub cells-left : {refusal : Refusal} {made : ℕ} {tokens : List Token} {words : List (List ℕ)} → Scans syntax formula tokens words
         → Refuses (syntax .productions) (spellOf syntax words) (rowsLent (length cells)) tokens (syntax .root) refusal made
         → Left made cells (X .cells)
-    cells-left scans h = rw (expand-passed write table passes formula cells text) (exactly.cells-left write (passes .table) (passingOf passes) formula cells text scans h)
+    cells-left scans h = rw by-syntax (exactly.cells-left write (passes .table) (passingOf passes) formula cells text scans h)
 
     -- ------------------------------------------------------------------ 001, Theorem 1
 
