@@ -57,10 +57,12 @@ extern "C" {
     19  nested too deeply: a call when 1,024 are open  [a token]
     20  more than 65,536 calls  [a token]
     21  no row is left for the next cell, or 16,384 are made  [a token]
-   Of the term and its text:
+   Of the term and what is written of it:
     22  the term has more than 16,384 constructors  [a cells made]
     23  a fresh name is a variable under no binder made with it  [a its place among the constructors, from the left, from 0]
-    24  the text is longer than its buffer  [a length needed] */
+    24  the text, or the list in its place, is longer than its buffer  [a length needed]
+   Of portions:
+    25  a count of portions is 0 or over 10,000 */
 typedef struct vegzump_answer {
     uint8_t number;
     uint64_t a, b, c;
