@@ -34,7 +34,8 @@ lent t c = sym (length-take-le _ _ (omega (arith, length-replicate {A = ℕ} 163
 asked : (t : ℕ) → lts.Need-emit-in-requires (claims t) (entered t) reads.Post
 asked t c κs =
     let known = c .before .before .before .before in
-    let pre = known .before .before .before .before .before .before .before .pre in
+    let lent = known .before .before .before in
+    let pre = lent .before .before .before .before .pre in
     (pre .1 .0, (laws.markable (pre .1 .0 .whole) (pre .1 .1 .0) 16384 (omega arith), pre .1 .1 .1 .1))
 
 -- `emit_large` meets its contract.

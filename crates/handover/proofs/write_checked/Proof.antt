@@ -8,13 +8,15 @@ use Rattle.handover.proofs.write_checked.Tie as tie
 expand-passed-requires : tie.Need-expand-passed-requires
 expand-passed-requires c κs =
     let told = c .before .before .before in
-    let pre = told .before .before .before .before .before .before .before .pre in
+    let known = told .before .before .before in
+    let pre = known .before .before .before .before .pre in
     (pre .0 .holds (told .enum-told .given .1), pre .1)
 
 returns : tie.Need-returns
 returns c =
     let told = c .before in
-    let pre = told .before .before .before .before .before .before .before .pre in
+    let known = told .before .before .before in
+    let pre = known .before .before .before .before .pre in
     record { wrote = sym (expand-refused _ _ (sym (pre .0 .answer) ∙ told .verdict .given .1) _ _ _); kept = refl }
 
 -- `write_checked` meets its contract.
