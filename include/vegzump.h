@@ -4,7 +4,7 @@
    hosts/c/test.c), and what the caller has to see to:
 
    - A pointer is valid for the length given with it. With length 0 it may be anything, NULL too.
-   - `cells`, `text` and `answers`, which are written, overlap neither each other nor what is only read. What is only read may overlap.
+   - `cells`, `text`, `answers` and `list`, which are written, overlap neither each other nor what is only read. What is only read may overlap.
    - The thread has stack enough: VEGZUMP_STACK at the worst, VEGZUMP_STACK_ORDINARY for formulas of ordinary size (tests/stack measures both).
 
    Any bytes of any length are a right input. The calls have no global state, allocate nothing, read no file and never block or fail otherwise than
@@ -57,10 +57,12 @@ extern "C" {
     19  nested too deeply: a call when 1,024 are open  [a token]
     20  more than 65,536 calls  [a token]
     21  no row is left for the next cell, or 16,384 are made  [a token]
-   Of the term and its text:
+   Of the term and what is written of it:
     22  the term has more than 16,384 constructors  [a cells made]
     23  a fresh name is a variable under no binder made with it  [a its place among the constructors, from the left, from 0]
-    24  the text is longer than its buffer  [a length needed] */
+    24  the text, or the list in its place, is longer than its buffer  [a length needed]
+   Of portions:
+    25  a count of portions is 0 or over 10,000 */
 typedef struct vegzump_answer {
     uint8_t number;
     uint64_t a, b, c;
@@ -91,6 +93,15 @@ vegzump_answer vegzump_expand(const uint8_t *table, size_t table_len, const uint
 size_t vegzump_expand_each(const uint8_t *table, size_t table_len, const uint8_t *formulas, size_t formulas_len,
                            const size_t *ends, size_t ends_len, uint64_t *answers, size_t answers_len,
                            uint32_t *cells, size_t cells_len, uint8_t *text, size_t text_len);
+
+/* Expands the formula as vegzump_expand does, and writes, in place of its text, the numbers of its term for another count of portions. For each number of the
+   term, from the left and at each of its places, `list` has three: the number, the whole grams and the remainder, with
+   grams x written + remainder = number x wanted and the remainder below written.
+
+   list_len counts 64-bit numbers, three an entry, and so do c of an acceptance and a of 24. A count of portions that is 0 or over 10,000 is refused with 25
+   before the table is looked at, and leaves all as it was. The list is written from the front on acceptance only; what lies past it is as it was. */
+vegzump_answer vegzump_portions(const uint8_t *table, size_t table_len, const uint8_t *formula, size_t formula_len,
+                                uint64_t written, uint64_t wanted, uint32_t *cells, size_t cells_len, uint64_t *list, size_t list_len);
 
 #ifdef __cplusplus
 }

@@ -10,7 +10,7 @@ pub struct Comparison {
     pub inputs: usize,
     pub differ: usize,
     /// How often each number was answered.
-    pub numbers: [usize; 25],
+    pub numbers: [usize; 26],
 }
 
 pub struct Found {
@@ -68,6 +68,21 @@ impl Comparison {
         if archive != plain || plain != (answers, cells, text) {
             self.differ += 1;
             println!("DIFFERS: {label} with ends {:?}, table {}, formulas {}", many.ends, hex(table), hex(&many.formulas));
+        }
+    }
+
+    /// A formula's numbers for another count of portions: answer, every cell and every number of the list.
+    pub fn portions(&mut self, label: &str, table: &[u8], formula: &[u8], counts: [u64; 2], cells: usize, list: usize) {
+        let [archive, plain] = [Side::Archive, Side::Plain].map(|side| {
+            let (mut cells, mut list) = (vec![0xaaaa_aaaa; cells], vec![0xeeee_eeee_eeee_eeee; list]);
+            (side.portions(table, formula, counts, &mut cells, &mut list), cells, list)
+        });
+        self.inputs += 1;
+        self.numbers[usize::from(plain.0.number)] += 1;
+        if archive != plain {
+            self.differ += 1;
+            println!("DIFFERS: {label} for {counts:?} portions, {cells} cells, a list of {list}, table {}, formula {}", hex(table), hex(formula));
+            println!("  archive {:?}\n  plain   {:?}", archive.0, plain.0);
         }
     }
 

@@ -108,6 +108,14 @@ impl Series {
     }
 }
 
+/// Records of numbers.
+pub fn numbers() -> Series {
+    series("portions of so many numbers", [125, 250, 500, 1_000], |size| {
+        let fields: String = (0..size).map(|n| format!("l{n}={n} ")).collect();
+        (tables::house(&[]), format!("{{{fields}}}"))
+    })
+}
+
 /// One series for each thing that an input can have more of, and for each shape that an enemy could try.
 pub fn growth(multiplier: u32) -> Vec<Series> {
     let of_one_hash = collide::words(Hash::Polynomial { multiplier }, WORDS);

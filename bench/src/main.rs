@@ -19,13 +19,14 @@ use std::time::{Duration, Instant};
 use times::{shown, Room};
 
 const USAGE: &str = "\
-usage: bench/run [compare] [times] [growth] [many] [counts] [--draws N] [--seed N] [--cases FILE] [--budget MS] [--hash MULTIPLIER]
+usage: bench/run [compare] [times] [growth] [many] [portions] [counts] [--draws N] [--seed N] [--cases FILE] [--budget MS] [--hash MULTIPLIER]
   compare   the conformance cases, the inputs that are measured, and N drawn inputs (100,000; seed 1)
   times     best times of both, archive over plain, for each input; MS milliseconds (300) for each; and instructions, where valgrind is installed
   growth    times at one, two, four and eight times a size
   many      times of a formula among many of one table: one check for all, and a check for each
+  portions  times of a record's numbers for another count of portions, at one, two, four and eight times a size
   counts    instructions of both, by valgrind's callgrind
-Without a word: compare, times, growth, many. --hash is the multiplier (31) of the polynomial hash for which colliding words are made.";
+Without a word: compare, times, growth, many, portions. --hash is the multiplier (31) of the polynomial hash for which colliding words are made.";
 
 struct Options {
     parts: Vec<String>,
@@ -51,7 +52,7 @@ fn options() -> Option<Options> {
     let mut words = std::env::args().skip(1);
     while let Some(word) = words.next() {
         match word.as_str() {
-            "compare" | "times" | "growth" | "many" | "counts" => options.parts.push(word),
+            "compare" | "times" | "growth" | "many" | "portions" | "counts" => options.parts.push(word),
             "--draws" => options.draws = words.next()?.replace(',', "").parse().ok()?,
             "--seed" => options.seed = words.next()?.parse().ok()?,
             "--cases" => options.cases = words.next()?,
@@ -65,7 +66,7 @@ fn options() -> Option<Options> {
         }
     }
     if options.parts.is_empty() {
-        options.parts = ["compare", "times", "growth", "many"].map(String::from).to_vec();
+        options.parts = ["compare", "times", "growth", "many", "portions"].map(String::from).to_vec();
     }
     Some(options)
 }
@@ -92,6 +93,7 @@ fn run(options: &Options) -> ExitCode {
             "times" => times(options, &list),
             "growth" => growth(options),
             "many" => many(options, &list),
+            "portions" => portions(options),
             _ => well &= counts(&list),
         }
         println!();
@@ -124,7 +126,7 @@ fn compare(options: &Options, list: &[Input]) -> bool {
     }
     println!("measured inputs: {} compared, {} differ", of_inputs.inputs, of_inputs.differ);
 
-    let (mut of_draws, mut of_many) = (Comparison::default(), Comparison::default());
+    let (mut of_draws, mut of_many, mut of_portions) = (Comparison::default(), Comparison::default(), Comparison::default());
     let mut passing: Vec<Vec<u8>> = cases.iter().map(|case| case.table.clone()).filter(|table| plain::check(table).number == 0).collect();
     passing.sort();
     passing.dedup();
@@ -135,6 +137,8 @@ fn compare(options: &Options, list: &[Input]) -> bool {
         let (cells, text) = lent(&mut draws, &drawn, &mut room);
         let label = format!("drawn-{}-{number}", options.seed);
         of_draws.input(&label, &drawn.table, &drawn.formula, cells, text);
+        let (counts, list) = drawn_portions(&mut draws, &drawn, &mut room);
+        of_portions.portions(&label, &drawn.table, &drawn.formula, counts, cells, list);
         if number % 8 == 0 {
             of_many.many(&label, &drawn.table, &draw::many(&mut draws, &drawn.formula), cells, 2 * text);
         }
@@ -142,8 +146,33 @@ fn compare(options: &Options, list: &[Input]) -> bool {
     println!("drawn inputs, seed {}: {} compared, {} differ", options.seed, of_draws.inputs, of_draws.differ);
     println!("  answers by number: {}", of_draws.answered());
     println!("drawn lists of formulas, seed {}: {} compared, {} differ", options.seed, of_many.inputs, of_many.differ);
+    println!("drawn portions, seed {}: {} compared, {} differ", options.seed, of_portions.inputs, of_portions.differ);
+    println!("  answers by number: {}", of_portions.answered());
     println!("  {:.1} s", start.elapsed().as_secs_f64());
-    of_cases.differ + of_inputs.differ + of_draws.differ + of_many.differ == 0
+    of_cases.differ + of_inputs.differ + of_draws.differ + of_many.differ + of_portions.differ == 0
+}
+
+/// Counts of portions, at their limits, outside them and any, and how long a list is lent: enough, just enough, too short or none.
+fn drawn_portions(draws: &mut Draws, drawn: &draw::Drawn, room: &mut Room) -> ([u64; 2], usize) {
+    let counts = [(); 2].map(|()| match draws.below(24) {
+        0 => 0,
+        1 => 10_001,
+        2 => 10_000,
+        3 | 4 => 1,
+        5..=13 => 1 + draws.below(10) as u64,
+        _ => 1 + draws.below(10_000) as u64,
+    });
+    let mut list = vec![0; 3 * vegzump::ROWS];
+    let whole = plain::portions(&drawn.table, &drawn.formula, 1, 1, &mut room.cells, &mut list);
+    let length = if whole.number == 0 { whole.c as usize } else { 0 };
+    let list = match draws.below(12) {
+        0 => 0,
+        1 | 2 => length.saturating_sub(1),
+        3 => draws.below(length + 2),
+        4..=6 => length + 1 + draws.below(9),
+        _ => length,
+    };
+    (counts, list)
 }
 
 /// How many cells and bytes of text are lent: enough, just enough, too little or none.
@@ -233,6 +262,16 @@ fn many(options: &Options, list: &[Input]) {
         let [archive, plain, each] = times::best_of_many(input, MANY, &mut room, options.budget);
         let (ratio, gain) = (archive / plain, each / archive);
         println!("| {} | {} | {} | {ratio:.2} | {} | {gain:.1} |", input.name, shown(archive), shown(plain), shown(each));
+    }
+}
+
+fn portions(options: &Options) {
+    let (mut room, series) = (Room::new(), inputs::numbers());
+    println!("| {} | archive, µs | plain Rust | ratio |", series.name);
+    println!("|---|---|---|---|");
+    for (size, input) in &series.inputs {
+        let [archive, plain] = times::best_of_portions(input, &mut room, options.budget);
+        println!("| {size} | {} | {} | {:.2} |", shown(archive), shown(plain), archive / plain);
     }
 }
 

@@ -41,6 +41,14 @@ impl Side {
         }
     }
 
+    /// The numbers of a formula for another count of portions, written and wanted.
+    pub fn portions(self, table: &[u8], formula: &[u8], [written, wanted]: [u64; 2], cells: &mut [u32], list: &mut [u64]) -> Answer {
+        match self {
+            Side::Plain => plain::portions(table, formula, written, wanted, cells, list),
+            Side::Archive => answered(vegzump::portions(table, formula, written, wanted, cells, list)),
+        }
+    }
+
     pub fn check(self, table: &[u8]) -> Answer {
         match self {
             Side::Plain => plain::check(table),

@@ -69,6 +69,16 @@ pub fn best_of_many(input: &Input, count: usize, room: &mut Room, budget: Durati
     best_of([&mut || one_check(Side::Archive), &mut || one_check(Side::Plain), &mut check_each], budget).map(|time| time / count as f64)
 }
 
+/// The best time of listing a formula's numbers for another count of portions, in microseconds: archive, plain.
+pub fn best_of_portions(input: &Input, room: &mut Room, budget: Duration) -> [f64; 2] {
+    let room = RefCell::new((room, vec![0; 3 * vegzump::ROWS]));
+    let call = |side: Side| {
+        let (room, list) = &mut *room.borrow_mut();
+        black_box(side.portions(black_box(&input.table), black_box(&input.formula), [4, 120], &mut room.cells, list));
+    };
+    best_of([&mut || call(Side::Archive), &mut || call(Side::Plain)], budget)
+}
+
 /// A time in microseconds with three digits or so.
 pub fn shown(microseconds: f64) -> String {
     match microseconds {

@@ -232,6 +232,57 @@ static void rooms(void) {
     free(cells), free(text), free(table);
 }
 
+/* ---- portions ---- */
+
+/* A number, or two with a `+` between them, which give an application of the first to itself. */
+static size_t table_of_numbers(uint8_t table[100]) {
+    size_t at = field(table, 0, 1, "+", 1);
+    at = field(table, at, 3, "", 0);
+    at = field(table, at, 4, "\0\0\4", 3);
+    at = field(table, at, 5, "", 0);
+    at = field(table, at, 6, "\2\0", 2);
+    at = field(table, at, 7, "\x27\0", 2);
+    at = field(table, at, 5, "", 0);
+    at = field(table, at, 6, "\0\0", 2);
+    at = field(table, at, 6, "\2\0", 2);
+    at = field(table, at, 7, "\x22\x27\1\x27\1", 5);
+    return field(table, at, 8, "\0", 1);
+}
+
+static void portions(void) {
+    uint8_t table[100];
+    size_t table_len = table_of_numbers(table);
+    for (size_t lent = 0; lent <= 8; lent++) {
+        uint32_t *cells = block(4 * 12, 7);
+        uint64_t *list = block(8 * lent, 7);
+        vegzump_answer found = vegzump_portions(table, table_len, (const uint8_t *)"+999999999", 10, 9999, 10000, cells, 12, list, lent);
+        if (lent < 6) {
+            expect("list", lent, found, 24, 6, 0, 0);
+            if (!holds(list, 8 * lent, 7)) fail("room at list", lent);
+        } else {
+            expect("list", lent, found, 0, 3, 3, 6);
+            for (size_t i = 0; i < 6; i++) {
+                uint64_t rest = list[i / 3 * 3] * 10000 - list[i / 3 * 3 + 1] * 9999;
+                if (i % 3 == 0 ? list[i] != 999999999 : i % 3 == 1 ? rest >= 9999 : list[i] != rest) fail("entry at list", lent);
+            }
+            if (!holds(list + 6, 8 * (lent - 6), 7)) fail("room at list", lent);
+        }
+        free(cells), free(list);
+    }
+    /* The counts are looked at before the table, and nothing is written. */
+    static const uint64_t counts[][2] = {{0, 1}, {1, 0}, {10001, 1}, {1, 10001}, {UINT64_MAX, 1}, {1, UINT64_MAX}};
+    for (size_t i = 0; i < sizeof counts / sizeof *counts; i++) {
+        uint32_t *cells = block(16, 7);
+        uint64_t *list = block(24, 7);
+        uint8_t one = 0;
+        expect("counts", i, vegzump_portions(table, table_len, (const uint8_t *)"7", 1, counts[i][0], counts[i][1], cells, 4, list, 3), 25, 0, 0, 0);
+        expect("counts and a huge table", i, vegzump_portions(&one, SIZE_MAX / 2, NULL, 0, counts[i][0], counts[i][1], cells, 4, list, 3), 25, 0, 0, 0);
+        if (!holds(cells, 16, 7) || !holds(list, 24, 7)) fail("room at counts", i);
+        free(cells), free(list);
+    }
+    expect("nothing", 2, vegzump_portions(NULL, 0, NULL, 0, 1, 1, NULL, 0, NULL, 0), 4, 0, 0, 0);
+}
+
 /* ---- many formulas in one call, beside one by one ---- */
 
 typedef struct {
@@ -333,6 +384,7 @@ static void *all(void *count) {
     table_lengths();
     formula_lengths();
     rooms();
+    portions();
     many_formulas();
     nothing_at_all();
     return NULL;

@@ -4,7 +4,7 @@ import re
 from typing import Callable, Dict, List, NamedTuple
 
 ROOT = os.path.dirname(os.path.dirname(os.path.dirname(os.path.abspath(__file__))))
-SOURCES = ("grammar/src/limits.rt", "spellings/src/lib.rt", "tokens/src/lib.rt", "expansion/src/lib.rt", "terms/src/lib.rt")
+SOURCES = ("grammar/src/limits.rt", "spellings/src/lib.rt", "tokens/src/lib.rt", "expansion/src/lib.rt", "terms/src/lib.rt", "portions/src/lib.rt")
 CONSTANT = re.compile(r"^(?:pub )?const ([A-Z_]+): [a-z0-9]+ = ([0-9_]+);", re.MULTILINE)
 
 

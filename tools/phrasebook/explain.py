@@ -17,12 +17,12 @@ DETAILS: Dict[int, Callable[[Case], List[str]]] = {
     7: tables.added_twice, 8: tables.nothing_to_extend, 9: tables.not_defined, 10: tables.bad_template, 11: tables.wrong_sort,
     12: tables.left_recursion, 13: tables.clash, 14: formulas.formula_size, 15: formulas.bad_token, 16: formulas.token_count, 17: formulas.misfit,
     18: formulas.left_over, 19: formulas.calls_open, 20: formulas.calls_open, 21: formulas.out_of_rows, 22: formulas.large_term,
-    23: formulas.loose_name, 24: formulas.long_text}
+    23: formulas.loose_name, 24: formulas.long_text, 25: formulas.portions}
 
 
 def foreign(case: Case) -> List[str]:
     """What is said if nothing of the table or the formula has the values of the refusal."""
-    if case.refusal.number in (14, 16):
+    if case.refusal.number in (14, 16, 25):
         return []
     return ["the values %d %d %d belong to nothing in what is given here: was this table refused, with this formula?" % (case.a, case.b, case.c)]
 

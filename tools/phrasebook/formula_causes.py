@@ -1,4 +1,4 @@
-"""The causes that lie in a formula or its term, 14 to 24, in words."""
+"""The causes that lie in a formula or its term, 14 to 24, and in counts of portions, in words."""
 import unicodedata
 from typing import Any, List, Optional, Union
 
@@ -145,3 +145,7 @@ def large_term(case: Case) -> List[str]:
 
 def long_text(case: Case) -> List[str]:
     return ["it has %s; the program `phrase` lends 65,536" % counted(case.a, "byte")]
+
+
+def portions(case: Case) -> List[str]:
+    return ["counts are from 1 to 10,000; neither table nor formula was looked at"]

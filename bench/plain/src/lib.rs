@@ -1,5 +1,5 @@
-//! The phrase expander of document 01 in plain safe Rust, written from the document alone and for speed. It is what the proved archive is compared
-//! with, answer by answer, cell by cell and byte by byte, and measured against. Nothing here is shared with the proved code.
+//! The phrase expander of document 01, and C-11 of document 02, in plain safe Rust, written from the documents alone and for speed. It is what the proved
+//! archive is compared with, answer by answer, cell by cell and byte by byte, and measured against. Nothing here is shared with the proved code.
 //!
 //! A call goes `table` (1 to 6, 10), `sorts` (7, 8, 9, 11), `firsts` (12, 13), `scan` (14 to 16), `run` (17 to 21), `print` (22 to 24). What a call
 //! needs is kept for the next one on the same thread, so that a call allocates only where its input is larger than all before it.
@@ -81,7 +81,34 @@ pub fn expand_each(table: &[u8], formulas: &[u8], ends: &[usize], cells: &mut [u
     })
 }
 
+/// Expands the formula as `expand` does and lists, in place of its text, each number of the term for another count of portions: the number, the whole grams,
+/// the remainder.
+pub fn portions(table: &[u8], formula: &[u8], written: u64, wanted: u64, cells: &mut [u32], list: &mut [u64]) -> Answer {
+    if [written, wanted].iter().any(|&count| count == 0 || count > 10_000) {
+        return refusal(25, 0);
+    }
+    WORKSPACE.with_borrow_mut(|space| match space.portions(table, formula, written, wanted, cells, list) {
+        Ok(accepted) => accepted,
+        Err(refused) => refused,
+    })
+}
+
 impl Workspace {
+    fn portions(&mut self, table: &[u8], formula: &[u8], written: u64, wanted: u64, cells: &mut [u32], list: &mut [u64]) -> Result<Answer, Refusal> {
+        self.check(table)?;
+        self.firsts.choose(&self.grammar);
+        self.tokens.scan(table, formula, &mut self.table)?;
+        let ran = run::run(&self.grammar, &self.firsts, &self.tokens.all, cells, &mut self.machine)?;
+        let spelled = print::Spelled { table, formula, words: &self.table.words };
+        let (constructors, numbers) = print::numbers(cells, &ran, &spelled, &mut self.printer)?;
+        let Some(room) = list.get_mut(..3 * numbers.len()) else { return Err(refusal(24, 3 * numbers.len())) };
+        for (entry, number) in room.chunks_exact_mut(3).zip(&numbers) {
+            let whole = number * wanted;
+            entry.copy_from_slice(&[*number, whole / written, whole % written]);
+        }
+        Ok(Answer { number: 0, a: ran.made as u64, b: constructors as u64, c: room.len() as u64 })
+    }
+
     fn check(&mut self, table: &[u8]) -> Result<(), Refusal> {
         self.table.read(table)?;
         self.checker.check(table, &self.table, &mut self.grammar)?;

@@ -150,6 +150,25 @@ pub fn print(cells: &[u32], ran: &Ran, spelled: &Spelled, text: &mut [u8], rooms
     Ok((size as usize, length))
 }
 
+/// The constructors of the term and its numbers from the left, those of a shared part at each of its places. The term is printed too, for refusals 22 and 23.
+pub fn numbers(cells: &[u32], ran: &Ran, spelled: &Spelled, rooms: &mut Rooms) -> Result<(usize, Vec<u64>), Refusal> {
+    let mut text = vec![0; LONGEST * MOST as usize];
+    let (constructors, _) = print(cells, ran, spelled, &mut text, rooms)?;
+    let (mut found, mut ahead) = (Vec::new(), vec![ran.root as u32]);
+    while let Some(at) = ahead.pop() {
+        let row = &cells[4 * at as usize..][..4];
+        match row[0] {
+            VAR | NIL => (),
+            FUN => ahead.push(row[2]),
+            APP => ahead.extend([row[2], row[1]]),
+            RCD | DOT => ahead.push(row[1]),
+            CONS => ahead.extend([row[3], row[2]]),
+            _ => found.push(row[1].into()),
+        }
+    }
+    Ok((constructors, found))
+}
+
 struct Printer<'a> {
     cells: &'a [u32],
     parts: &'a [Part],

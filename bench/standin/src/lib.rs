@@ -60,6 +60,25 @@ pub unsafe extern "C" fn vegzump_expand(
 /// # Safety
 /// As the header asks.
 #[no_mangle]
+pub unsafe extern "C" fn vegzump_portions(
+    table: *const u8,
+    table_len: usize,
+    formula: *const u8,
+    formula_len: usize,
+    written: u64,
+    wanted: u64,
+    cells: *mut u32,
+    cells_len: usize,
+    list: *mut u64,
+    list_len: usize,
+) -> Answer {
+    let (cells, list) = (room(cells, cells_len), room(list, list_len));
+    answer(plain::portions(bytes(table, table_len), bytes(formula, formula_len), written, wanted, cells, list))
+}
+
+/// # Safety
+/// As the header asks.
+#[no_mangle]
 pub unsafe extern "C" fn vegzump_expand_each(
     table: *const u8,
     table_len: usize,

@@ -49,3 +49,5 @@ pub const TERM_TOO_LARGE: u8 = 22;
 pub const LOOSE_FRESH_VARIABLE: u8 = 23;
 
 pub const TEXT_TOO_LONG: u8 = 24;
+
+pub const BAD_PORTIONS: u8 = 25;

@@ -19,10 +19,11 @@ use Rattle.spellings.specs.Buffers.{writtenInto}
 use Rattle.spellings.proofs.BytesLaws.{by-test}
 use Rattle.spellings.proofs.BuffersLaws.{written-fits, written-not}
 use Rattle.grammar.proofs.ReaderLaws.{getD-past}
+use Rattle.terms.specs.Term as Term
 use Rattle.terms.specs.Term.{Name, Term, size, largestTerm}
 use Rattle.terms.specs.Rows.{termAt}
 use Rattle.terms.specs.Print.{print}
-use Rattle.terms.specs.Emit.{textOf, judged, fitted, emitted}
+use Rattle.terms.specs.Emit.{textOf, judged, fitted}
 use Rattle.terms.proofs.EmitLaws.{leaves, fitted-long, fitted-whole, judged-large, judged-loose, judged-passes, emitted-refused, emitted-fitted}
 use Rattle.rows.specs.Sizes.{WholeRows, rowsHeld, noSpell, sizeAt}
 use Rattle.rows.proofs.ListLaws.{zeros}
@@ -32,6 +33,12 @@ use Rattle.resolver.specs.declared.Resolution.the-variants.{Loose, Numbered}
 use Rattle.resolver.specs.Numbers.{walkOf, Resolvable, Resolves}
 use Rattle.writer.specs.Pool.{spelledBy}
 use Rattle.printer.specs.Printed.{textBy, Printable, Prints}
+use Rattle.portions.specs.Portions.{portionsOf}
+use Rattle.portions.specs.Lists.{entriesAt, Portionable, Listed}
+use Rattle.portions.proofs.ListLaws.{entries-portions}
+use Rattle.emitter.specs.declared.Writing.{Writing}
+use Rattle.emitter.specs.declared.Writing.the-variants.{Text, Portions}
+use Rattle.emitter.specs.Writing.{writes, lentFor, Writable, Emits}
 use Rattle.emitter.specs.Emittable.{termOf, Emittable, Sized, Markable, JudgedAs, Judged, answerBy}
 
 -- ------------------------------------------------------------------ what is judged
@@ -133,12 +140,21 @@ fitted-by made constructors out text = by (decLe (length out) (length text))
         fitted-long made constructors out text h
         ∙ ap₂ leaves (answer-long made constructors (length out) (length text) h) (sym (written-not out text h))
 
--- 24 or what the walk prints
+-- 24 or what a walk writes, which answers how much it is
+fitted-walk : (made constructors : ℕ) (out text : List ℕ) {text′ : List ℕ} {needed : ℕ} {answer : Answer} → needed ≡ length out → text′ ≡ writtenInto out text
+    → answer ≡ answerBy made constructors needed (length text) → fitted made constructors out text ≡ leaves answer text′
+fitted-walk made constructors out text {answer = answer} n p e =
+    fitted-by made constructors out text ∙ ap₂ leaves (ap (λ n. answerBy made constructors n (length text)) (sym n) ∙ sym e) (sym p)
+
+-- the text that is printed
 pub written : (made constructors : ℕ) {out text text′ : List ℕ} {needed : ℕ} {answer : Answer} → Prints out text text′ needed
     → answer ≡ answerBy made constructors needed (length text) → fitted made constructors out text ≡ leaves answer text′
-written made constructors {out} {text} {answer = answer} p e =
-    fitted-by made constructors out text
-    ∙ ap₂ leaves (ap (λ n. answerBy made constructors n (length text)) (sym (p .needed)) ∙ sym e) (sym (p .placed))
+written made constructors {out} {text} p e = fitted-walk made constructors out text (p .needed) (p .placed) e
+
+-- the entries that are listed
+pub listed : (made constructors : ℕ) {out list list′ : List ℕ} {needed : ℕ} {answer : Answer} → Listed out list list′ needed
+    → answer ≡ answerBy made constructors needed (length list) → fitted made constructors out list ≡ leaves answer list′
+listed made constructors {out} {list} l e = fitted-walk made constructors out list (l .needed) (l .placed) e
 
 -- ------------------------------------------------------------------ judged, then written
 
@@ -163,9 +179,15 @@ module _ {table formula words : List ℕ} {count : ℕ} {cells : List ℕ} {root
     judges-as = judges .each spell (given .distinct) (given .wellNamed)
 
     -- what is judged refuses the term
-    pub emit-refused : (text : List ℕ) {cause : Refusal} → given-verdict ≡ Refused cause
-        → emitted textOf (rowsHeld cells) T text ≡ leaves (Refusing cause) text
-    emit-refused text e = emitted-refused textOf (rowsHeld cells) T text (verdict-bad (judged (rowsHeld cells) T) (sym e ∙ judges-as .answer))
+    pub emit-refused : (writing : Writing) (text list : List ℕ) {cause : Refusal} → given-verdict ≡ Refused cause
+        → Emits writing (rowsHeld cells) T text list (Refusing cause) text list
+    emit-refused writing text list e =
+        record {
+          wrote =
+              emitted-refused (writes writing) (rowsHeld cells) T (lentFor writing text list)
+              (verdict-bad (judged (rowsHeld cells) T) (sym e ∙ judges-as .answer));
+          kept = refl;
+        }
 
     -- a term that passes has a number for each of its constructors,
     counted : given-verdict ≡ Passed → length marks′ ≡ sizeAt cells (rowsHeld cells) root
@@ -185,14 +207,43 @@ module _ {table formula words : List ℕ} {count : ℕ} {cells : List ℕ} {root
           small = omega (arith, counted e, judges .small e);
         }
 
-    -- and is written
-    pub emit-passed : (text : List ℕ) {text′ : List ℕ} {answer : Answer} → given-verdict ≡ Passed
+    passed-is : given-verdict ≡ Passed → judged (rowsHeld cells) T ≡ ok tt
+    passed-is e = verdict-ok (judged (rowsHeld cells) T) (sym e ∙ judges-as .answer)
+
+    -- and its text is written
+    pub emit-text : (text list : List ℕ) {text′ : List ℕ} {answer : Answer} → given-verdict ≡ Passed → {writing : Writing} → writing ≡ Text
         → fitted (rowsHeld cells) (length marks′) (textBy spell cells marks′ (rowsHeld cells) root) text ≡ leaves answer text′
-        → emitted textOf (rowsHeld cells) T text ≡ leaves answer text′
+        → Emits writing (rowsHeld cells) T text list answer text′ list
     unfolding textBy
-    emit-passed text e w =
-        emitted-fitted textOf (rowsHeld cells) T text (verdict-ok (judged (rowsHeld cells) T) (sym e ∙ judges-as .answer))
-        ∙ sym (ap₂ (λ n out. fitted (rowsHeld cells) n out text) (counted e ∙ sized cells root spell) (ap print (judges-as .named e))) ∙ w
+    emit-text text list e is w =
+        rw is
+        (record {
+          wrote =
+              emitted-fitted textOf (rowsHeld cells) T text (passed-is e)
+              ∙ sym (ap₂ (λ n out. fitted (rowsHeld cells) n out text) (counted e ∙ sized cells root spell) (ap print (judges-as .named e))) ∙ w;
+          kept = refl;
+        })
+
+    -- Its portions can be listed,
+    pub emit-portionable : given-verdict ≡ Passed → {writing : Writing} → Writable writing → (written wanted : ℕ) → writing ≡ Portions written wanted
+        → Portionable written wanted cells root
+    emit-portionable e may written wanted is = record { counts = may .counts written wanted is; small = judges .small e }
+
+    -- and are written
+    pub emit-portions : (text list : List ℕ) {list′ : List ℕ} {answer : Answer} → given-verdict ≡ Passed → {writing : Writing} (written wanted : ℕ)
+        → writing ≡ Portions written wanted
+        → fitted (rowsHeld cells) size (entriesAt written wanted cells (rowsHeld cells) root) list ≡ leaves answer list′
+        → Emits writing (rowsHeld cells) T text list answer text list′
+    emit-portions text list e written wanted is w =
+        let small = judges .small e in
+        let exact : size ≡ Term.size T = omega (arith, lent .sized, small, sized cells root spell) in
+        rw is
+        (record {
+          wrote =
+              emitted-fitted (portionsOf written wanted) (rowsHeld cells) T list (passed-is e)
+              ∙ sym (ap₂ (λ n out. fitted (rowsHeld cells) n out list) exact (entries-portions written wanted cells (rowsHeld cells) root spell)) ∙ w;
+          kept = refl;
+        })
 
 -- ------------------------------------------------------------------ rooms for marks
 

@@ -1,1 +1,2 @@
 pub mod Emittable
+pub mod Writing

@@ -13,6 +13,7 @@ use Rattle.answers.specs.declared.Answer.the-variants.{Accepted, Refusing}
 use Rattle.spellings.specs.Bytes.{longestRun}
 use Rattle.spellings.proofs.BytesLaws.{by-test, run-taken, run-left, run-prefix}
 use Rattle.terms.specs.Cells.{columns}
+use Rattle.terms.specs.Emit.{textOf}
 use Rattle.meaning.specs.Expand.{Expanded, expanded, expand}
 use Rattle.meaning.proofs.EachLaws.{expand-keeps}
 use Rattle.meaning.proofs.Lent.{Alike, lent-alike}
@@ -44,12 +45,13 @@ unfolding phraseOutput lentCells lentText
 line-told table bytes line cells text many long e =
     ap told e
     ∙ told-alike _ _
-    (lent-alike line cells lentCells text lentText (many ∙ sym (length-replicate {A = ℕ} 16384 0)) (long ∙ sym (length-replicate {A = ℕ} 65536 0)) table bytes)
+    (lent-alike textOf line cells lentCells text lentText (many ∙ sym (length-replicate {A = ℕ} 16384 0))
+    (long ∙ sym (length-replicate {A = ℕ} 65536 0)) table bytes)
 
 -- an expansion leaves as much text as it was lent
 pub line-text : (table line cells text : List ℕ) {answer : Answer} {cells′ text′ : List ℕ} → expanded answer cells′ text′ ≡ expand table line cells text
     → length text′ ≡ length text
-line-text table line cells text e = ap (λ (x : Expanded). length (x .text)) e ∙ expand-keeps cells text table line .as-long
+line-text table line cells text e = ap (λ (x : Expanded). length (x .text)) e ∙ expand-keeps cells text textOf table line .as-long
 
 -- ------------------------------------------------------------------ the lines
 

@@ -14,6 +14,7 @@ use Rattle.expansion.specs.declared.Outcome.{Outcome}
 use Rattle.expansion.specs.declared.Outcome.the-variants.{Value, Halted}
 use Rattle.expansion.specs.Run.{Result, done, halt}
 use Rattle.expansion.specs.Expansion.{inputOf, run}
+use Rattle.terms.specs.Term.{Name, Term}
 use Rattle.meaning.specs.Expand.{refused, expandTable}
 use Rattle.parser.specs.declared.Parsed.{Parsed}
 use Rattle.parser.specs.Parse.{ParsedInto, parsedInto, outcomeOf, cellsAfter, parseFilled, parseInto}
@@ -33,9 +34,9 @@ module _ (syntax : Syntax) (formula tokens words cells : List ℕ) where
     -- the run of its tokens gives the row
     pub runs : run (inputOf (syntax .productions) (lexed .tokens) cells) (syntax .root) cells ≡ done row state cells′
 
-  -- A refusal is that of the expansion, whose text is as lent; a value is reached.
+  -- A refusal is that of the expansion, whatever it writes, whose text is as lent; a value is reached.
   pub data Ended (count : ℕ) (tokens′ words′ cells′ : List ℕ) : Outcome → Type 0 where
-    refuses : {refusal : Refusal} → ((text : List ℕ) → expandTable syntax formula cells text ≡ refused refusal cells′ text)
+    refuses : {refusal : Refusal} → ((write : Term Name → List ℕ) (text : List ℕ) → expandTable write syntax formula cells text ≡ refused refusal cells′ text)
         → Ended count tokens′ words′ cells′ (Halted refusal)
     reaches : {row : ℕ} {state : State} → Reached count row state tokens′ words′ cells′ → Ended count tokens′ words′ cells′ (Value row state)
 
@@ -53,12 +54,12 @@ module _ (syntax : Syntax) (formula tokens words cells : List ℕ) where
       → (result : Result ℕ) → run (inputOf (syntax .productions) (lexed .tokens) cells) (syntax .root) cells ≡ result
       → EndedAs (parsedInto (record { outcome = outcomeOf result; words = count }) rows places (cellsAfter result))
   unfolding expandTable scanInto
-  after-run a (halt q rest) r = refuses {refusal = q} (λ text. rw (a, r))
+  after-run a (halt q rest) r = refuses {refusal = q} (λ write text. rw (a, r))
   after-run {many} a (done v s rest) r = reaches (record { many = many; answered = a; fills = rw a refl; runs = r })
 
   after-scan : (answer : Scanned) → lexed .answer ≡ answer → EndedAs (parseFilled syntax lexed (filled answer rows places) cells)
   unfolding expandTable
-  after-scan (Unscanned q) a = refuses {refusal = q} (λ text. rw a)
+  after-scan (Unscanned q) a = refuses {refusal = q} (λ write text. rw a)
   after-scan (Tokens n m) a = after-run a (run (inputOf (syntax .productions) (lexed .tokens) cells) (syntax .root) cells) refl
 
   -- So ends every parse that is `parseInto`.
@@ -69,8 +70,8 @@ module _ (syntax : Syntax) (formula tokens words cells : List ℕ) where
 
   module _ {count : ℕ} {tokens′ words′ cells′ : List ℕ} where
     -- A parse that ends with a refusal.
-    pub refusing : {refusal : Refusal} → Ended count tokens′ words′ cells′ (Halted refusal) → (text : List ℕ)
-        → expandTable syntax formula cells text ≡ refused refusal cells′ text
+    pub refusing : {refusal : Refusal} → Ended count tokens′ words′ cells′ (Halted refusal) → (write : Term Name → List ℕ) (text : List ℕ)
+        → expandTable write syntax formula cells text ≡ refused refusal cells′ text
     refusing (refuses h) = h
 
     -- A parse that ends with a value.

@@ -1,6 +1,6 @@
 -- A parse's result, handed to the last step: it is given what it asks, and what it then answers and writes is what the expansion does.
 use Prim.Native.Nat.{ℕ, _*_, _/_, _≤_}
-use mathlib.Core.Path.{_≡_, sym, ap, _∙_}
+use mathlib.Core.Path.{_≡_, refl, sym, ap, _∙_}
 use mathlib.Core.List.{List, []}
 use native.Mathlib.Omega.{arith}
 use lib.ListN.{length, take}
@@ -15,7 +15,7 @@ use Rattle.terms.specs.Cells.{columns, mostCells, rowsLent}
 use Rattle.terms.specs.Term.{Name, Term}
 use Rattle.terms.specs.Rows.{termAt}
 use Rattle.terms.specs.Names.{WellNamed}
-use Rattle.terms.specs.Emit.{textOf, emitted}
+use Rattle.terms.specs.Emit.{emitted}
 use Rattle.decoding.proofs.Split.{Bytes}
 use Rattle.tokens.specs.Scan.{Lexed, scan}
 use Rattle.tokens.specs.Tokens.{mostTokens, spelled}
@@ -25,6 +25,9 @@ use Rattle.checker.specs.Syntax.{Syntax, syntaxOf}
 use Rattle.checker.specs.Passes.{Passes}
 use Rattle.writer.specs.Pool.{spelledBy}
 use Rattle.emitter.specs.Emittable.{termOf, Emittable}
+use Rattle.emitter.specs.declared.Writing.{Writing}
+use Rattle.emitter.specs.declared.Writing.the-variants.{Text}
+use Rattle.emitter.specs.Writing.{writes, lentFor, Writable, Emits}
 use Rattle.expansion.specs.declared.State.{State}
 use Rattle.expansion.specs.declared.Outcome.{Outcome}
 use Rattle.expansion.specs.declared.Outcome.the-variants.{Value, Halted}
@@ -32,11 +35,12 @@ use Rattle.expansion.specs.Run.{done}
 use Rattle.expansion.specs.Figure3 as Figure3
 use Rattle.soundness.specs.Passing.{Passing, passingOf, Lexemes}
 use Rattle.soundness.proofs.ExpansionTheorems as expansion
-use Rattle.meaning.specs.Expand.{expanded, withCells, finished, expandTable, expand}
+use Rattle.meaning.specs.Expand.{expanded, withCells, finished, expandTable, expandBy, expand}
 use Rattle.meaning.specs.Meaning as Meaning
 use Rattle.meaning.proofs.Stages as stages
 use Rattle.parser.specs.declared.Parsed.{Parsed}
 use Rattle.parser.specs.Parse.{Parseable, parsedInto, parseInto}
+use Rattle.handover.specs.Expands.{Expands}
 use Rattle.handover.proofs.Naming as naming
 use Rattle.handover.proofs.Ending.{Ended, Reached, ended, refusing, reached}
 
@@ -134,17 +138,17 @@ module _ {bs : List ℕ} (bytes : Bytes bs) (passes : Passes bs) {formula tokens
       }
 
   -- an expansion that reaches a value is the last step on it
-  finishes : (text : List ℕ) → expand bs formula cells text ≡ finished spell text (done row state cells′)
+  finishes : (write : Term Name → List ℕ) (text : List ℕ) → expandBy write bs formula cells text ≡ finished write spell text (done row state cells′)
   unfolding expandTable
-  finishes text = stages.expand-passed bs passes formula cells text ∙ rw (value .answered, value .runs)
+  finishes write text = stages.expand-passed write bs passes formula cells text ∙ rw (value .answered, value .runs)
 
-  writes : (text : List ℕ) {answer : Answer} {text′ : List ℕ}
-      → emitted textOf (length (take (state .made * columns) cells′) / columns) (termOf bs formula words′ count (take (state .made * columns) cells′) row) text
+  ends-so : (write : Term Name → List ℕ) (text : List ℕ) {answer : Answer} {text′ : List ℕ}
+      → emitted write (length (take (state .made * columns) cells′) / columns) (termOf bs formula words′ count (take (state .made * columns) cells′) row) text
       ≡ record { answer = answer; text = text′ }
-      → expanded answer cells′ text′ ≡ expand bs formula cells text
-  writes text e =
+      → expanded answer cells′ text′ ≡ expandBy write bs formula cells text
+  ends-so write text e =
       sym
-      (finishes text ∙ ap (λ (u : Term Name). withCells cells′ (emitted textOf (state .made) u text)) (sym term-is)
+      (finishes write text ∙ ap (λ (u : Term Name). withCells cells′ (emitted write (state .made) u text)) (sym term-is)
       ∙ ap (withCells cells′) (rw held at e))
 
 -- ------------------------------------------------------------------ a parse, handed over
@@ -160,10 +164,17 @@ module _ (bs : List ℕ) (bytes : Bytes bs) {room formula tokens words : List �
   ends e = rw e at (ended (syntaxOf (passed .table)) formula tokens words cells (whole passed))
 
   -- A call whose parse refuses.
-  pub call-refuses : (text : List ℕ) {refusal : Refusal} → parsed .outcome ≡ Halted refusal
-      → expanded (Refusing refusal) cells′ text ≡ expand bs formula cells text
-  call-refuses text e =
-      sym (stages.expand-passed bs passed formula cells text ∙ refusing (syntaxOf (passed .table)) formula tokens words cells (ends e) text)
+  pub call-refuses : (writing : Writing) (text list : List ℕ) {refusal : Refusal} → parsed .outcome ≡ Halted refusal
+      → Expands writing bs formula cells text list (Refusing refusal) cells′ text list
+  call-refuses writing text list e =
+      let lent = lentFor writing text list in
+      record {
+        wrote =
+            sym
+            (stages.expand-passed (writes writing) bs passed formula cells lent
+            ∙ refusing (syntaxOf (passed .table)) formula tokens words cells (ends e) (writes writing) lent);
+        kept = refl;
+      }
 
   module _ {row : ℕ} {state : State} (value : parsed .outcome ≡ Value row state) where
     abbrev at-value : Reached (syntaxOf (passed .table)) formula tokens words cells (parsed .words) row state tokens′ words′ cells′
@@ -178,9 +189,21 @@ module _ (bs : List ℕ) (bytes : Bytes bs) {room formula tokens words : List �
     emittable = given bytes passed (asked .rooms) at-value
 
     -- What the last step answers and writes is what the expansion does.
-    pub emits : (text : List ℕ) {answer : Answer} {text′ : List ℕ}
-        → emitted textOf (length (take (state .made * columns) cells′) / columns)
-        (termOf bs formula words′ (parsed .words) (take (state .made * columns) cells′) row) text
-        ≡ record { answer = answer; text = text′ }
-        → expanded answer cells′ text′ ≡ expand bs formula cells text
-    emits = writes bytes passed (asked .rooms) at-value
+    pub emits : {writing : Writing} {text list : List ℕ} {answer : Answer} {text′ list′ : List ℕ}
+        → Emits writing (length (take (state .made * columns) cells′) / columns)
+        (termOf bs formula words′ (parsed .words) (take (state .made * columns) cells′) row) text list answer text′ list′
+        → Expands writing bs formula cells text list answer cells′ text′ list′
+    emits {writing} {text} {list} e =
+        record { wrote = ends-so bytes passed (asked .rooms) at-value (writes writing) (lentFor writing text list) (e .wrote); kept = e .kept }
+
+-- ------------------------------------------------------------------ where the text is written
+
+-- A text may always be written.
+pub text-writable : Writable Text
+text-writable = record { counts = λ written wanted e. let z : _≡_ {A = ℕ} 0 1 = cc in absurd (omega arith) }
+
+-- What is then promised is an equation with `expand`.
+pub text-written : {table formula cells text list : List ℕ} {answer : Answer} {cells′ text′ list′ : List ℕ}
+    → Expands Text table formula cells text list answer cells′ text′ list′
+    → expanded answer cells′ text′ ≡ expand table formula cells text
+text-written e = e .wrote

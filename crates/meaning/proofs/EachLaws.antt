@@ -21,7 +21,8 @@ use Rattle.expansion.specs.Expansion.{inputOf, run}
 use Rattle.soundness.proofs.CellsLeft.{Leaves, run-leaves}
 use Rattle.terms.specs.Term.{Name, Term}
 use Rattle.terms.specs.Rows.{termAt}
-use Rattle.meaning.specs.Expand.{Expanded, refused, finished, scanned, expandTable, checkedFirst, expand}
+use Rattle.terms.specs.Emit.{textOf}
+use Rattle.meaning.specs.Expand.{Expanded, refused, finished, scanned, expandTable, checkedFirst, expandBy, expand}
 use Rattle.meaning.specs.Each.{formulaIn, numbersOf, numbersEach, written, Series, alone, behind, expandAll}
 use Rattle.meaning.proofs.Stages.{expand-refused, Finish, is-refused, too-long, prints, finishes}
 
@@ -42,35 +43,36 @@ module _ (cells text : List ℕ) where
   refused-keeps : {x : Expanded} → length (x .cells) ≡ length cells → x .text ≡ text → written (x .answer) ≡ 0 → Keeps cells text x
   refused-keeps many same none = record { as-many-cells = many; as-long = rw same; fits = omega arith; text-behind = rw same }
 
-  finish-keeps : {made : ℕ} {core-term : Term Name} {cells′ : List ℕ} {x : Expanded} → length cells′ ≡ length cells
-      → Finish made core-term cells′ text x
+  finish-keeps : {write : Term Name → List ℕ} {made : ℕ} {core-term : Term Name} {cells′ : List ℕ} {x : Expanded} → length cells′ ≡ length cells
+      → Finish write made core-term cells′ text x
       → Keeps cells text x
   finish-keeps many (is-refused j) = refused-keeps many refl refl
   finish-keeps many (too-long p b) = refused-keeps many refl refl
   finish-keeps many (prints p b) =
       record { as-many-cells = many; as-long = simp (length-append, length-drop) (omega arith); fits = b; text-behind = simp drop-append-seam }
 
-  run-keeps : (rows : ℕ) (spelling : ℕ → List ℕ) (result : Result ℕ) → Leaves rows 0 cells result → Keeps cells text (finished spelling text result)
-  run-keeps rows spelling (halt r cells′) left = refused-keeps (left .3 .as-many) refl refl
-  run-keeps rows spelling (done v s cells′) left =
-      finish-keeps (left .2 .as-many) (finishes (s .made) (termAt (s .made) spelling cells′ v) cells′ text)
+  module _ (write : Term Name → List ℕ) where
+    run-keeps : (rows : ℕ) (spelling : ℕ → List ℕ) (result : Result ℕ) → Leaves rows 0 cells result → Keeps cells text (finished write spelling text result)
+    run-keeps rows spelling (halt r cells′) left = refused-keeps (left .3 .as-many) refl refl
+    run-keeps rows spelling (done v s cells′) left =
+        finish-keeps (left .2 .as-many) (finishes write (s .made) (termAt (s .made) spelling cells′ v) cells′ text)
 
-  scan-keeps : (syntax : Syntax) (l : Lexed) (answer : Scanned) → Keeps cells text (scanned syntax l answer cells text)
-  scan-keeps syntax l (Unscanned r) = refused-keeps refl refl refl
-  scan-keeps syntax l (Tokens n m) =
-      let input = inputOf (syntax .productions) (l .tokens) cells in
-      run-keeps (input .rows) (spelled (syntax .lexicon) (l .words)) (run input (syntax .root) cells)
-      (run-leaves (input .rows) input refl (syntax .root) cells)
+    scan-keeps : (syntax : Syntax) (l : Lexed) (answer : Scanned) → Keeps cells text (scanned write syntax l answer cells text)
+    scan-keeps syntax l (Unscanned r) = refused-keeps refl refl refl
+    scan-keeps syntax l (Tokens n m) =
+        let input = inputOf (syntax .productions) (l .tokens) cells in
+        run-keeps (input .rows) (spelled (syntax .lexicon) (l .words)) (run input (syntax .root) cells)
+        (run-leaves (input .rows) input refl (syntax .root) cells)
 
-  check-keeps : (checked : Checked Syntax) (formula : List ℕ) → Keeps cells text (checkedFirst checked formula cells text)
-  unfolding expandTable
-  check-keeps (bad r) formula = refused-keeps refl refl refl
-  check-keeps (ok syntax) formula = scan-keeps syntax (scan (syntax .lexicon) formula) (scan (syntax .lexicon) formula .answer)
+    check-keeps : (checked : Checked Syntax) (formula : List ℕ) → Keeps cells text (checkedFirst write checked formula cells text)
+    unfolding expandTable
+    check-keeps (bad r) formula = refused-keeps refl refl refl
+    check-keeps (ok syntax) formula = scan-keeps syntax (scan (syntax .lexicon) formula) (scan (syntax .lexicon) formula .answer)
 
-  -- An expansion writes its text at the front of what it is lent for it and nothing behind, and leaves as many cells.
-  pub expand-keeps : (table formula : List ℕ) → Keeps cells text (expand table formula cells text)
-  unfolding expand
-  expand-keeps table formula = check-keeps (passedTable table) formula
+    -- An expansion writes at the front of what it is lent for it and nothing behind, and leaves as many cells.
+    pub expand-keeps : (table formula : List ℕ) → Keeps cells text (expandBy write table formula cells text)
+    unfolding expandBy
+    expand-keeps table formula = check-keeps (passedTable table) formula
 
 -- ------------------------------------------------------------------ one after the other
 
@@ -159,7 +161,7 @@ module _ (table formulas : List ℕ) where
   all-keeps from (end ∷ ends) cells text =
       let x : Expanded = expand table (formulaIn formulas from end) cells text in
       behind-keeps (alone x) (expandAll table formulas end ends (alone x .cells) (alone x .rest))
-      (alone-keeps (expand-keeps cells text table (formulaIn formulas from end))) (all-keeps end ends (alone x .cells) (alone x .rest))
+      (alone-keeps (expand-keeps cells text textOf table (formulaIn formulas from end))) (all-keeps end ends (alone x .cells) (alone x .rest))
 
   -- Under a table that the check refuses, nothing that was lent changes.
   pub all-refused : {cause : Refusal} → check table ≡ Refused cause → (from : ℕ) (ends cells text : List ℕ)
@@ -169,7 +171,7 @@ module _ (table formulas : List ℕ) where
   all-refused e from (end ∷ ends) cells text =
       let first : Series = alone (expand table (formulaIn formulas from end) cells text) in
       behind-untouched first (expandAll table formulas end ends (first .cells) (first .rest))
-      (alone-untouched (expand-refused table e (formulaIn formulas from end) cells text)) (all-refused e end ends (first .cells) (first .rest))
+      (alone-untouched (expand-refused textOf table e (formulaIn formulas from end) cells text)) (all-refused e end ends (first .cells) (first .rest))
 
   -- ------------------------------------------------------------------ the formula at a place
 

@@ -9,6 +9,7 @@ use Rattle.answers.specs.declared.Refusal.{Refusal}
 use Rattle.answers.specs.declared.Answer.the-variants.{Refusing}
 use Rattle.answers.specs.declared.Verdict.the-variants.{Refused}
 use Rattle.checker.specs.Check.{check}
+use Rattle.terms.specs.Emit.{textOf}
 use Rattle.meaning.specs.Expand.{Expanded, expand}
 use Rattle.meaning.specs.Each.{numbersOf, numbersEach, written, Series, alone, behind, expandAll, ExpandedEach, expandEach}
 use Rattle.meaning.proofs.Stages.{expand-refused}
@@ -59,7 +60,7 @@ module _ (table formulas ends answers cells text : List ℕ) where
     unfolding expandEach
     text-at =
         let (later, e) = up-to table formulas ends cells text (min (length ends) (length answers / numbersEach)) i h few in
-        let keeps = expand-keeps (b .cells) (b .rest) table (formulaAt formulas ends i) in
+        let keeps = expand-keeps (b .cells) (b .rest) textOf table (formulaAt formulas ends i) in
         let own : length (take (written (x .answer)) (x .text)) ≡ written (x .answer) = length-take-le _ _ (omega (arith, keeps .fits, keeps .as-long)) in
         rw (e, append-assoc, drop-at (b .texts) _ (length (b .texts)) refl, append-assoc) (take-at _ _ _ own)
 
@@ -72,14 +73,14 @@ module _ (table formulas ends answers cells text : List ℕ) where
         → Alike x (expand table (formulaAt formulas ends i) cells (drop (length (b .texts)) text))
     as-alone bytes =
         let keeps = all-keeps table formulas 0 (take i ends) cells text in
-        lent-alike (formulaAt formulas ends i) (b .cells) cells (b .rest) (drop (length (b .texts)) text) (keeps .as-many-cells)
+        lent-alike textOf (formulaAt formulas ends i) (b .cells) cells (b .rest) (drop (length (b .texts)) text) (keeps .as-many-cells)
         (ap length (keeps .rest-is)) table bytes
 
   module _ {cause : Refusal} (refuses : check table ≡ Refused cause) where
     -- A table that the check refuses gives its refusal at each place,
     pub refused-at : (i : ℕ) → i < E .count → take numbersEach (drop (i * numbersEach) (E .answers)) ≡ numbersOf (Refusing cause)
     refused-at i h =
-        numbers-at i h ∙ ap (λ (y : Expanded). numbersOf (y .answer)) (expand-refused table refuses _ _ _)
+        numbers-at i h ∙ ap (λ (y : Expanded). numbersOf (y .answer)) (expand-refused textOf table refuses _ _ _)
 
     -- and leaves the cells
     pub refused-cells : E .cells ≡ cells

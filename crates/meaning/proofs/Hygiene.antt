@@ -15,6 +15,7 @@ use Rattle.soundness.proofs.Placing.{parses-placed}
 use Rattle.terms.specs.Term.{Name, Term}
 use Rattle.terms.specs.Rename.{renames, rename}
 use Rattle.terms.specs.Print.{print}
+use Rattle.terms.specs.Emit.{textOf}
 use Rattle.terms.specs.Occurrences.{occurrences, loosePlaces}
 use Rattle.terms.proofs.Statements as terms
 use Rattle.meaning.specs.Expand.{Expanded, expanded, expandTable, expand}
@@ -63,26 +64,26 @@ module _ (table : Table) (passing : Passing table) (formula cells text : List �
   EndsAs x = Ends syntax formula cells text (x .answer) (x .text)
 
   ends-last : {meant : Term Name} {cells′ : List ℕ} {given-expanded : Expanded} (means-within : MeansWithin syntax formula cells meant)
-      → Finish (cellsOf means-within) meant cells′ text given-expanded → EndsAs given-expanded
+      → Finish textOf (cellsOf means-within) meant cells′ text given-expanded → EndsAs given-expanded
   ends-last means-within (is-refused j) = refuses (Meaning.is-judged means-within j)
   ends-last means-within (too-long p b) = refuses (Meaning.text-too-long means-within p b)
   ends-last means-within (prints p b) =
       Hygiene.prints (record { means = means-within; passes = p; fits = b; cells-are = refl; size-is = refl; length-is = refl })
       (hygienic (means-within .means) (none-places (p .occur) (p .none-loose)))
 
-  ends-stage : {given-expanded : Expanded} → Stage table passing formula cells text given-expanded → EndsAs given-expanded
+  ends-stage : {given-expanded : Expanded} → Stage table passing formula cells textOf text given-expanded → EndsAs given-expanded
   ends-stage (in-scan u) = refuses (Meaning.unscanned u)
   ends-stage (in-parse S e h) = refuses (Meaning.stopped S h)
   ends-stage (at-last E R f) = ends-last E f
 
-  table-ends : EndsAs (expandTable syntax formula cells text)
-  table-ends = ends-stage (stages table passing formula cells text)
+  table-ends : EndsAs (expandTable textOf syntax formula cells text)
+  table-ends = ends-stage (stages table passing formula cells textOf text)
 
 -- Whatever an expansion answers, it meets demand 3.
 pub demand-3 : (table formula cells text : List ℕ)
     → Demand3 table formula cells text (expand table formula cells text .answer) (expand table formula cells text .text)
 demand-3 table formula cells text P =
-    rw (expand-passed table P formula cells text)
+    rw (expand-passed textOf table P formula cells text)
     (table-ends (P .table) (passingOf P) formula cells text)
 
 -- So does every call that answers as `expand` does.

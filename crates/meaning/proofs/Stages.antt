@@ -43,67 +43,65 @@ use Rattle.soundness.specs.Passing.{Passing, Lexemes}
 use Rattle.soundness.proofs.ExpansionTheorems as expansion
 use Rattle.terms.specs.Term.{Name, Term, size}
 use Rattle.terms.specs.Rows.{termAt}
-use Rattle.terms.specs.Rename.{rename}
-use Rattle.terms.specs.Print.{print}
-use Rattle.terms.specs.Emit.{textOf, fitted, emitted}
+use Rattle.terms.specs.Emit.{fitted, emitted}
 use Rattle.terms.proofs.EmitLaws.{fitted-long, fitted-whole, emitted-refused, emitted-fitted}
 use Rattle.terms.specs.Occurrences.{isWorded}
-use Rattle.meaning.specs.Expand.{Expanded, refused, withCells, finished, scanned, expandTable, checkedFirst, expand}
+use Rattle.meaning.specs.Expand.{Expanded, refused, withCells, finished, scanned, expandTable, checkedFirst, expandBy}
 use Rattle.meaning.specs.Meaning.{Scans, spellOf, Means, MeansWithin, cellsOf, Judges, PassesTests}
 use Rattle.meaning.proofs.Judging.{Judgement, refuses, passes, judgement, judges-bad, passes-ok}
 
 -- ------------------------------------------------------------------ the table
 
 -- Under a table that the check refuses every expansion is that refusal, and nothing that was lent changes.
-pub expand-refused : (bs : List ℕ) {cause : Refusal} → check bs ≡ Refused cause → (formula cells text : List ℕ)
-    → expand bs formula cells text ≡ refused cause cells text
-unfolding check expand
-expand-refused bs {cause} e formula cells text = go (passedTable bs) e
+pub expand-refused : (write : Term Name → List ℕ) (bs : List ℕ) {cause : Refusal} → check bs ≡ Refused cause → (formula cells text : List ℕ)
+    → expandBy write bs formula cells text ≡ refused cause cells text
+unfolding check expandBy
+expand-refused write bs {cause} e formula cells text = go (passedTable bs) e
   where
-    go : (checked : Checked Syntax) → verdict checked ≡ Refused cause → checkedFirst checked formula cells text ≡ refused cause cells text
+    go : (checked : Checked Syntax) → verdict checked ≡ Refused cause → checkedFirst write checked formula cells text ≡ refused cause cells text
     go (bad r) h = let same : r ≡ cause = cc in rw same
     go (ok syntax) h = let z : _≡_ {A = ℕ} 0 1 = cc in absurd (omega arith)
 
-module _ (bs : List ℕ) (passes : Passes bs) where
+module _ (write : Term Name → List ℕ) (bs : List ℕ) (passes : Passes bs) where
   -- The expansion under a table that passes is that of its syntax.
-  pub expand-passed : (formula cells text : List ℕ) → expand bs formula cells text ≡ expandTable (syntaxOf (passes .table)) formula cells text
-  unfolding expand
+  pub expand-passed : (formula cells text : List ℕ) → expandBy write bs formula cells text ≡ expandTable write (syntaxOf (passes .table)) formula cells text
+  unfolding expandBy
   expand-passed formula cells text = rw (passed-table bs passes)
 
 -- ------------------------------------------------------------------ the last step
 
--- How the last step ends: refused by what is judged of the term, or by 24, else with the text.
-pub data Finish (made : ℕ) (core-term : Term Name) (cells text : List ℕ) : Expanded → Type 0 where
-  is-refused : {cause : Refusal} → Judges made core-term cause → Finish made core-term cells text (refused cause cells text)
-  too-long : PassesTests core-term → length text < length (print (rename core-term))
-      → Finish made core-term cells text (refused (refusal 24 (length (print (rename core-term))) 0 0) cells text)
-  prints : PassesTests core-term → length (print (rename core-term)) ≤ length text
-      → Finish made core-term cells text
+-- How the last step ends: refused by what is judged of the term, or by 24, else with what is written.
+pub data Finish (write : Term Name → List ℕ) (made : ℕ) (core-term : Term Name) (cells text : List ℕ) : Expanded → Type 0 where
+  is-refused : {cause : Refusal} → Judges made core-term cause → Finish write made core-term cells text (refused cause cells text)
+  too-long : PassesTests core-term → length text < length (write core-term)
+      → Finish write made core-term cells text (refused (refusal 24 (length (write core-term)) 0 0) cells text)
+  prints : PassesTests core-term → length (write core-term) ≤ length text
+      → Finish write made core-term cells text
       (record {
-        answer = Accepted made (size core-term) (length (print (rename core-term)));
+        answer = Accepted made (size core-term) (length (write core-term));
         cells = cells;
-        text = print (rename core-term) ++ drop (length (print (rename core-term))) text;
+        text = write core-term ++ drop (length (write core-term)) text;
       })
 
-module _ (made : ℕ) (core-term : Term Name) (cells text : List ℕ) where
-  -- 24 or the text, of a term that passes
-  by-room : PassesTests core-term → Finish made core-term cells text (withCells cells (emitted textOf made core-term text))
-  by-room p = rw (emitted-fitted textOf made core-term text (passes-ok made core-term p)) (by (decLe (length (textOf core-term)) (length text)))
+module _ (write : Term Name → List ℕ) (made : ℕ) (core-term : Term Name) (cells text : List ℕ) where
+  -- 24 or what is written, of a term that passes
+  by-room : PassesTests core-term → Finish write made core-term cells text (withCells cells (emitted write made core-term text))
+  by-room p = rw (emitted-fitted write made core-term text (passes-ok made core-term p)) (by (decLe (length (write core-term)) (length text)))
     where
-      by : Dec (length (textOf core-term) ≤ length text)
-          → Finish made core-term cells text (withCells cells (fitted made (size core-term) (textOf core-term) text))
-      by (yes h) = rw (fitted-whole made (size core-term) (textOf core-term) text h) (prints p h)
+      by : Dec (length (write core-term) ≤ length text)
+          → Finish write made core-term cells text (withCells cells (fitted made (size core-term) (write core-term) text))
+      by (yes h) = rw (fitted-whole made (size core-term) (write core-term) text h) (prints p h)
       by (no n) =
-          let h : length text < length (textOf core-term) = omega arith in
-          rw (fitted-long made (size core-term) (textOf core-term) text h) (too-long p h)
+          let h : length text < length (write core-term) = omega arith in
+          rw (fitted-long made (size core-term) (write core-term) text h) (too-long p h)
 
   -- The last step ends so.
-  pub finishes : Finish made core-term cells text (withCells cells (emitted textOf made core-term text))
+  pub finishes : Finish write made core-term cells text (withCells cells (emitted write made core-term text))
   finishes = by (judgement made core-term)
     where
       by : {answer : Checked (Unit {0})} → Judgement made core-term answer
-          → Finish made core-term cells text (withCells cells (emitted textOf made core-term text))
-      by (refuses j) = rw (emitted-refused textOf made core-term text (judges-bad made core-term j)) (is-refused j)
+          → Finish write made core-term cells text (withCells cells (emitted write made core-term text))
+      by (refuses j) = rw (emitted-refused write made core-term text (judges-bad made core-term j)) (is-refused j)
       by (passes p) = by-room p
 
 -- ------------------------------------------------------------------ the tokens
@@ -210,7 +208,7 @@ module _ (table : Table) (passing : Passing table) (formula : List ℕ) where
 
   -- ------------------------------------------------------------------ the stages
 
-  module _ (cells text : List ℕ) where
+  module _ (cells : List ℕ) where
     -- The rows that may be made lie in the cells lent.
     pub room : rowsLent (length cells) * columns ≤ length cells
     room = omega arith
@@ -278,62 +276,64 @@ module _ (table : Table) (passing : Passing table) (formula : List ℕ) where
           record { runs = e; made-is = c .1; shows = refl; below = l .below; shown-by-made = l .same; coded = l .coded },
         )
 
-    -- Where an expansion ends, with what is handed back: in the scan, in the parse, or in the last step.
-    pub data Stage : Expanded → Type 0 where
-      in-scan : {cause : Refusal} → Unscans lex formula cause → Stage (refused cause cells text)
-      in-parse : {cause : Refusal} {made : ℕ} {ts : List Token} {ws : List (List ℕ)} {cells′ : List ℕ} → Scans syntax formula ts ws
-          → RunsTo ts (halt cause cells′) → Stopped ts ws cause made → Stage (refused cause cells′ text)
-      at-last : {core-term : Term Name} {row : ℕ} {state : State} {cells′ : List ℕ} {expanded : Expanded}
-          (means-within : MeansWithin syntax formula cells core-term) → Reached means-within row state cells′
-          → Finish (cellsOf means-within) core-term cells′ text expanded → Stage expanded
+    -- what is written, into a text
+    module _ (write : Term Name → List ℕ) (text : List ℕ) where
+      -- Where an expansion ends, with what is handed back: in the scan, in the parse, or in the last step.
+      pub data Stage : Expanded → Type 0 where
+        in-scan : {cause : Refusal} → Unscans lex formula cause → Stage (refused cause cells text)
+        in-parse : {cause : Refusal} {made : ℕ} {ts : List Token} {ws : List (List ℕ)} {cells′ : List ℕ} → Scans syntax formula ts ws
+            → RunsTo ts (halt cause cells′) → Stopped ts ws cause made → Stage (refused cause cells′ text)
+        at-last : {core-term : Term Name} {row : ℕ} {state : State} {cells′ : List ℕ} {expanded : Expanded}
+            (means-within : MeansWithin syntax formula cells core-term) → Reached means-within row state cells′
+            → Finish write (cellsOf means-within) core-term cells′ text expanded → Stage expanded
 
-    by-run : {ts : List Token} {ws : List (List ℕ)} → Scans syntax formula ts ws → (result : Result ℕ) → RunsTo ts result
-        → Stage (finished (spellOf syntax ws) text result)
-    by-run S (halt r cells′) e = in-parse S e (stops-exactly S r .0 (cells′, e) .1)
-    by-run {ts} {ws} S (done v s cells′) e =
-        let m = meant S v s cells′ e in
-        let u : Term Name = termAt (s .made) (spellOf syntax ws) cells′ v in
-        at-last {expanded = withCells cells′ (emitted textOf (s .made) u text)} (m .0) (m .1)
-        (rw (← m .1 .made-is) (finishes (s .made) u cells′ text))
+      by-run : {ts : List Token} {ws : List (List ℕ)} → Scans syntax formula ts ws → (result : Result ℕ) → RunsTo ts result
+          → Stage (finished write (spellOf syntax ws) text result)
+      by-run S (halt r cells′) e = in-parse S e (stops-exactly S r .0 (cells′, e) .1)
+      by-run {ts} {ws} S (done v s cells′) e =
+          let m = meant S v s cells′ e in
+          let u : Term Name = termAt (s .made) (spellOf syntax ws) cells′ v in
+          at-last {expanded = withCells cells′ (emitted write (s .made) u text)} (m .0) (m .1)
+          (rw (← m .1 .made-is) (finishes write (s .made) u cells′ text))
 
-    by-scan : (given-scanned : Scanned) → scan lex formula .answer ≡ given-scanned → Stage (scanned syntax (scan lex formula) given-scanned cells text)
-    by-scan (Unscanned r) e = in-scan (unscans-exactly r .0 e)
-    by-scan (Tokens n m) e = by-run (scans-of e) (run (inputOf (grammarOf table) (scan lex formula .tokens) cells) (table .root) cells) refl
+      by-scan : (given-scanned : Scanned) → scan lex formula .answer ≡ given-scanned → Stage (scanned write syntax (scan lex formula) given-scanned cells text)
+      by-scan (Unscanned r) e = in-scan (unscans-exactly r .0 e)
+      by-scan (Tokens n m) e = by-run (scans-of e) (run (inputOf (grammarOf table) (scan lex formula .tokens) cells) (table .root) cells) refl
 
-    -- Every expansion of a passed table ends in one of them.
-    pub stages : Stage (expandTable syntax formula cells text)
-    unfolding expandTable
-    stages = by-scan (scan lex formula .answer) refl
+      -- Every expansion of a passed table ends in one of them.
+      pub stages : Stage (expandTable write syntax formula cells text)
+      unfolding expandTable
+      stages = by-scan (scan lex formula .answer) refl
 
-    -- ------------------------------------------------------------------ back from the rules
+      -- ------------------------------------------------------------------ back from the rules
 
-    -- A refusal of the scan is the answer, and nothing that was lent changes.
-    pub unscanned-ends : {cause : Refusal} → Unscans lex formula cause → expandTable syntax formula cells text ≡ refused cause cells text
-    unfolding expandTable
-    unscanned-ends {cause} u = rw (unscans-exactly cause .1 u)
+      -- A refusal of the scan is the answer, and nothing that was lent changes.
+      pub unscanned-ends : {cause : Refusal} → Unscans lex formula cause → expandTable write syntax formula cells text ≡ refused cause cells text
+      unfolding expandTable
+      unscanned-ends {cause} u = rw (unscans-exactly cause .1 u)
 
-    run-ends : {ts : List Token} {ws : List (List ℕ)} → Scans syntax formula ts ws → (result : Result ℕ) → RunsTo ts result
-        → expandTable syntax formula cells text ≡ finished (spellOf syntax ws) text result
-    unfolding expandTable
-    run-ends S result e = rw (scanned-as S, e)
+      run-ends : {ts : List Token} {ws : List (List ℕ)} → Scans syntax formula ts ws → (result : Result ℕ) → RunsTo ts result
+          → expandTable write syntax formula cells text ≡ finished write (spellOf syntax ws) text result
+      unfolding expandTable
+      run-ends S result e = rw (scanned-as S, e)
 
-    -- A refusal of the parse is the answer, and the text stays, and the cells not made.
-    pub stopped-ends : {cause : Refusal} {made : ℕ} {ts : List Token} {ws : List (List ℕ)} → Scans syntax formula ts ws → Stopped ts ws cause made
-        → (cells′ : List ℕ) × (expandTable syntax formula cells text ≡ refused cause cells′ text) × Left made cells cells′
-    stopped-ends {cause} S h = let q = stops-leave S h in (q .0, run-ends S (halt cause (q .0)) (q .1), q .2)
+      -- A refusal of the parse is the answer, and the text stays, and the cells not made.
+      pub stopped-ends : {cause : Refusal} {made : ℕ} {ts : List Token} {ws : List (List ℕ)} → Scans syntax formula ts ws → Stopped ts ws cause made
+          → (cells′ : List ℕ) × (expandTable write syntax formula cells text ≡ refused cause cells′ text) × Left made cells cells′
+      stopped-ends {cause} S h = let q = stops-leave S h in (q .0, run-ends S (halt cause (q .0)) (q .1), q .2)
 
-    -- Where a term is derived within the limits, the run reaches it, and the last step is made.
-    pub meant-reached : {core-term : Term Name} (means-within : MeansWithin syntax formula cells core-term)
-        → (row : ℕ) × (state : State) × (cells′ : List ℕ) × Reached means-within row state cells′ × Finish (cellsOf means-within) core-term cells′ text
-        (expandTable syntax formula cells text)
-    meant-reached {core-term} means-within =
-        let q = run-to-end means-within in
-        let e : expandTable syntax formula cells text ≡ withCells (q .2) (emitted textOf (cellsOf means-within) core-term text)
-        = run-ends (means-within .means .scans) (done (q .0) (q .1) (q .2)) (q .3 .runs)
-        ∙ rw (q .3 .shows, q .3 .made-is) in
-        (q .0, q .1, q .2, q .3, rw e (finishes (cellsOf means-within) core-term (q .2) text))
+      -- Where a term is derived within the limits, the run reaches it, and the last step is made.
+      pub meant-reached : {core-term : Term Name} (means-within : MeansWithin syntax formula cells core-term)
+          → (row : ℕ) × (state : State) × (cells′ : List ℕ) × Reached means-within row state cells′ × Finish write (cellsOf means-within) core-term cells′ text
+          (expandTable write syntax formula cells text)
+      meant-reached {core-term} means-within =
+          let q = run-to-end means-within in
+          let e : expandTable write syntax formula cells text ≡ withCells (q .2) (emitted write (cellsOf means-within) core-term text)
+          = run-ends (means-within .means .scans) (done (q .0) (q .1) (q .2)) (q .3 .runs)
+          ∙ rw (q .3 .shows, q .3 .made-is) in
+          (q .0, q .1, q .2, q .3, rw e (finishes write (cellsOf means-within) core-term (q .2) text))
 
-    -- The expansion of a term within the limits ends in the last step.
-    pub meant-ends : {core-term : Term Name} (means-within : MeansWithin syntax formula cells core-term)
-        → (cells′ : List ℕ) × Finish (cellsOf means-within) core-term cells′ text (expandTable syntax formula cells text)
-    meant-ends means-within = let q = meant-reached means-within in (q .2, q .4)
+      -- The expansion of a term within the limits ends in the last step.
+      pub meant-ends : {core-term : Term Name} (means-within : MeansWithin syntax formula cells core-term)
+          → (cells′ : List ℕ) × Finish write (cellsOf means-within) core-term cells′ text (expandTable write syntax formula cells text)
+      meant-ends means-within = let q = meant-reached means-within in (q .2, q .4)

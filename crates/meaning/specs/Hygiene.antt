@@ -17,7 +17,7 @@ use Rattle.terms.specs.Print.{none, more, treeOf, print}
 use Rattle.terms.specs.Parts.{constructors, shape}
 use Rattle.terms.specs.Binding.{Occurrence, useOf, constructorsInAll, nestingAll}
 use Rattle.terms.specs.Reading.{readText}
-use Rattle.meaning.specs.Meaning.{spellOf, Means, Cause, Accepts}
+use Rattle.meaning.specs.Meaning.{spellOf, Means, inText, Cause, Accepts}
 use Rattle.meaning.specs.Origins.{Occurs, IsOwned}
 use Rattle.meaning.specs.Naming.{Named}
 
@@ -47,9 +47,9 @@ pub record Hygienic (syntax : Syntax) (formula : List ℕ) (u : Term Name) (out 
 -- Under the syntax of a passed table: an answer, with the text at exit, is a refusal 14 to 24 in its case and the text as lent, or an acceptance of the term
 -- and a hygienic text of it in front of what was lent.
 pub data Ends (syntax : Syntax) (formula cells text : List ℕ) : Answer → List ℕ → Type 0 where
-  refuses : {r : Refusal} → Cause syntax formula cells text r → Ends syntax formula cells text (Refusing r) text
+  refuses : {r : Refusal} → Cause inText syntax formula cells text r → Ends syntax formula cells text (Refusing r) text
   prints : {a b : ℕ} {u : Term Name} {out : List ℕ}
-      → Accepts syntax formula cells text u a b (length out)
+      → Accepts inText syntax formula cells text u a b (length out)
       → Hygienic syntax formula u out
       → Ends syntax formula cells text (Accepted a b (length out)) (out ++ drop (length out) text)
 

@@ -47,9 +47,9 @@ pub record MeansWithin (syntax : Syntax) (formula cells : List ℕ) (u : Term Na
 abbrev pub cellsOf : {syntax : Syntax} {formula cells : List ℕ} {u : Term Name} → MeansWithin syntax formula cells u → ℕ
 cellsOf E = rowsIn (E .means .parsed .derived)
 
--- the bytes of its text
-abbrev pub textLength : Term Name → ℕ
-textLength u = length (print (rename u))
+-- what document 01 writes of a term: its text
+abbrev pub inText : Term Name → List ℕ
+inText u = print (rename u)
 
 -- ------------------------------------------------------------------ what is judged of a term
 
@@ -71,34 +71,34 @@ pub record PassesTests (u : Term Name) : Type 0 where
 
 -- ------------------------------------------------------------------ refusals and acceptance
 
--- document 01's causes from 14 on, under a passed table: when each is given, and with what values
-pub data Cause (syntax : Syntax) (formula cells text : List ℕ) : Refusal → Type 0 where
+-- document 01's causes from 14 on, under a passed table: when each is given, and with what values, where `write` gives what is written of a term
+pub data Cause (write : Term Name → List ℕ) (syntax : Syntax) (formula cells text : List ℕ) : Refusal → Type 0 where
   -- 14, 15 and 16
   unscanned : {r : Refusal}
       → Unscans (syntax .lexicon) formula r
-      → Cause syntax formula cells text r
+      → Cause write syntax formula cells text r
   -- 17 to 21
   stopped : {r : Refusal} {made : ℕ} {tokens : List Token} {words : List (List ℕ)}
       → Scans syntax formula tokens words
       → Refuses (syntax .productions) (spellOf syntax words) (rowsLent (length cells)) tokens (syntax .root) r made
-      → Cause syntax formula cells text r
+      → Cause write syntax formula cells text r
   -- 22 and 23
   is-judged : {r : Refusal} {u : Term Name}
       → (E : MeansWithin syntax formula cells u)
       → Judges (cellsOf E) u r
-      → Cause syntax formula cells text r
+      → Cause write syntax formula cells text r
   -- 24
   text-too-long : {u : Term Name}
       → MeansWithin syntax formula cells u
       → PassesTests u
-      → length text < textLength u
-      → Cause syntax formula cells text (refusal 24 (textLength u) 0 0)
+      → length text < length (write u)
+      → Cause write syntax formula cells text (refusal 24 (length (write u)) 0 0)
 
--- an acceptance of the term u, and its values: cells, constructors and text length
-pub record Accepts (syntax : Syntax) (formula cells text : List ℕ) (u : Term Name) (a b c : ℕ) : Type 0 where
+-- an acceptance of the term u, and its values: cells, constructors and the length of what is written
+pub record Accepts (write : Term Name → List ℕ) (syntax : Syntax) (formula cells text : List ℕ) (u : Term Name) (a b c : ℕ) : Type 0 where
   pub means : MeansWithin syntax formula cells u
   pub passes : PassesTests u
-  pub fits : textLength u ≤ length text
+  pub fits : length (write u) ≤ length text
   pub cells-are : a ≡ cellsOf means
   pub size-is : b ≡ size u
-  pub length-is : c ≡ textLength u
+  pub length-is : c ≡ length (write u)

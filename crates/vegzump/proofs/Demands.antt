@@ -41,12 +41,11 @@ use Rattle.soundness.proofs.ExpansionTheorems as expansion
 use Rattle.terms.specs.Term.{Name, Term}
 use Rattle.terms.specs.Cells.{columns, column, rowsLent}
 use Rattle.terms.specs.Rows.{termAt}
-use Rattle.terms.specs.Rename.{rename}
 use Rattle.terms.specs.Print.{print}
-use Rattle.meaning.specs.Expand.{Expanded, expanded, expand}
+use Rattle.meaning.specs.Expand.{Expanded, expanded, expandTable, expandBy, expand}
 use Rattle.meaning.specs.Naming.{Named}
 use Rattle.meaning.specs.Each.{written}
-use Rattle.meaning.specs.Meaning.{Scans, spellOf, Means, MeansWithin, cellsOf, textLength, Cause, Accepts}
+use Rattle.meaning.specs.Meaning.{Scans, spellOf, Means, MeansWithin, cellsOf, Cause, Accepts}
 use Rattle.meaning.specs.Hygiene.{Demand3}
 use Rattle.meaning.proofs.Stages.{expand-refused, expand-passed, means-one}
 use Rattle.meaning.proofs.Exactly as exactly
@@ -74,79 +73,72 @@ module _ (table : List ℕ) (bytes : (at : ℕ) → getD table at 0 < 256) where
   pub refused-once : (refusal other : Refusal) → RefusesTable table refusal → RefusesTable table other → refusal ≡ other
   refused-once = causes.refused-once table bytes
 
--- every table, formula, cells and text
-module _ (table formula cells text : List ℕ) where
+-- Every table, formula, cells and text, whatever `write` gives of a term to be written: `textOf`, its text, for `expand`; other calls write what document 02
+-- puts in place of the text.
+module _ (write : Term Name → List ℕ) (table formula cells text : List ℕ) where
   abbrev X : Expanded
-  X = expand table formula cells text
-
-  -- If the table passes, an expansion ends in a refusal in its case, and the text is as lent, or in the one term that Figure 3 derives, each part
-  -- of the sort that its place demands, printed with the names that document 01 gives, so that each variable belongs by nesting to the binder that its
-  -- origin calls for: the third promise of `expand`.
-  pub demand-3 : Demand3 table formula cells text (X .answer) (X .text)
-  demand-3 = hygiene.demand-3 table formula cells text
+  X = expandBy write table formula cells text
 
   -- Demand 2: a table that its check refuses gets that refusal, and nothing that was lent changes.
   pub refused-by-check : {refusal : Refusal} → check table ≡ Refused refusal → X ≡ expanded (Refusing refusal) cells text
-  refused-by-check refused = expand-refused table refused formula cells text
+  refused-by-check refused = expand-refused write table refused formula cells text
 
   -- So a table of bytes that does not pass gets the one refusal that the rules of 1 to 13 give: the fourth promise of `expand`.
   pub not-passed : ((at : ℕ) → getD table at 0 < 256) → NotPassed table cells text (X .answer) (X .cells) (X .text)
-  not-passed bytes = call-refuses table bytes formula refl
+  not-passed bytes = call-refuses table bytes write formula refl
 
-  -- The answer, and the text that is written, depend on how many cells and how much text are lent, and not on what they held.
+  -- The answer, and what is written, depend on how many cells and how much text are lent, and not on what they held.
   pub lent-alike : ((at : ℕ) → getD table at 0 < 256) → (cells′ text′ : List ℕ) → length cells ≡ length cells′ → length text ≡ length text′
-      → let Y : Expanded = expand table formula cells′ text′ in
+      → let Y : Expanded = expandBy write table formula cells′ text′ in
       (X .answer ≡ Y .answer) × (take (written (X .answer)) (X .text) ≡ take (written (Y .answer)) (Y .text))
-  lent-alike bytes cells′ text′ many long = let q = lent.lent-alike formula cells cells′ text text′ many long table bytes in (q .answers, q .texts)
+  lent-alike bytes cells′ text′ many long = let q = lent.lent-alike write formula cells cells′ text text′ many long table bytes in (q .answers, q .texts)
 
   module _ (passes : Passes table) where
     -- What an expansion needs of the table: its lexicon, its productions and its root.
     abbrev pub syntax : Syntax
     syntax = syntaxOf (passes .table)
 
+    -- The expansion is that of the syntax.
+    by-syntax : X ≡ expandTable write syntax formula cells text
+    by-syntax = expand-passed write table passes formula cells text
+
     -- A refusal is given exactly in its case of document 01's table of causes, with the values listed there.
-    pub refused-exactly : (refusal : Refusal) → (X .answer ≡ Refusing refusal) ↔ Cause syntax formula cells text refusal
-    refused-exactly = rw (expand-passed table passes formula cells text) (exactly.refused-exactly (passes .table) (passingOf passes) formula cells text)
+    pub refused-exactly : (refusal : Refusal) → (X .answer ≡ Refusing refusal) ↔ Cause write syntax formula cells text refusal
+    refused-exactly = rw by-syntax (exactly.refused-exactly write (passes .table) (passingOf passes) formula cells text)
 
     -- A formula is accepted exactly if Figure 3 derives a term that `Accepts` asks for; `made`, `size`, `bytes`: its cells, constructors, bytes.
     pub accepted-exactly : (made size bytes : ℕ)
-        → (X .answer ≡ Accepted made size bytes) ↔ ((meant : Term Name) × Accepts syntax formula cells text meant made size bytes)
-    accepted-exactly = rw (expand-passed table passes formula cells text) (exactly.accepted-exactly (passes .table) (passingOf passes) formula cells text)
+        → (X .answer ≡ Accepted made size bytes) ↔ ((meant : Term Name) × Accepts write syntax formula cells text meant made size bytes)
+    accepted-exactly = rw by-syntax (exactly.accepted-exactly write (passes .table) (passingOf passes) formula cells text)
 
     -- Figure 3 derives one term at most.
     pub one-term : {meant other : Term Name} → Means syntax formula meant → Means syntax formula other → meant ≡ other
     one-term = means-one (passes .table) (passingOf passes) formula
 
-    -- The text of an acceptance is that term renamed and printed, with what was lent behind it.
+    -- What is written of that term stands in the text of an acceptance, with what was lent behind it.
     pub accepted-text : (made size bytes : ℕ) → X .answer ≡ Accepted made size bytes → {meant : Term Name}
-        → Means syntax formula meant → X .text ≡ print (rename meant) ++ drop (textLength meant) text
-    accepted-text = rw (expand-passed table passes formula cells text) (exactly.accepted-text (passes .table) (passingOf passes) formula cells text)
-
-    -- New names, `_1`, `_2` and on from the left, go to each fresh binder, to each formula binder whose body holds an outside name of its spelling, and to
-    -- their variables; all other names are as written, and so are variables that no binder has: `Named` (meaning/specs/Naming), apart from `rename`.
-    pub accepted-names : (made size bytes : ℕ) → X .answer ≡ Accepted made size bytes → {meant : Term Name} → Means syntax formula meant
-        → (shown : Term (List ℕ)) × (next : ℕ) × Named [] 1 meant shown next × (X .text ≡ print shown ++ drop (length (print shown)) text)
-    accepted-names made size bytes accepted = hygiene.accepted-names (demand-3 passes) accepted
+        → Means syntax formula meant → X .text ≡ write meant ++ drop (length (write meant)) text
+    accepted-text = rw by-syntax (exactly.accepted-text write (passes .table) (passingOf passes) formula cells text)
 
     -- A row of those made shows that term, whatever the other rows held, and each row made has the code of a constructor.
     pub accepted-cells : (made size bytes : ℕ) → X .answer ≡ Accepted made size bytes → {meant : Term Name} (means : Means syntax formula meant)
         → ((row : ℕ) × (row < made) × (termAt made (spellOf syntax (means .words)) (take (made * columns) (X .cells)) row ≡ meant))
         × ((row : ℕ) → row < made → (0x20 ≤ column (X .cells) row 0) × (column (X .cells) row 0 ≤ 0x27))
-    accepted-cells = rw (expand-passed table passes formula cells text) (exactly.accepted-cells (passes .table) (passingOf passes) formula cells text)
+    accepted-cells = rw by-syntax (exactly.accepted-cells write (passes .table) (passingOf passes) formula cells text)
 
     -- 14, 15 and 16 leave the cells as they were, too.
     pub cells-kept : (refusal : Refusal) → Unscans (syntax .lexicon) formula refusal → X .cells ≡ cells
-    cells-kept = rw (expand-passed table passes formula cells text) (exactly.cells-kept (passes .table) (passingOf passes) formula cells text)
+    cells-kept = rw by-syntax (exactly.cells-kept write (passes .table) (passingOf passes) formula cells text)
 
     -- Acceptance, 22, 23 and 24 leave the cells behind those that the term costs.
     pub cells-behind : {meant : Term Name} (means-within : MeansWithin syntax formula cells meant) → Left (cellsOf means-within) cells (X .cells)
-    cells-behind within = rw (expand-passed table passes formula cells text) (exactly.cells-behind (passes .table) (passingOf passes) formula cells text within)
+    cells-behind within = rw by-syntax (exactly.cells-behind write (passes .table) (passingOf passes) formula cells text within)
 
     -- 17 to 21 leave the cells behind those that are made where the rules stop.
     pub cells-left : {refusal : Refusal} {made : ℕ} {tokens : List Token} {words : List (List ℕ)} → Scans syntax formula tokens words
         → Refuses (syntax .productions) (spellOf syntax words) (rowsLent (length cells)) tokens (syntax .root) refusal made
         → Left made cells (X .cells)
-    cells-left scans h = rw (expand-passed table passes formula cells text) (exactly.cells-left (passes .table) (passingOf passes) formula cells text scans h)
+    cells-left scans h = rw by-syntax (exactly.cells-left write (passes .table) (passingOf passes) formula cells text scans h)
 
     -- ------------------------------------------------------------------ 001, Theorem 1
 
@@ -177,3 +169,21 @@ module _ (table formula cells text : List ℕ) where
         → ItemSorted (scopeOf (passes .table) (passes .meets .sorted)) L (call nonterminal ts) A
         → ((vs : List Value) × GiveAll spell M ts vs) × ((p : Production) × Of (syntax .productions) nonterminal p)
     call-never-wrong = expansion.call-never-wrong (passes .table) (passingOf passes)
+
+-- every table, formula, cells and text, where the text is written: `expand`
+module _ (table formula cells text : List ℕ) where
+  abbrev E : Expanded
+  E = expand table formula cells text
+
+  -- If the table passes, an expansion ends in a refusal in its case, and the text is as lent, or in the one term that Figure 3 derives, each part
+  -- of the sort that its place demands, printed with the names that document 01 gives, so that each variable belongs by nesting to the binder that its
+  -- origin calls for: the third promise of `expand`.
+  pub demand-3 : Demand3 table formula cells text (E .answer) (E .text)
+  demand-3 = hygiene.demand-3 table formula cells text
+
+  -- New names, `_1`, `_2` and on from the left, go to each fresh binder, to each formula binder whose body holds an outside name of its spelling, and to
+  -- their variables; all other names are as written, and so are variables that no binder has: `Named` (meaning/specs/Naming), apart from `rename`.
+  pub accepted-names : (passes : Passes table) (made size bytes : ℕ) → E .answer ≡ Accepted made size bytes → {meant : Term Name}
+      → Means (syntaxOf (passes .table)) formula meant
+      → (shown : Term (List ℕ)) × (next : ℕ) × Named [] 1 meant shown next × (E .text ≡ print shown ++ drop (length (print shown)) text)
+  accepted-names passes made size bytes accepted = hygiene.accepted-names (demand-3 passes) accepted

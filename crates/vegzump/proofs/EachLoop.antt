@@ -26,6 +26,7 @@ use borrow.Rule.Slice.PartMut.{putMid, midOf}
 use Rattle.answers.specs.declared.Refusal.{Refusal}
 use Rattle.answers.specs.declared.Answer.{Answer}
 use Rattle.answers.specs.Refusals.{numbered}
+use Rattle.terms.specs.Emit.{textOf}
 use Rattle.meaning.specs.Expand.{Expanded, expanded, expand}
 use Rattle.meaning.specs.Each.{formulaIn, numbersOf, numbersEach, written, Series, alone, behind, expandAll, expandEach}
 use Rattle.meaning.proofs.EachLaws.{Keeps, expand-keeps, all-cons, numbers-length}
@@ -99,7 +100,7 @@ module _ (table formulas ends answers₀ cells₀ text₀ : List ℕ) where
       is = rw (own-bytes, rest-is) at given
 
       keeps : Keeps cells (drop at text) (expanded answer cells′ part)
-      keeps = rw (← is) at (expand-keeps cells (drop at text) table (formulaIn formulas from (getD ends i 0)))
+      keeps = rw (← is) at (expand-keeps cells (drop at text) textOf table (formulaIn formulas from (getD ends i 0)))
 
       -- the text fits
       pub written-fits : at + size ≤ length text

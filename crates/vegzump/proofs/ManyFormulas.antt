@@ -9,6 +9,7 @@ use Rattle.answers.specs.declared.Answer.the-variants.{Refusing}
 use Rattle.checker.specs.Passes.{Passes}
 use Rattle.causes.specs.Unlaid.{RefusesTable}
 use Rattle.causes.proofs.CauseTheorems.{refused-exactly as table-refused}
+use Rattle.terms.specs.Emit.{textOf}
 use Rattle.meaning.specs.Expand.{Expanded, expand}
 use Rattle.meaning.specs.Each.{formulaIn, numbersOf, numbersEach, written, Series, alone, behind, expandAll, ExpandedEach, expandEach}
 use Rattle.meaning.proofs.Exactly.{not-passed as not-passed-table}
@@ -61,7 +62,7 @@ module _ (table formulas ends answers cells text : List ℕ) where
       × ((i : ℕ) → i < E .count → take numbersEach (drop (i * numbersEach) (E .answers)) ≡ numbersOf (Refusing cause))
       × (E .cells ≡ cells) × (E .text ≡ text)
   each-not-passed bytes fails =
-      let (cause, given, left) = not-passed-table table bytes [] [] [] fails in (
+      let (cause, given, left) = not-passed-table textOf table bytes [] [] [] fails in (
         cause,
         table-refused table bytes cause .0 given,
         places.refused-at table formulas ends answers cells text given,

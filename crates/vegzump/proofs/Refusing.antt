@@ -11,7 +11,8 @@ use Rattle.answers.specs.declared.Verdict.the-variants.{Refused}
 use Rattle.checker.specs.Check.{check}
 use Rattle.causes.specs.Unlaid.{RefusesTable, NotPassed}
 use Rattle.causes.proofs.CauseTheorems.{refused-exactly, refused-once}
-use Rattle.meaning.specs.Expand.{Expanded, expanded, refused, expand}
+use Rattle.terms.specs.Term.{Name, Term}
+use Rattle.meaning.specs.Expand.{Expanded, expanded, refused, expandBy}
 use Rattle.meaning.proofs.Exactly.{not-passed}
 
 module _ (table : List ℕ) (bytes : (at : ℕ) → getD table at 0 < 256) where
@@ -19,12 +20,12 @@ module _ (table : List ℕ) (bytes : (at : ℕ) → getD table at 0 < 256) where
   pub verdict-refuses : {verdict : Verdict} → verdict ≡ check table → (cause : Refusal) → (verdict ≡ Refused cause) ↔ RefusesTable table cause
   verdict-refuses e cause = rw e (refused-exactly table bytes cause)
 
-  -- A call that answers as `expand` does gives a table that does not pass its one refusal, and leaves all that was lent as it was.
-  pub call-refuses : (formula : List ℕ) {cells text cells′ text′ : List ℕ} {answer : Answer}
-      → expanded answer cells′ text′ ≡ expand table formula cells text
+  -- A call that answers as an expansion does gives a table that does not pass its one refusal, and leaves all that was lent as it was.
+  pub call-refuses : (write : Term Name → List ℕ) (formula : List ℕ) {cells text cells′ text′ : List ℕ} {answer : Answer}
+      → expanded answer cells′ text′ ≡ expandBy write table formula cells text
       → NotPassed table cells text answer cells′ text′
-  call-refuses formula {cells} {text} e fails =
-      let (cause, given, left) = not-passed table bytes formula cells text fails in
+  call-refuses write formula {cells} {text} e fails =
+      let (cause, given, left) = not-passed write table bytes formula cells text fails in
       let by-rules = refused-exactly table bytes cause .0 given in
       let is = e ∙ left in
       record {

@@ -2,7 +2,7 @@
 
 use std::fmt;
 
-/// Why a table or a formula is refused: the 24 causes in the order of their numbers. A `place` is the offset of a field's tag in the table, or the
+/// Why a table or a formula is refused: the 25 causes in the order of their numbers. A `place` is the offset of a field's tag in the table, or the
 /// table's length if something is missing at its end. A `token` is an index from 0; at the end of the formula it is the token count.
 #[derive(Clone, Copy, Debug, PartialEq, Eq)]
 pub enum Refusal {
@@ -53,12 +53,14 @@ pub enum Refusal {
     TermTooLarge { cells: u64 },
     /// 23: a fresh name is a variable under no binder made with it; a its place among the constructors, from the left, from 0.
     LooseFreshVariable { constructor: u64 },
-    /// 24: the text is longer than its buffer; a length needed.
+    /// 24: the text, or the list in its place, is longer than its buffer; a length needed.
     TextTooLong { needed: u64 },
+    /// 25: a count of portions is 0 or over 10,000.
+    BadPortions,
 }
 
 impl Refusal {
-    /// The cause's number, 1 to 24, and its three values.
+    /// The cause's number, 1 to 25, and its three values.
     pub fn numbered(&self) -> (u8, [u64; 3]) {
         use Refusal::*;
         match *self {
@@ -86,6 +88,7 @@ impl Refusal {
             TermTooLarge { cells } => (22, [cells, 0, 0]),
             LooseFreshVariable { constructor } => (23, [constructor, 0, 0]),
             TextTooLong { needed } => (24, [needed, 0, 0]),
+            BadPortions => (25, [0, 0, 0]),
         }
     }
 
@@ -117,6 +120,7 @@ impl Refusal {
             22 => TermTooLarge { cells: a },
             23 => LooseFreshVariable { constructor: a },
             24 => TextTooLong { needed: a },
+            25 => BadPortions,
             _ => panic!("the archive answered with the unknown number {number}"),
         }
     }
@@ -149,7 +153,8 @@ impl fmt::Display for Refusal {
             NoRow { token } => write!(f, "no row is left for the next cell at token {token}"),
             TermTooLarge { cells } => write!(f, "the term of {cells} cells has more than 16,384 constructors"),
             LooseFreshVariable { constructor } => write!(f, "constructor {constructor} is a fresh variable under no binder of its own"),
-            TextTooLong { needed } => write!(f, "the text needs {needed} bytes"),
+            TextTooLong { needed } => write!(f, "the text needs {needed} bytes, or the list {needed} numbers"),
+            BadPortions => write!(f, "a count of portions is 0 or over 10,000"),
         }
     }
 }

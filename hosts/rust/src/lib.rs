@@ -36,7 +36,7 @@ pub struct Accepted {
     pub cells: usize,
     /// Constructors of the term, those of a shared part at each of its places.
     pub constructors: usize,
-    /// Bytes of text.
+    /// Bytes of text; for [`portions`], 64-bit numbers of the list.
     pub text: usize,
 }
 
@@ -63,6 +63,18 @@ mod sys {
             cells_len: usize,
             text: *mut u8,
             text_len: usize,
+        ) -> Answer;
+        pub fn vegzump_portions(
+            table: *const u8,
+            table_len: usize,
+            formula: *const u8,
+            formula_len: usize,
+            written: u64,
+            wanted: u64,
+            cells: *mut u32,
+            cells_len: usize,
+            list: *mut u64,
+            list_len: usize,
         ) -> Answer;
         pub fn vegzump_expand_each(
             table: *const u8,
@@ -145,6 +157,58 @@ pub fn expand_each(table: &[u8], formulas: &[u8], ends: &[usize], cells: &mut [u
         )
     };
     answers[..count].iter().map(|&[number, a, b, c]| answer(number as u8, [a, b, c])).collect()
+}
+
+/// Expands the formula as [`expand`] does, and writes into `list`, in place of its text, the numbers of its term for another count of portions: three for each
+/// number of the term, from the left and at each of its places.
+///
+/// The list is written on acceptance only; [`Refusal::TextTooLong`] tells how many 64-bit numbers it needs, and a count of portions that is 0 or over 10,000 is
+/// [`Refusal::BadPortions`], before the table is looked at.
+pub fn portions(table: &[u8], formula: &[u8], written: u64, wanted: u64, cells: &mut [u32], list: &mut [u64]) -> Answer<Accepted> {
+    // SAFETY: each slice is valid for its length, and the two that are written are borrowed alone.
+    let found = unsafe {
+        sys::vegzump_portions(
+            table.as_ptr(),
+            table.len(),
+            formula.as_ptr(),
+            formula.len(),
+            written,
+            wanted,
+            cells.as_mut_ptr(),
+            cells.len(),
+            list.as_mut_ptr(),
+            list.len(),
+        )
+    };
+    answer(found.number, [found.a, found.b, found.c])
+}
+
+/// A number of a formula's term for another count of portions: `grams * written + remainder == number * wanted`, and `remainder < written`.
+#[derive(Clone, Copy, Debug, PartialEq, Eq)]
+pub struct Portion {
+    pub number: u64,
+    pub grams: u64,
+    pub remainder: u64,
+}
+
+/// All numbers of a formula's term for another count of portions, with as much room as the formula needs.
+///
+/// ```no_run
+/// let table = std::fs::read("phrases.tab").unwrap();
+/// for portion in vegzump::portions_whole(&table, b"{oats=80 milk=200}", 4, 120).unwrap() {
+///     println!("{} g, {} of 4 over", portion.grams, portion.remainder);
+/// }
+/// ```
+pub fn portions_whole(table: &[u8], formula: &[u8], written: u64, wanted: u64) -> Answer<Vec<Portion>> {
+    let mut cells = vec![0; ROWS * ROW_CELLS];
+    let mut list = vec![0; 3 * 64];
+    let mut answer = portions(table, formula, written, wanted, &mut cells, &mut list);
+    if let Err(Refusal::TextTooLong { needed }) = answer {
+        list.resize(needed as usize, 0);
+        answer = portions(table, formula, written, wanted, &mut cells, &mut list);
+    }
+    let entries = list[..answer?.text].chunks_exact(3);
+    Ok(entries.map(|entry| Portion { number: entry[0], grams: entry[1], remainder: entry[2] }).collect())
 }
 
 /// As many formulas as one call of the archive is handed.

@@ -1,7 +1,8 @@
 //! The archive from Rust: the conformance cases, lengths round every limit, nothing at all, many formulas in one call beside one by one, several threads.
 
 use std::{env, fs, thread};
-use vegzump::{check, expand, expand_each, expand_texts, expand_whole, Answer, Refusal, FORMULA_BYTES, ROWS, ROW_CELLS, STACK, TABLE_BYTES};
+use vegzump::{check, expand, expand_each, expand_texts, expand_whole, portions, portions_whole};
+use vegzump::{Answer, Portion, Refusal, FORMULA_BYTES, ROWS, ROW_CELLS, STACK, TABLE_BYTES};
 
 /// Runs on a thread with the stack that the header states; what else runs there has a megabyte.
 fn with_stack<T: Send + 'static>(test: impl FnOnce() -> T + Send + 'static) -> thread::JoinHandle<T> {
@@ -293,4 +294,32 @@ fn nothing_at_all() {
     let table = table_of_words();
     assert_eq!(expand(&table, &[], &mut [], &mut []), Err(Refusal::NoRow { token: 0 }));
     assert_eq!(expand(&table, &[], &mut [0; 4], &mut []), Err(Refusal::TextTooLong { needed: 12 }));
+}
+
+/// A formula's numbers for another count of portions, with a list that is enough, too short or longer than they are, and with counts at their limits.
+#[test]
+fn portions_of_a_formula() {
+    let bytes = fs::read(cases_path()).unwrap();
+    let table = Reader(&bytes).part();
+    let formula = b"{oats=80 milk=207}";
+    let owed = [Portion { number: 80, grams: 120, remainder: 0 }, Portion { number: 207, grams: 310, remainder: 2 }];
+    assert_eq!(portions_whole(table, formula, 4, 6), Ok(owed.to_vec()));
+    for lent in 0..9 {
+        let (mut cells, mut list) = (vec![0; 64], vec![7; lent]);
+        let found = portions(table, formula, 4, 6, &mut cells, &mut list);
+        if lent < 6 {
+            assert_eq!(found, Err(Refusal::TextTooLong { needed: 6 }));
+            assert_eq!(list, vec![7; lent]);
+        } else {
+            assert_eq!(found.map(|accepted| accepted.text), Ok(6));
+            assert_eq!(list[..6], [80, 120, 0, 207, 310, 2]);
+            assert_eq!(list[6..], vec![7; lent - 6]);
+        }
+    }
+    for (written, wanted) in [(0, 1), (1, 0), (10_001, 1), (1, 10_001), (u64::MAX, u64::MAX)] {
+        assert_eq!(portions_whole(table, formula, written, wanted), Err(Refusal::BadPortions));
+        assert_eq!(portions_whole(&[], formula, written, wanted), Err(Refusal::BadPortions));
+    }
+    let most = portions_whole(table, b"999999999", 10_000, 9_999).unwrap();
+    assert_eq!(most, [Portion { number: 999_999_999, grams: 999_899_999, remainder: 1 }]);
 }

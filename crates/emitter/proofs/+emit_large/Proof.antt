@@ -15,14 +15,14 @@ use Rattle.emitter.proofs.emit_in.Reads as emit-in-reads
 use Rattle.emitter.proofs.+emit_large.{statement}
 use Rattle.emitter.proofs.+emit_large.Tie.{close}
 
-abbrev μ-emit-large : Measures 5 kinds.ps ℕ
+abbrev μ-emit-large : Measures 6 kinds.ps ℕ
 μ-emit-large κs a = 0
 
-abbrev entered : ℕ → In 5 kinds.ps
-entered t = and 5 kinds.ps (is 5 kinds.ps μ-emit-large t) reads.Pre
+abbrev entered : ℕ → In 6 kinds.ps
+entered t = and 6 kinds.ps (is 6 kinds.ps μ-emit-large t) reads.Pre
 
-abbrev below : ℕ → In 5 kinds.ps
-below t = and 5 kinds.ps (falls 5 kinds.ps _<_ μ-emit-large t) reads.Pre
+abbrev below : ℕ → In 6 kinds.ps
+below t = and 6 kinds.ps (falls 6 kinds.ps _<_ μ-emit-large t) reads.Pre
 
 abbrev claims : ℕ → lts.Claims
 claims t = (below t, reads.Post, emit-in-reads.Asked, emit-in-reads.Learnt)
@@ -34,8 +34,9 @@ lent t c = sym (length-take-le _ _ (omega (arith, length-replicate {A = ℕ} 163
 asked : (t : ℕ) → lts.Need-emit-in-requires (claims t) (entered t) reads.Post
 asked t c κs =
     let known = c .before .before .before .before in
-    let pre = known .before .before .before .before .before .pre in
-    (pre .1 .0, laws.markable (pre .1 .0 .whole) (pre .1 .1 .0) 16384 (omega arith))
+    let lent = known .before .before .before in
+    let pre = lent .before .before .before .before .pre in
+    (pre .1 .0, (laws.markable (pre .1 .0 .whole) (pre .1 .1 .0) 16384 (omega arith), pre .1 .1 .1 .1))
 
 -- `emit_large` meets its contract.
 pub +emit-large-spec : {M : Type 1} → statement M
@@ -46,8 +47,10 @@ pub +emit-large-spec : {M : Type 1} → statement M
     (λ c κs. absurd (omega arith))
     (λ c. absurd (omega arith))
     (λ c. absurd (omega arith))
+    (λ c. absurd (omega arith))
     (λ c. search needs)
     (lent t)
     (asked t)
+    (λ c. search needs)
     (λ c. search needs)
     (λ c. search needs)

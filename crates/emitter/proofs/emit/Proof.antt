@@ -15,21 +15,25 @@ slice-aggregate-room c = sym (length-take-le _ _ (omega (arith, length-replicate
 
 emit-in-requires : tie.Need-emit-in-requires
 emit-in-requires c κs =
-    let sized = c .before .before .before .before in
-    let pre = sized .before .before .before .before .before .before .pre in
-    (pre, laws.markable (pre .whole) (sized .size-at .ensures) 256 (omega arith))
+    let sized = c .before .before .before .before .before in
+    let known = sized .before .before .before in
+    let pre = known .before .before .before .before .pre in
+    (pre .0, (laws.markable (pre .0 .whole) (sized .size-at .ensures) 256 (omega arith), pre .1))
 
 emit-large-requires : tie.Need-emit-large-requires
 emit-large-requires c κs =
-    let sized = c .before .before .before in
-    let entry = sized .before .before .before .before .before .before in
-    (entry .pre, (sized .size-at .ensures, (some-cells (entry .args .cells .now) (entry .args .root) (sized .size-at .ensures) (omega arith), omega arith)))
+    let sized = c .before .before .before .before in
+    let known = sized .before .before .before in
+    let entry = known .before .before .before .before in
+    let some = some-cells (entry .args .cells .now) (entry .args .root) (sized .size-at .ensures) (omega arith) in
+    (entry .pre .0, (sized .size-at .ensures, ((some, omega arith), entry .pre .1)))
 
 emit-in-requires-2 : tie.Need-emit-in-requires-2
 emit-in-requires-2 c κs =
-    let sized = c .before .before .before .before .before in
-    let pre = sized .before .before .before .before .before .before .pre in
-    (pre, laws.unmarked (pre .whole) (sized .size-at .ensures) 1 (omega arith))
+    let sized = c .before .before .before .before .before .before in
+    let known = sized .before .before .before in
+    let pre = known .before .before .before .before .pre in
+    (pre .0, (laws.unmarked (pre .0 .whole) (sized .size-at .ensures) 1 (omega arith), pre .1))
 
 -- the function meets its contract
 pub emit-spec : {M : Type 1} → statement M
@@ -42,11 +46,14 @@ emit-spec =
     emit-in-requires
     (λ c. search needs)
     (λ c. search needs)
+    (λ c. search needs)
     emit-large-requires
     (λ c. search needs)
     (λ c. search needs)
     (λ c. search needs)
     (λ c. search needs)
+    (λ c. search needs)
     emit-in-requires-2
+    (λ c. search needs)
     (λ c. search needs)
     (λ c. search needs))

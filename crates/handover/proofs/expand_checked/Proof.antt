@@ -1,18 +1,14 @@
--- `expand_checked`: the check's refusal, or the expansion under the table that passed.
-use mathlib.Core.Path.{sym, _∙_}
+-- `expand_checked`: what is written is the text.
 use borrow.Author.Needs.{needs}
-use Rattle.meaning.proofs.Stages.{expand-refused}
+use Rattle.handover.proofs.LastStep as last-step
 use Rattle.handover.proofs.expand_checked.Statement.{statement}
 use Rattle.handover.proofs.expand_checked.Tie as tie
 
-expand-passed-requires : tie.Need-expand-passed-requires
-expand-passed-requires c κs =
-    let told = c .before .before in told .before .before .before .before .before .before .pre .holds (told .enum-told .given .1)
+write-checked-requires : tie.Need-write-checked-requires
+write-checked-requires c κs = search last-step.text-writable
 
 returns : tie.Need-returns
-returns c =
-    let told = c .before in
-    sym (expand-refused _ (sym (told .before .before .before .before .before .before .pre .answer) ∙ told .verdict .given .1) _ _ _)
+returns c = search last-step.text-written
 
 -- `expand_checked` meets its contract.
 pub expand-checked-spec : {M : Type 1} → statement M
@@ -21,8 +17,7 @@ expand-checked-spec =
     (tie.spec
     (λ c. search needs)
     (λ c. search needs)
-    expand-passed-requires
-    returns
+    write-checked-requires
     (λ c. search needs)
     (λ c. search needs)
-    (λ c. search needs))
+    returns)

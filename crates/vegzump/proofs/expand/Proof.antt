@@ -25,7 +25,7 @@ returns c =
     let checked = expanded .before .before .before .before in
     let known = checked .before .before .before .before .before in
     let bytes : Bytes (known .before .args .table .now) = λ i. omega (arith, known .shared-slice-known .given i) in
-    (e, (ap (λ (x : Expanded). numbered (x .answer)) e, (call-meets-demand-3 e, call-refuses _ bytes _ e)))
+    (e, (ap (λ (x : Expanded). numbered (x .answer)) e, (call-meets-demand-3 e, call-refuses _ bytes _ _ e)))
 
 -- `expand` meets its contract.
 pub expand-spec : {M : Type 1} → statement M

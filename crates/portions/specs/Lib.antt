@@ -1,0 +1,3 @@
+pub mod Portions
+pub mod Portioned
+pub mod Lists
