@@ -40,7 +40,12 @@ function oneByOne() {
     const [found, foundText] = [new Uint32Array(cells.length).fill(0xaaaaaaaa), new Uint8Array(text.length).fill(0xee)];
     expect(`case ${n}`, numbers(library.expand(table, formula, found, foundText)), owed);
     expect(`room of case ${n}`, [same(found, cells), same(foundText, text)], [true, true]);
-    const cause = parseInt(owed);
+    const cause = parseInt(owed), whole = library.expandWhole(table, formula);
+    if (cause === 0) {
+      const rows = Uint32Array.from(whole.rows.flatMap(row => [...row])), made = cells.subarray(0, 4 * Number(whole.a));
+      const printed = same(Buffer.from(whole.text), text.subarray(0, Number(whole.c)));
+      expect(`the whole of case ${n}`, [numbers(whole), same(rows, made), printed], [owed, true, true]);
+    }
     expect(`check of case ${n}`, numbers(library.check(table)), cause >= 1 && cause <= 13 ? owed : "0 0 0 0");
     n++;
   }

@@ -32,7 +32,7 @@ const Vegzump = (() => {
     function run(call, read, lent) {
       let end = free + ANSWER_BYTES;
       const placed = [...read, ...lent].map(view => {
-        const place = (end + 15) & ~15;
+        const place = Math.ceil(end / 16) * 16;
         end = place + view.byteLength;
         return [view, place];
       });

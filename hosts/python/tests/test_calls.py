@@ -119,6 +119,10 @@ class Calls(unittest.TestCase):
             cells, text = cells_of(len(cells_owed)), bytearray(b"\xee" * len(text_owed))
             self.assertEqual(numbered(table, formula, cells, text), owed, "case %d" % count)
             self.assertTrue(cells == cells_owed and text == text_owed, "room of case %d" % count)
+            if owed[0] == 0:
+                made, constructors, size = owed[1]
+                rows = [tuple(cells[i:i + ROW_CELLS]) for i in range(0, ROW_CELLS * made, ROW_CELLS)]
+                self.assertEqual(expand_whole(table, formula), (rows, constructors, text[:size].decode()), "the whole of case %d" % count)
             try:
                 check(table)
                 self.assertNotIn(owed[0], range(1, 14), "check of case %d" % count)
@@ -226,7 +230,7 @@ class Calls(unittest.TestCase):
         view = memoryview(both)
         for cells, text, fault in ((view[:32].cast("I"), view[31:], ValueError), (view.cast("I"), view, ValueError), (view, bytearray(9), TypeError),
                                    (bytes(16), bytearray(9), TypeError), (cells_of(4), bytes(9), TypeError), (cells_of(4), "text", TypeError),
-                                   (memoryview(cells_of(8))[::2], bytearray(9), TypeError)):
+                                   (memoryview(cells_of(8))[::2], bytearray(9), TypeError), (view.cast("I", [4, 4]), bytearray(9), TypeError)):
             self.assertRaises(fault, expand, WORDS, b"", cells, text)
             self.assertRaises(fault, expand_each, WORDS, b"", [0], cells, text)
         self.assertEqual(both, bytes(64))
@@ -248,6 +252,11 @@ class Calls(unittest.TestCase):
             text.extend(bytes(more.needed))  # nothing holds the memory that was lent
         self.assertEqual(len(text), 15)
         self.assertNotEqual(refusal, causes.TokenLeftOver(2))
+        self.assertNotEqual(refusal, causes.TokenDoesNotFit(2, 1, 2))
+        self.assertEqual(vars(causes.TokenDoesNotFit(4, 64, 1)), {"token": 4, "openings": 64, "kinds": 1})
+        with self.assertRaises(causes.BadToken) as raised:
+            expand_whole(WORDS, "pur\u00e9e")
+        self.assertEqual(raised.exception.offset, 3)
         self.assertEqual(sorted(cause.number for cause in Refusal.__subclasses__()), list(range(1, len(Refusal.__subclasses__()) + 1)))
 
 

@@ -87,7 +87,7 @@ def _read(given):
 def _lent(room, size):
     """Memory that is lent, of numbers of so many bytes each, held as long as the array is."""
     view = memoryview(room)
-    if view.itemsize != size or view.ndim != 1 or not view.c_contiguous:
+    if view.itemsize != size or view.ndim != 1:
         raise TypeError("lent is one row of numbers of %d bytes each, such as array('%s')" % (size, "I" if size == 4 else "B"))
     return ({1: ctypes.c_uint8, 4: ctypes.c_uint32}[size] * len(view)).from_buffer(room)
 
