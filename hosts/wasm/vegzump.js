@@ -12,6 +12,8 @@
 const Vegzump = (() => {
   const TABLE_BYTES = 16384, FORMULA_BYTES = 65535, ROWS = 16384, ROW_CELLS = 4;
   const PAGE = 65536, ANSWER_BYTES = 32;
+  // What an ordinary formula makes: all that is lent is copied, so that all rows at once would cost more than the call.
+  const FEW_ROWS = 256;
 
   const bytesOf = given => typeof given === "string" ? new TextEncoder().encode(given) : given;
   const asBytes = view => new Uint8Array(view.buffer, view.byteOffset, view.byteLength);
@@ -67,8 +69,11 @@ const Vegzump = (() => {
 
     // Expands with as much room as the formula needs: an answer with `rows`, of four numbers each, and `text`, a string, if it is accepted.
     function expandWhole(table, formula) {
-      const cells = new Uint32Array(ROWS * ROW_CELLS);
-      let text = new Uint8Array(4096), answer = expand(table, formula, cells, text);
+      let cells = new Uint32Array(FEW_ROWS * ROW_CELLS), text = new Uint8Array(4096), answer = expand(table, formula, cells, text);
+      if (answer.number === 21) {
+        cells = new Uint32Array(ROWS * ROW_CELLS);
+        answer = expand(table, formula, cells, text);
+      }
       if (answer.number === 24) {
         text = new Uint8Array(Number(answer.a));
         answer = expand(table, formula, cells, text);
