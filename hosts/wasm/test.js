@@ -1,8 +1,8 @@
-// The library in WebAssembly under node:  node --stack-size=4000 hosts/wasm/test.js DIR CASES      DIR has vegzump.wasm and vegzump.js (hosts/wasm/build)
-// The conformance cases (cases.bin) one by one and, by table, many in one call; lengths round every limit; nothing at all; calls that the engine breaks
-// off. The last line is `N cases, M failures`.
+// The library in WebAssembly under node:  node hosts/wasm/test.js DIR CASES      DIR has vegzump.wasm and vegzump.js (hosts/wasm/build)
+// The conformance cases (cases.bin) one by one and, by table, many in one call; lengths round every limit; the deepest term; nothing at all; calls that the
+// engine breaks off. It runs on a thread with 16 MB of the engine's stack, for the deepest terms. The last line is `N cases, M failures`.
 "use strict";
-const fs = require("fs"), path = require("path");
+const fs = require("fs"), path = require("path"), {Worker, isMainThread} = require("worker_threads");
 const [folder, casesFile] = process.argv.slice(2);
 const Vegzump = require(path.resolve(folder, "vegzump.js"));
 const library = Vegzump.loadNow(fs.readFileSync(path.join(folder, "vegzump.wasm")));
@@ -118,6 +118,15 @@ function nothingAtAll() {
   expect("no formulas", library.expandEach(words, "", [], noCells, none), []);
 }
 
+// The term that takes most stack: each x puts 129 functions round what there is, 16,383 in all.
+function deepest() {
+  const functions = Array(129).fill([0x21, 2]).flat();
+  const table = Uint8Array.from([field(1, 0x78), field(2, 0x54), field(3), field(4, 0, 0, 4), field(5), field(6, 4, 1, 0x20, 0x10, 0), field(7, 0),
+    field(4, 1, 0, 4, 4), field(5), field(6, 0, 0), field(6, 3, 0), field(6, 4, 1, ...functions, 0), field(7, 3), field(5), field(7, 0), field(8, 0)].flat());
+  const {number, b, text} = library.expandWhole(table, "x ".repeat(127));
+  expect("deepest", [number, b, text.slice(0, 28), text.slice(16383 * -1 - 12, -16383)], [0, 16384n, "mkTermFun(_1 mkTermFun(_2 mk", "mkTermVar(T)"]);
+}
+
 // A call that exceeds the engine's stack throws, and the next one is as ever, however often that happens.
 function brokenOff() {
   const [deep, made] = tableOfLength(Vegzump.TABLE_BYTES);
@@ -125,16 +134,24 @@ function brokenOff() {
   const dive = left => left ? dive(left - 1) : library.expandWhole(deep, "x");
   let thrown = 0;
   for (let i = 0, most = depth(); i < 200; i++) {
-    try { dive(Math.floor(most * (0.7 + i / 1000))); } catch (e) { if (e instanceof RangeError) thrown++; else throw e; }
+    try { dive(Math.floor(most * (0.95 + i / 5000))); } catch (e) { if (e instanceof RangeError) thrown++; else throw e; }
   }
   expect("some are broken off", thrown > 9, true);
   expect("after that", library.expandWhole(deep, "x").rows.length, made);
 }
 
-const count = oneByOne();
-manyAtOnce();
-limits();
-nothingAtAll();
-brokenOff();
-console.log(`${count} cases, ${failures} failures`);
-process.exit(failures || !count ? 1 : 0);
+function main() {
+  const count = oneByOne();
+  manyAtOnce();
+  limits();
+  deepest();
+  nothingAtAll();
+  brokenOff();
+  console.log(`${count} cases, ${failures} failures`);
+  process.exitCode = failures || !count ? 1 : 0;
+}
+
+if (isMainThread) {
+  const thread = new Worker(__filename, {argv: process.argv.slice(2), resourceLimits: {stackSizeMb: 16}});
+  thread.on("exit", code => { process.exitCode = code; });
+} else main();

@@ -6,8 +6,8 @@
 // The calls are those of include/vegzump.h. An answer has `number`, 0 on acceptance and else the cause, and `a`, `b` and `c`, which are BigInt: b of cause
 // 17 is a set of 64 kinds. A table is a Uint8Array; a formula is one too, or a string, of which the UTF-8 bytes are taken.
 //
-// An engine has a stack of its own beside the module's, in browsers some 1 MB. A template nested by the thousand can exceed it: the call then throws
-// RangeError, and later calls are as before.
+// An engine has a stack of its own beside the module's, in node 1 MB: enough for formulas nested as deeply as is allowed. A term nested by the thousand,
+// as long templates and lists make it, can exceed it: the call then throws RangeError, and later calls are as before.
 "use strict";
 const Vegzump = (() => {
   const TABLE_BYTES = 16384, FORMULA_BYTES = 65535, ROWS = 16384, ROW_CELLS = 4;
