@@ -1,6 +1,6 @@
 // The library in WebAssembly under node:  node hosts/wasm/test.js DIR CASES      DIR has vegzump.wasm and vegzump.js (hosts/wasm/build)
 // The conformance cases (cases.bin) one by one and, by table, many in one call; lengths round every limit; the deepest term; nothing at all; calls that the
-// engine breaks off. It runs on a thread with 16 MB of the engine's stack, for the deepest terms. The last line is `N cases, M failures`.
+// engine breaks off. All but these run on a thread with 16 MB of the engine's stack, for the deepest terms. The last line is `N cases, M failures`.
 "use strict";
 const fs = require("fs"), path = require("path"), {Worker, isMainThread} = require("worker_threads");
 const [folder, casesFile] = process.argv.slice(2);
@@ -119,39 +119,38 @@ function nothingAtAll() {
 }
 
 // The term that takes most stack: each x puts 129 functions round what there is, 16,383 in all.
+const functions = Array(129).fill([0x21, 2]).flat();
+const deep = Uint8Array.from([field(1, 0x78), field(2, 0x54), field(3), field(4, 0, 0, 4), field(5), field(6, 4, 1, 0x20, 0x10, 0), field(7, 0),
+  field(4, 1, 0, 4, 4), field(5), field(6, 0, 0), field(6, 3, 0), field(6, 4, 1, ...functions, 0), field(7, 3), field(5), field(7, 0), field(8, 0)].flat());
+const deepFormula = "x ".repeat(127);
+
 function deepest() {
-  const functions = Array(129).fill([0x21, 2]).flat();
-  const table = Uint8Array.from([field(1, 0x78), field(2, 0x54), field(3), field(4, 0, 0, 4), field(5), field(6, 4, 1, 0x20, 0x10, 0), field(7, 0),
-    field(4, 1, 0, 4, 4), field(5), field(6, 0, 0), field(6, 3, 0), field(6, 4, 1, ...functions, 0), field(7, 3), field(5), field(7, 0), field(8, 0)].flat());
-  const {number, b, text} = library.expandWhole(table, "x ".repeat(127));
-  expect("deepest", [number, b, text.slice(0, 28), text.slice(16383 * -1 - 12, -16383)], [0, 16384n, "mkTermFun(_1 mkTermFun(_2 mk", "mkTermVar(T)"]);
+  const {number, b, text} = library.expandWhole(deep, deepFormula);
+  expect("deepest", [number, b, text.slice(0, 28), text.slice(-16383 - 12, -16383)], [0, 16384n, "mkTermFun(_1 mkTermFun(_2 mk", "mkTermVar(T)"]);
 }
 
-// A call that exceeds the engine's stack throws, and the next one is as ever, however often that happens.
+// A call that exceeds the engine's stack, as node gives it, throws, and the next one is as ever, however often that happens.
 function brokenOff() {
-  const [deep, made] = tableOfLength(Vegzump.TABLE_BYTES);
-  const depth = () => { try { return 1 + depth(); } catch { return 1; } };
-  const dive = left => left ? dive(left - 1) : library.expandWhole(deep, "x");
-  let thrown = 0;
-  for (let i = 0, most = depth(); i < 200; i++) {
-    try { dive(Math.floor(most * (0.95 + i / 5000))); } catch (e) { if (e instanceof RangeError) thrown++; else throw e; }
+  for (let i = 0; i < 100; i++) {
+    let thrown = null;
+    try { library.expandWhole(deep, deepFormula); } catch (e) { thrown = e.name; }
+    expect("broken off", thrown, "RangeError");
   }
-  expect("some are broken off", thrown > 9, true);
-  expect("after that", library.expandWhole(deep, "x").rows.length, made);
+  expect("after that", library.expandWhole(words, "").text, "mkTermVar(T)");
 }
 
-function main() {
+function all() {
   const count = oneByOne();
   manyAtOnce();
   limits();
   deepest();
   nothingAtAll();
-  brokenOff();
   console.log(`${count} cases, ${failures} failures`);
   process.exitCode = failures || !count ? 1 : 0;
 }
 
 if (isMainThread) {
+  brokenOff();
   const thread = new Worker(__filename, {argv: process.argv.slice(2), resourceLimits: {stackSizeMb: 16}});
-  thread.on("exit", code => { process.exitCode = code; });
-} else main();
+  thread.on("exit", code => { process.exitCode = failures ? 1 : code; });
+} else all();
