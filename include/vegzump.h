@@ -1,4 +1,5 @@
-/* Vegzump for C and C++: a phrase expander, proved. Link target/staticlib/libvegzump.a (`rt staticlib vegzump`), x86-64 Linux.
+/* Vegzump for C and C++: a phrase expander, proved. Link target/staticlib/libvegzump.a (`rt staticlib vegzump`), x86-64 Linux, or what hosts/install
+   puts under a prefix; hosts/README.md has other targets.
 
    What each call answers and writes is proved for every input. What no proof covers: this header and the compiler's back end (both tested by
    hosts/c/test.c), and what the caller has to see to:
@@ -102,6 +103,9 @@ size_t vegzump_expand_each(const uint8_t *table, size_t table_len, const uint8_t
    before the table is looked at, and leaves all as it was. The list is written from the front on acceptance only; what lies past it is as it was. */
 vegzump_answer vegzump_portions(const uint8_t *table, size_t table_len, const uint8_t *formula, size_t formula_len,
                                 uint64_t written, uint64_t wanted, uint32_t *cells, size_t cells_len, uint64_t *list, size_t list_len);
+
+/* The version of the library, as "0.1.0". Only the shared object has it; the version of its symbols is VEGZUMP_0. */
+extern const char vegzump_version[];
 
 #ifdef __cplusplus
 }

@@ -3,6 +3,7 @@
 
    Usage: stack WORST ORDINARY     (the bounds, in bytes). Prints a table; the exit status is 1 if a bound is passed or an answer is wrong. */
 #include "vegzump.h"
+#include <limits.h>
 #include <pthread.h>
 #include <stdio.h>
 #include <stdlib.h>
@@ -183,7 +184,7 @@ static int tried(size_t stack) {
 
 static int over;
 static void measure(const char *what, unsigned number, size_t bound) {
-    size_t least = 4 * PAGE, most = MOST;
+    size_t least = PTHREAD_STACK_MIN, most = MOST;
     int found = tried(most);
     if (found != (int)number + 1) {
         printf("| %s | | answer %d, expected %u |\n", what, found - 1, number);

@@ -1,0 +1,93 @@
+// The proved library in WebAssembly from JavaScript: a plain script for pages, where it makes the name Vegzump, and for node's require.
+//
+//     const library = await Vegzump.load(bytesOfVegzumpWasm);
+//     const {number, text} = library.expandWhole(table, "fun(p)p(b)");
+//
+// The calls are those of include/vegzump.h. An answer has `number`, 0 on acceptance and else the cause, and `a`, `b` and `c`, which are BigInt: b of cause
+// 17 is a set of 64 kinds. A table is a Uint8Array; a formula is one too, or a string, of which the UTF-8 bytes are taken.
+//
+// An engine has a stack of its own beside the module's, in node 1 MB: enough for formulas nested as deeply as is allowed. A term nested by the thousand,
+// as long templates and lists make it, can exceed it: the call then throws RangeError, and later calls are as before.
+"use strict";
+const Vegzump = (() => {
+  const TABLE_BYTES = 16384, FORMULA_BYTES = 65535, ROWS = 16384, ROW_CELLS = 4;
+  const PAGE = 65536, ANSWER_BYTES = 32;
+  // What an ordinary formula makes: all that is lent is copied, so that all rows at once would cost more than the call.
+  const FEW_ROWS = 256;
+
+  const bytesOf = given => typeof given === "string" ? new TextEncoder().encode(given) : given;
+  const asBytes = view => new Uint8Array(view.buffer, view.byteOffset, view.byteLength);
+  // What is too long is refused for its length alone, so no more than one byte too many is handed over.
+  const tableOf = given => given.subarray(0, TABLE_BYTES + 1);
+  const formulaOf = given => bytesOf(given).subarray(0, FORMULA_BYTES + 1);
+
+  function answerAt(memory, place) {
+    const view = new DataView(memory.buffer, place, ANSWER_BYTES);
+    return {number: view.getUint8(0), a: view.getBigUint64(8, true), b: view.getBigUint64(16, true), c: view.getBigUint64(24, true)};
+  }
+
+  // The calls of one instance. It is not for several workers at once: each makes its own of the same module.
+  function faceOf({memory, __heap_base, __stack_pointer, vegzump_check, vegzump_expand, vegzump_expand_each}) {
+    const free = Number(__heap_base.value), top = __stack_pointer.value;
+
+    // Runs a call on copies of views behind the library's own memory, with a place and a length (in elements) for each, and copies those lent back.
+    function run(call, read, lent) {
+      let end = free + ANSWER_BYTES;
+      const placed = [...read, ...lent].map(view => {
+        const place = Math.ceil(end / 16) * 16;
+        end = place + view.byteLength;
+        return [view, place];
+      });
+      const missing = Math.ceil((end - memory.buffer.byteLength) / PAGE);
+      if (missing > 0) memory.grow(missing);
+      const all = new Uint8Array(memory.buffer);
+      for (const [view, place] of placed) all.set(asBytes(view), place);
+      try {
+        call(...placed.flatMap(([view, place]) => [BigInt(place), BigInt(view.length)]));
+      } finally {
+        __stack_pointer.value = top;
+      }
+      for (const [view, place] of placed.slice(read.length)) asBytes(view).set(all.subarray(place, place + view.byteLength));
+    }
+    const answered = (call, read, lent) => {
+      run((...words) => call(BigInt(free), ...words), read, lent);
+      return answerAt(memory, free);
+    };
+
+    // Checks a table: number 0, or a refusal 1 to 13.
+    const check = table => answered(vegzump_check, [tableOf(table)], []);
+
+    // Expands a formula into cells, a Uint32Array, and text, a Uint8Array. All that lies past what is written is as it was.
+    const expand = (table, formula, cells, text) => answered(vegzump_expand, [tableOf(table), formulaOf(formula)], [cells, text]);
+
+    // Expands the formulas that end at `ends`, and answers a list. Cells are lent to each; texts lie one behind the other.
+    function expandEach(table, formulas, ends, cells, text) {
+      const numbers = new BigUint64Array(4 * ends.length);
+      run(vegzump_expand_each, [tableOf(table), bytesOf(formulas), BigUint64Array.from(ends, BigInt)], [numbers, cells, text]);
+      return Array.from(ends, (_, i) => ({number: Number(numbers[4 * i]), a: numbers[4 * i + 1], b: numbers[4 * i + 2], c: numbers[4 * i + 3]}));
+    }
+
+    // Expands with as much room as the formula needs: an answer with `rows`, of four numbers each, and `text`, a string, if it is accepted.
+    function expandWhole(table, formula) {
+      let cells = new Uint32Array(FEW_ROWS * ROW_CELLS), text = new Uint8Array(4096), answer = expand(table, formula, cells, text);
+      if (answer.number === 21) {
+        cells = new Uint32Array(ROWS * ROW_CELLS);
+        answer = expand(table, formula, cells, text);
+      }
+      if (answer.number === 24) {
+        text = new Uint8Array(Number(answer.a));
+        answer = expand(table, formula, cells, text);
+      }
+      if (answer.number !== 0) return answer;
+      const rows = Array.from({length: Number(answer.a)}, (_, i) => cells.subarray(ROW_CELLS * i, ROW_CELLS * (i + 1)));
+      return {...answer, rows, text: new TextDecoder().decode(text.subarray(0, Number(answer.c)))};
+    }
+    return {check, expand, expandEach, expandWhole};
+  }
+
+  const load = async bytes => faceOf((await WebAssembly.instantiate(bytes)).instance.exports);
+  // At once, where that is allowed: node and workers; pages only for small modules.
+  const loadNow = bytes => faceOf(new WebAssembly.Instance(new WebAssembly.Module(bytes)).exports);
+  return {load, loadNow, TABLE_BYTES, FORMULA_BYTES, ROWS, ROW_CELLS};
+})();
+if (typeof module !== "undefined") module.exports = Vegzump;
