@@ -3,6 +3,7 @@
 Every verdict is the proved program's; here it is only asked and shown.
 """
 import os
+import re
 import subprocess
 import tempfile
 from typing import List, NamedTuple, Optional
@@ -83,6 +84,20 @@ def listing(path: str) -> str:
     rows = list(phrases(notation.read(path)))
     wide, long = max(len(r.nonterminal) for r in rows), min(60, max(len(r.form) for r in rows))
     return "\n".join("%-*s  %-*s  %s" % (wide, r.nonterminal, long, r.form, r.where) for r in rows)
+
+
+def files(path: str) -> List[str]:
+    """The file of a grammar and those that it uses, whether they are there and can be read or not."""
+    out: List[str] = []
+    ahead = [path]
+    while ahead:
+        file = os.path.normpath(ahead.pop(0))
+        if file in out:
+            continue
+        out.append(file)
+        text = read_file(file).decode("utf-8", "replace") if os.path.isfile(file) else ""
+        ahead += [os.path.join(os.path.dirname(file), used) for used in re.findall(r"^\s*use\s+(\S+)", text, re.MULTILINE)]
+    return out
 
 
 class Tested(NamedTuple):
