@@ -106,19 +106,39 @@ class Tested(NamedTuple):
     failed: List[str]
 
 
-def tested(path: str, tests: str) -> Tested:
-    """Runs a file of lines `FORMULA => TERM` or `FORMULA => refused NUMBER [A B C]`; blank lines and lines that begin with # are remarks."""
-    table = packed_or_troubles(path).data
-    count, failed = 0, []
-    for number, line in enumerate(read_file(tests).decode("utf-8", "replace").splitlines(), 1):
+class Test(NamedTuple):
+    """A line of a file of tests: a formula, and the term or the refusal that is expected."""
+    line: int
+    formula: str
+    expected: str
+
+
+def read_tests(path: str, data: bytes) -> List[Test]:
+    """The lines `FORMULA => TERM` or `FORMULA => refused NUMBER [A B C]`; blank lines and lines that begin with # are remarks."""
+    out = []
+    for number, line in enumerate(data.decode("utf-8", "replace").splitlines(), 1):
         if not line.strip() or line.startswith("#"):
             continue
         formula, arrow, expected = line.rpartition(" => ")
         if not arrow:
-            raise Trouble("%s:%d: a line is `FORMULA => TERM`, or `FORMULA => refused NUMBER`" % (tests, number))
+            raise Trouble("%s:%d: a line is `FORMULA => TERM`, or `FORMULA => refused NUMBER`" % (path, number))
+        out.append(Test(number, formula, expected.strip()))
+    return out
+
+
+def as_expected(found: str, expected: str) -> bool:
+    """Whether a term or a refusal is the one expected; `refused 17` expects any values."""
+    words = expected.split()
+    return found.split()[:len(words)] == words if words[:1] == ["refused"] else found == expected
+
+
+def tested(path: str, tests: str) -> Tested:
+    """Runs a file of tests."""
+    table, failed = packed_or_troubles(path).data, []
+    lines = read_tests(tests, read_file(tests))
+    for number, formula, expected in lines:
         said = answer(table, formula.encode("utf-8"))
         found = said if said.startswith("refused") else said.partition("\n")[2]
-        count += 1
-        if found != expected.strip() and not (expected.startswith("refused") and found.split()[:len(expected.split())] == expected.split()):
-            failed.append("%s:%d: `%s` gives\n    %s\nand expected is\n    %s" % (tests, number, formula, found, expected.strip()))
-    return Tested(count, failed)
+        if not as_expected(found, expected):
+            failed.append("%s:%d: `%s` gives\n    %s\nand expected is\n    %s" % (tests, number, formula, found, expected))
+    return Tested(len(lines), failed)
