@@ -215,6 +215,8 @@ async function files(page) {
   await page.until("another's change", () => page.$("grammar").value === house);
   await page.type("grammar", more);
   fs.writeFileSync(path.join(folder, "house.grammar"), house + "# another\n");
+  page.window.fire("focus");
+  await page.until("another's change behind one's own", () => page.run("shelf.get('house.grammar').text") === house + "# another\n");
   await page.press("save", "a conflict", () => page.text("note").includes("was changed by another program"));
   same("is not written over", onDisk("house.grammar"), house + "# another\n");
   await page.press("revert", "the other text", () => page.$("grammar").value === house + "# another\n");

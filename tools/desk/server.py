@@ -190,7 +190,8 @@ class Handler(BaseHTTPRequestHandler):
     def send(self, status: int, kind: str, data: bytes) -> None:
         self.send_response(status)
         headers = {"Content-Type": kind, "Content-Length": str(len(data)), "Content-Security-Policy": POLICY, "X-Content-Type-Options": "nosniff",
-                   "Referrer-Policy": "no-referrer", "Cache-Control": "no-store", "Cross-Origin-Resource-Policy": "same-origin"}
+                   "Referrer-Policy": "no-referrer", "Cache-Control": "no-store", "Cross-Origin-Resource-Policy": "same-origin",
+                   "Connection": "close" if self.close_connection else "keep-alive"}
         for key, value in headers.items():
             self.send_header(key, value)
         self.end_headers()
