@@ -1,4 +1,5 @@
 // Runs the pages of the workbench under node, on a document that has as much of a browser's as they use:  node tests/page.js ADDRESS FOLDER
+// FOLDER is the one that is served: a copy of examples/, or an empty one.
 // It is no browser: nothing is laid out or seen. tests/workbench starts the server and runs this where node is installed.
 // Each failure has a line; the last line is `page: N checks, F failed`.
 "use strict";
@@ -290,7 +291,20 @@ async function printing(page) {
   got.results.forEach((r, i) => same("read back: " + tests[i].formula, r.got, tests[i].expected));
 }
 
-async function main() {
+// A folder without a grammar: one is begun, and the house's is put beside it.
+async function inEmptyFolder() {
+  const page = await open("", new Map());
+  same("begun", [page.text("file"), page.$("grammars").children.map(e => e.textContent)],
+    ["mine.grammar (not saved yet)", ["house.grammar •", "mine.grammar •"]]);
+  await page.type("formula", "half rice");
+  same("its term", page.text("term"), "mkTermVar(rice)");
+  await page.press("save", "saved", () => page.text("note") === "mine.grammar is saved");
+  await page.choose("house.grammar");
+  await page.press("save", "the house's too", () => page.text("note") === "house.grammar is saved");
+  same("on disk", fs.readdirSync(folder).sort(), ["house.grammar", "mine.grammar"]);
+}
+
+async function inExamples() {
   const stored = new Map(), page = await open("#grammar=compose.grammar&formula=x*y", stored);
   await terms(page);
   await refusals(page);
@@ -298,6 +312,10 @@ async function main() {
   await begun(page, stored);
   await printing(page);
   await tablet(page);
+}
+
+async function main() {
+  await (fs.readdirSync(folder).length ? inExamples() : inEmptyFolder());
   console.log(`page: ${made} checks, ${failed} failed`);
   process.exit(failed ? 1 : 0);
 }

@@ -1,6 +1,6 @@
 """The folder of the workbench: its grammars, the tests of each, and saving into it.
 
-Only plain files that are called NAME.grammar and NAME.tests are read or written, in the folder itself; links are left alone.
+Only plain files that are called NAME.grammar and NAME.tests are read or written, in the folder itself and in the folders in it; links are left alone.
 """
 import hashlib
 import os
@@ -12,8 +12,9 @@ from typing import Dict, List, Optional
 from phrasebook import author
 from phrasebook.source import Trouble
 
-NAME = re.compile(r"[A-Za-z0-9][A-Za-z0-9_-]{0,63}\.grammar")
-MOST_BYTES, MOST_FILES = 65536, 200
+WORD = r"[A-Za-z0-9][A-Za-z0-9_-]{0,63}"
+NAME = re.compile(r"(?:%s/)?%s\.grammar" % (WORD, WORD))
+MOST_BYTES, MOST_FILES, MOST_FOLDERS = 65536, 200, 50
 
 
 class Unsaved(Exception):
@@ -50,6 +51,15 @@ def is_text(data: bytes) -> bool:
         return False
 
 
+def entries(path: str) -> List[os.DirEntry]:
+    """What a folder has, by its names; nothing if it cannot be read."""
+    try:
+        with os.scandir(path) as found:
+            return sorted(found, key=lambda e: e.name)
+    except OSError:
+        return []
+
+
 class Folder:
     def __init__(self, path: str):
         self.path = os.path.abspath(path)
@@ -57,14 +67,19 @@ class Folder:
     def file(self, name: str) -> str:
         return os.path.join(self.path, name)
 
+    def folders(self) -> List[str]:
+        """The folder itself and those in it that are no links, as names of grammars begin."""
+        inner = [e.name + "/" for e in entries(self.path) if re.fullmatch(WORD, e.name) and e.is_dir(follow_symlinks=False)]
+        return [""] + inner[:MOST_FOLDERS]
+
     def grammars(self) -> Dict[str, bytes]:
         """The grammars as they are now; a file that is no UTF-8 text is left out, since a page cannot show it and give it back."""
-        names = sorted(name for name in os.listdir(self.path) if NAME.fullmatch(name))[:MOST_FILES]
-        found = {name: read_plain(self.file(name)) for name in names}
+        names = [folder + e.name for folder in self.folders() for e in entries(self.file(folder)) if NAME.fullmatch(folder + e.name)]
+        found = {name: read_plain(self.file(name)) for name in names[:MOST_FILES]}
         return {name: data for name, data in found.items() if data is not None and is_text(data)}
 
     def tests(self, name: str) -> List[Dict[str, str]]:
-        """The tests of a grammar: those of NAME.tests, or where there is no such file the rows of the folder's README.md with its name."""
+        """The tests of a grammar: those of NAME.tests, or where there is no such file the rows of README.md beside it that have its name."""
         data = read_plain(self.file(tests_of(name)))
         if data is None:
             return self.worked(name)
@@ -74,8 +89,8 @@ class Folder:
             return []
 
     def worked(self, name: str) -> List[Dict[str, str]]:
-        data = read_plain(self.file("README.md")) or b""
-        rows = [c for c in map(cells_of, data.decode("utf-8", "replace").split("\n")) if len(c) == 3 and c[0].strip("`") == name]
+        data = read_plain(self.file(os.path.join(os.path.dirname(name), "README.md"))) or b""
+        rows = [c for c in map(cells_of, data.decode("utf-8", "replace").split("\n")) if len(c) == 3 and c[0].strip("`") == os.path.basename(name)]
         return [{"formula": "" if c[1] == "nothing" else c[1].strip("`"), "expected": c[2].strip("`")} for c in rows]
 
     def save(self, name: str, text: str, known: str) -> str:
@@ -102,10 +117,12 @@ class Folder:
         path = self.file(name)
         if len(data) > MOST_BYTES:
             raise Unsaved("%s would have more than %d bytes" % (name, MOST_BYTES))
+        if name[:-len(os.path.basename(name))] not in self.folders():
+            raise Unsaved("there is no such folder here: %s" % os.path.dirname(name))
         try:
             rights = stat.S_IMODE(os.lstat(path).st_mode) if os.path.exists(path) else 0o644
-            with tempfile.TemporaryDirectory(dir=self.path, prefix=".workbench-") as room:
-                beside = os.path.join(room, name)
+            with tempfile.TemporaryDirectory(dir=os.path.dirname(path), prefix=".workbench-") as room:
+                beside = os.path.join(room, os.path.basename(name))
                 with open(beside, "wb") as f:
                     f.write(data)
                 os.chmod(beside, rights)

@@ -17,7 +17,7 @@ from typing import Any, Callable, Dict, List, NamedTuple, Tuple, Union
 from phrasebook import causes
 
 from . import tablet
-from .engine import Engine, Sheet, Unread
+from .engine import HOUSE, Engine, Sheet, Unread
 from .folder import MOST_BYTES, NAME, Folder, Unsaved, stamp
 
 PAGES = os.path.join(os.path.dirname(os.path.dirname(os.path.abspath(__file__))), "pages")
@@ -75,7 +75,9 @@ class Desk:
         grammars = [{"name": n, "text": d.decode("utf-8"), "stamp": stamp(d), "tests": self.folder.tests(n)} for n, d in self.folder.grammars().items()]
         listed = [{"number": c.number, "words": causes.with_limits(c.words, "{:,}".format), "values": "" if c.said == "-" else c.said, "example": c.example}
                   for c in causes.LIST]
-        return {"grammars": grammars, "causes": listed, "folder": self.folder.path, "library": self.engine.library.name}
+        with open(HOUSE, encoding="utf-8") as f:
+            house = f.read()
+        return {"grammars": grammars, "causes": listed, "folder": self.folder.path, "library": self.engine.library.name, "house": house}
 
     def expand(self, r: Request) -> Made:
         return self.engine.expand(r.sheet, r.formula)

@@ -3,8 +3,9 @@
 const $ = id => document.getElementById(id);
 const el = Term.element;
 const PAUSE = 20;   // ms without a key before the server is asked
+const FIRST = ["compose.grammar", "mine.grammar"];   // what is shown if nothing is asked for
 const NAME = /^[A-Za-z0-9][A-Za-z0-9_-]{0,63}\.grammar$/;
-const BEGINNING = 'use house.grammar\n\ngrammar\n  simpleTerm:Term |==\n    "half" a=term   => a\nend\n';
+const BEGINNING = '\n\ngrammar\n  simpleTerm:Term |==\n    "half" a=term   => a\nend\n';
 
 const shelf = new Shelf();
 let current = null;      // the grammar that is shown
@@ -265,8 +266,16 @@ function begin() {
   const name = prompt("Name of the new grammar", "mine.grammar");
   if (name === null) return;
   if (!NAME.test(name)) return note("a grammar's name is letters, digits, - or _, and .grammar", "bad");
-  if (!shelf.get(name)) shelf.add(name, BEGINNING);
+  begun(name);
   choose(name);
+}
+
+// A new grammar uses the house's. Where the folder has none, it is put beside it, to be saved too.
+function begun(name) {
+  if (shelf.get(name)) return;
+  const house = shelf.names.find(n => /(^|\/)house\.grammar$/.test(n)) || "house.grammar";
+  if (!shelf.get(house)) shelf.add(house, shelf.house);
+  if (name !== house) shelf.add(name, "use " + house + BEGINNING);
 }
 
 async function save() {
@@ -334,7 +343,7 @@ function keepFormula() {
 const PRESSED = {
   "new": begin, save, revert, copy, keep: keepFormula, "save-tests": saveTests, larger: resize, theme: darken,
   "as-plain": () => set("plain"), "as-house": () => set("house"),
-  "to-tablet": () => fetchFile("tablet", current.name.replace(".grammar", ".html"), "text/html"),
+  "to-tablet": () => fetchFile("tablet", current.name.replace(/^.*\//, "").replace(".grammar", ".html"), "text/html"),
   "to-table": () => fetchFile("table", "phrases.tab", "application/octet-stream"),
   "open-causes": () => causes(answer && answer.answer ? answer.answer[0] : 0), "close-causes": () => $("causes").close(),
 };
@@ -361,11 +370,11 @@ function listen() {
 async function main() {
   const start = await (await fetch("api/start")).json(), asked = new URLSearchParams(location.hash.slice(1));
   shelf.take(start);
-  if (!shelf.names.length) shelf.add("mine.grammar", BEGINNING);
+  if (!shelf.names.length) begun("mine.grammar");
   $("cause-rows").replaceChildren(...start.causes.map(causeRow));
   $("engine").textContent = `The term is that of the proved ${start.library}; packing and explanations are not proved. Folder: ${start.folder}`;
   listen();
-  choose(asked.get("grammar") || "compose.grammar", asked.has("formula") ? asked.get("formula") : undefined);
+  choose(asked.get("grammar") || FIRST.find(name => shelf.get(name)), asked.has("formula") ? asked.get("formula") : undefined);
 }
 
 main();

@@ -6,6 +6,7 @@ class Shelf {
   constructor() {
     this.all = new Map();
     this.folder = "";
+    this.house = "";   // the text of the house's grammar
   }
 
   get names() { return [...this.all.keys()].sort(); }
@@ -17,6 +18,7 @@ class Shelf {
   // Takes over what the server has read from the folder. A grammar that is changed here stays as it is here.
   take(start) {
     this.folder = start.folder;
+    this.house = start.house;
     const found = new Set(start.grammars.map(g => g.name));
     for (const grammar of [...this.all.values()])
       if (!found.has(grammar.name) && grammar.stamp !== "" && !this.changed(grammar)) this.all.delete(grammar.name);

@@ -1,6 +1,7 @@
 """Where things stand in files, and messages about them."""
 import difflib
 import os
+import posixpath
 from typing import Dict, Iterable, List, NamedTuple, Optional
 
 
@@ -75,26 +76,26 @@ class Disk:
 
 
 class Texts(Disk):
-    """Grammars held by their names: no name is ever opened as a path."""
+    """Grammars held by their names, which are as paths within one folder; no name is ever opened as a path."""
 
     def __init__(self, texts: Dict[str, bytes]):
         self.texts = texts
 
     def beside(self, path: str, name: str) -> str:
-        return name
+        return posixpath.normpath(posixpath.join(posixpath.dirname(path), name))
 
     def key(self, path: str) -> str:
         return path
 
     def missing(self, path: str) -> str:
-        return "" if path in self.texts else "there is no grammar %s here; there %s %s" % (
-            path, "is" if len(self.texts) == 1 else "are", listed(sorted(self.texts), "and"))
+        hint = near(path, self.texts) or ("; there are %s" % listed(sorted(self.texts), "and") if 1 < len(self.texts) < 9 else "")
+        return "" if path in self.texts else "there is no grammar %s here%s" % (path, hint)
 
     def read(self, path: str) -> bytes:
         return self.texts[path]
 
     def others(self, path: str) -> List[str]:
-        return sorted(set(self.texts) - {path})
+        return sorted(p for p in self.texts if p != path and posixpath.dirname(p) == posixpath.dirname(path))
 
 
 DISK = Disk()
