@@ -235,6 +235,10 @@ async function begun(page, stored) {
   same("its term", page.text("term"), "mkTermVar(rice)");
   page.$("keep").click();
   await page.until("a verdict", () => page.text("verdict") === "1 of 1 as expected");
+  page.run("tests.list[0].expected = 'mkTermVar(soup)'; tests.redo();");
+  await page.until("another verdict", () => page.text("verdict") === "0 of 1 as expected");
+  page.$("rows").querySelector(".verdict").querySelector(".small").click();
+  await page.until("the answer taken", () => page.text("verdict") === "1 of 1 as expected");
   const again = await open("#grammar=mine.grammar", stored);
   same("kept in the browser", [again.text("term"), again.text("file")], ["mkTermVar(rice)", "mine.grammar (not saved yet)"]);
   await page.press("save", "saved", () => page.text("note") === "mine.grammar is saved");
@@ -300,7 +304,10 @@ async function inEmptyFolder() {
   same("its term", page.text("term"), "mkTermVar(rice)");
   await page.press("save", "saved", () => page.text("note") === "mine.grammar is saved");
   await page.choose("house.grammar");
-  await page.press("save", "the house's too", () => page.text("note") === "house.grammar is saved");
+  page.$("save").click();
+  await page.type("grammar", page.$("grammar").value + "# typed on\n");
+  await page.until("the house's is saved too", () => page.text("note") === "house.grammar is saved");
+  same("what was typed on is a change", [page.text("file"), onDisk("house.grammar").includes("typed on")], ["house.grammar (changed)", false]);
   same("on disk", fs.readdirSync(folder).sort(), ["house.grammar", "mine.grammar"]);
 }
 

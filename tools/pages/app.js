@@ -279,11 +279,11 @@ function begun(name) {
 }
 
 async function save() {
-  const of = current;
+  const of = current, text = of.value;   // one may type on while it is saved
   if (!shelf.changed(of)) return;
   try {
-    const made = await ask("save", {name: of.name, texts: {[of.name]: of.value}, stamp: of.stamp});
-    shelf.saved(of, made.stamp);
+    const made = await ask("save", {name: of.name, texts: {[of.name]: text}, stamp: of.stamp});
+    shelf.saved(of, text, made.stamp);
     note(`${of.name} is saved`, "good");
   } catch (e) { note(e.message, "bad"); }
   mention();

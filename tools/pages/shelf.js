@@ -63,8 +63,8 @@ class Shelf {
     return out;
   }
 
-  saved(grammar, stamp) {
-    grammar.text = grammar.value;
+  saved(grammar, text, stamp) {
+    grammar.text = text;
     grammar.stamp = stamp;
     this.keep(grammar);
   }
