@@ -50,12 +50,18 @@ def packed_or_troubles(path: str) -> pack.Packed:
     return pack.pack(read)
 
 
+def refused(packed: pack.Packed) -> str:
+    """Why the proved check refuses a table; nothing if it passes."""
+    refusal = refusal_in(answer(packed.data, b""))
+    return explain(packed, None, refusal) if refusal is not None and refusal.number <= LAST_OF_TABLE else ""
+
+
 def check(path: str) -> str:
     """One line if a grammar passes; else what is wrong, all that can be told at once."""
     packed = packed_or_troubles(path)
-    refusal = refusal_in(answer(packed.data, b""))
-    if refusal is not None and refusal.number <= LAST_OF_TABLE:
-        raise Trouble(explain(packed, None, refusal))
+    said = refused(packed)
+    if said:
+        raise Trouble(said)
     kinds = [(len(packed.nonterminals), "nonterminal"), (sum(1 for _ in phrases(notation.read(path))), "alternative")]
     warned = "".join("%s\n" % w for w in packed.warnings)
     return "%s%s: passes, with %s; %d bytes" % (warned, path, " and ".join(counted(n, what) for n, what in kinds), len(packed.data))
