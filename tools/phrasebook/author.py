@@ -3,6 +3,7 @@
 Every verdict is the proved program's; here it is only asked and shown.
 """
 import os
+import re
 import subprocess
 import tempfile
 from typing import List, NamedTuple, Optional
@@ -49,12 +50,18 @@ def packed_or_troubles(path: str) -> pack.Packed:
     return pack.pack(read)
 
 
+def refused(packed: pack.Packed) -> str:
+    """Why the proved check refuses a table; nothing if it passes."""
+    refusal = refusal_in(answer(packed.data, b""))
+    return explain(packed, None, refusal) if refusal is not None and refusal.number <= LAST_OF_TABLE else ""
+
+
 def check(path: str) -> str:
     """One line if a grammar passes; else what is wrong, all that can be told at once."""
     packed = packed_or_troubles(path)
-    refusal = refusal_in(answer(packed.data, b""))
-    if refusal is not None and refusal.number <= LAST_OF_TABLE:
-        raise Trouble(explain(packed, None, refusal))
+    said = refused(packed)
+    if said:
+        raise Trouble(said)
     kinds = [(len(packed.nonterminals), "nonterminal"), (sum(1 for _ in phrases(notation.read(path))), "alternative")]
     warned = "".join("%s\n" % w for w in packed.warnings)
     return "%s%s: passes, with %s; %d bytes" % (warned, path, " and ".join(counted(n, what) for n, what in kinds), len(packed.data))
@@ -85,25 +92,59 @@ def listing(path: str) -> str:
     return "\n".join("%-*s  %-*s  %s" % (wide, r.nonterminal, long, r.form, r.where) for r in rows)
 
 
+def files(path: str) -> List[str]:
+    """The file of a grammar and those that it uses, whether they are there and can be read or not."""
+    out: List[str] = []
+    ahead = [path]
+    while ahead:
+        file = os.path.normpath(ahead.pop(0))
+        if file in out:
+            continue
+        out.append(file)
+        text = read_file(file).decode("utf-8", "replace") if os.path.isfile(file) else ""
+        ahead += [os.path.join(os.path.dirname(file), used) for used in re.findall(r"^\s*use\s+(\S+)", text, re.MULTILINE)]
+    return out
+
+
 class Tested(NamedTuple):
     """How many formulas were tried, and what is said of those that gave something else."""
     count: int
     failed: List[str]
 
 
-def tested(path: str, tests: str) -> Tested:
-    """Runs a file of lines `FORMULA => TERM` or `FORMULA => refused NUMBER [A B C]`; blank lines and lines that begin with # are remarks."""
-    table = packed_or_troubles(path).data
-    count, failed = 0, []
-    for number, line in enumerate(read_file(tests).decode("utf-8", "replace").splitlines(), 1):
+class Test(NamedTuple):
+    """A line of a file of tests: a formula, and the term or the refusal that is expected."""
+    line: int
+    formula: str
+    expected: str
+
+
+def read_tests(path: str, data: bytes) -> List[Test]:
+    """The lines `FORMULA => TERM` or `FORMULA => refused NUMBER [A B C]`; blank lines and lines that begin with # are remarks."""
+    out = []
+    for number, line in enumerate(data.decode("utf-8", "replace").splitlines(), 1):
         if not line.strip() or line.startswith("#"):
             continue
         formula, arrow, expected = line.rpartition(" => ")
         if not arrow:
-            raise Trouble("%s:%d: a line is `FORMULA => TERM`, or `FORMULA => refused NUMBER`" % (tests, number))
+            raise Trouble("%s:%d: a line is `FORMULA => TERM`, or `FORMULA => refused NUMBER`" % (path, number))
+        out.append(Test(number, formula, expected.strip()))
+    return out
+
+
+def as_expected(found: str, expected: str) -> bool:
+    """Whether a term or a refusal is the one expected; `refused 17` expects any values."""
+    words = expected.split()
+    return found.split()[:len(words)] == words if words[:1] == ["refused"] else found == expected
+
+
+def tested(path: str, tests: str) -> Tested:
+    """Runs a file of tests."""
+    table, failed = packed_or_troubles(path).data, []
+    lines = read_tests(tests, read_file(tests))
+    for number, formula, expected in lines:
         said = answer(table, formula.encode("utf-8"))
         found = said if said.startswith("refused") else said.partition("\n")[2]
-        count += 1
-        if found != expected.strip() and not (expected.startswith("refused") and found.split()[:len(expected.split())] == expected.split()):
-            failed.append("%s:%d: `%s` gives\n    %s\nand expected is\n    %s" % (tests, number, formula, found, expected.strip()))
-    return Tested(count, failed)
+        if not as_expected(found, expected):
+            failed.append("%s:%d: `%s` gives\n    %s\nand expected is\n    %s" % (tests, number, formula, found, expected))
+    return Tested(len(lines), failed)

@@ -1,5 +1,5 @@
 """A refusal with the table and the formula that it is about, and how their parts are named and shown."""
-from typing import List, NamedTuple, Optional
+from typing import List, NamedTuple, Optional, Tuple
 
 from . import reading
 from .grammar import Alternative, Grammar
@@ -14,6 +14,20 @@ class Refusal(NamedTuple):
     a: int
     b: int
     c: int
+
+
+class Part(str):
+    """A part of an explanation: its text, which may be several lines. If it speaks of a field of the table or of a stretch of the formula, it says of
+    which, and what is said of it without its place."""
+    field: Optional[int] = None
+    stretch: Optional[Tuple[int, int]] = None
+    said = ""
+
+
+def part(text: str, said: str, field: Optional[int] = None, stretch: Optional[Tuple[int, int]] = None) -> Part:
+    out = Part(text)
+    out.said, out.field, out.stretch = said, field, stretch
+    return out
 
 
 class Case:
@@ -53,7 +67,7 @@ class Case:
 
     def at(self, place: int, said: str, *hints: str) -> List[str]:
         """What is to be said of a field, with its place and its text; hints follow."""
-        return ["%s: %s" % (self.where(place), said)] + self.shown(place) + list(hints)
+        return [part("%s: %s" % (self.where(place), said), said, field=place)] + self.shown(place) + list(hints)
 
     def word(self, index: int) -> List[str]:
         """The token of the formula with this index, marked in its line."""
@@ -71,7 +85,8 @@ class Case:
         before = self.formula[:offset].split(b"\n")
         left = before[-1].decode("utf-8", "replace")
         right = self.formula[offset:].split(b"\n", 1)[0].decode("utf-8", "replace")
-        return ["formula, line %d, column %d: %s" % (len(before), len(left) + 1, what), marked(left + right, len(left), width)]
+        text = "formula, line %d, column %d: %s" % (len(before), len(left) + 1, what)
+        return [part(text, what, stretch=(offset, width)), marked(left + right, len(left), width)]
 
     def kinds(self, bits: int) -> List[str]:
         """The token kinds of a set: bit 0 a word, bit 1 a number, bit k + 2 keyword k."""

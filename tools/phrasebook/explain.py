@@ -27,10 +27,19 @@ def foreign(case: Case) -> List[str]:
     return ["the values %d %d %d belong to nothing in what is given here: was this table refused, with this formula?" % (case.a, case.b, case.c)]
 
 
-def explain(packed: Packed, formula: Optional[bytes], refusal: Refusal) -> str:
+def parts(packed: Packed, formula: Optional[bytes], refusal: Refusal) -> List[str]:
+    """The explanation part by part, behind the words of the cause; parts that speak of a place are of the kind Part, and say of which."""
     case = Case(packed, formula, refusal)
-    details = DETAILS[refusal.number](case) or foreign(case)
+    return DETAILS[refusal.number](case) or foreign(case)
+
+
+def told(refusal: Refusal, details: List[str]) -> str:
+    """An explanation as text."""
     lines = ["refused %d: %s" % (refusal.number, CAUSES[refusal.number])]
     for part in details:
         lines += ["  " + line for line in part.split("\n")]
     return "\n".join(lines)
+
+
+def explain(packed: Packed, formula: Optional[bytes], refusal: Refusal) -> str:
+    return told(refusal, parts(packed, formula, refusal))

@@ -15,12 +15,11 @@ The notation is that of Figure 2 of 001, with lines for what the figure leaves t
     template    = NAME | CONSTRUCTOR arguments | "global" "(" WORD ")" | "label" "(" WORD ")"
     arguments   = "(" { template } ")"
 """
-import os
 import re
 from dataclasses import dataclass, field
 from typing import List, NamedTuple, Optional, Tuple
 
-from .source import Spot, Trouble, is_table, listed, near, read_file
+from .source import DISK, Disk, Spot, Trouble, is_table, listed, near
 from .table import BY_NAME, MODES, SORTS
 
 LEXEME = re.compile(r'"""|"[^"]*"|=>|\|==|==|:=|<<|>>|[A-Za-z][A-Za-z0-9_]*|\S')
@@ -86,6 +85,7 @@ class Block:
 @dataclass
 class Notation:
     path: str
+    files: Disk = DISK
     keywords: List[Token] = field(default_factory=list)
     names: List[Token] = field(default_factory=list)
     blocks: List[Block] = field(default_factory=list)
@@ -160,7 +160,7 @@ class Parser:
     def __init__(self, path: str, into: Notation, using: Tuple[str, ...], used: set):
         self.path, self.into, self.using, self.used = path, into, using, used
         self.rooted = False
-        lines = decoded(path, read_file(path))
+        lines = decoded(path, into.files.read(path))
         self.tokens, self.at = tokens(path, lines, into.troubles), 0
         last = self.tokens[-1].spot if self.tokens else Spot(path, 1, 1, 0, "")
         self.end = Token("", last._replace(column=last.column + last.width, width=1))
@@ -241,14 +241,14 @@ class Parser:
         words = self.same_line(first)
         if len(words) != 1:
             raise Trouble("one file is named behind use", first.spot)
-        path = os.path.join(os.path.dirname(self.path), words[0].text)
-        here = os.path.realpath(path)
+        path = self.into.files.beside(self.path, words[0].text)
+        here = self.into.files.key(path)
         if here in self.using:
             raise Trouble("%s is used by itself, by way of this line" % words[0].text, words[0].spot)
         if here in self.used:
             return
-        if not os.path.isfile(path):
-            raise Trouble("the file %s is not there" % path, words[0].spot)
+        if self.into.files.missing(path):
+            raise Trouble(self.into.files.missing(path), words[0].spot)
         read_into(path, self.into, self.using, self.used)
 
     def section_keywords(self, first: Token) -> None:
@@ -374,14 +374,14 @@ class Parser:
 
 
 def read_into(path: str, into: Notation, using: Tuple[str, ...], used: set) -> None:
-    here = os.path.realpath(path)
+    here = into.files.key(path)
     used.add(here)
     Parser(path, into, using + (here,), used).file()
 
 
-def read_all(path: str) -> Notation:
+def read_all(path: str, files: Disk = DISK) -> Notation:
     """The notation of a file and of the files that it uses, with all that is wrong in it, in the order of the lines."""
-    out = Notation(path)
+    out = Notation(path, files)
     try:
         read_into(path, out, (), set())
     except Trouble as e:
@@ -390,9 +390,9 @@ def read_all(path: str) -> Notation:
     return out
 
 
-def read(path: str) -> Notation:
+def read(path: str, files: Disk = DISK) -> Notation:
     """The same, or the first thing that is wrong."""
-    out = read_all(path)
+    out = read_all(path, files)
     if out.troubles:
         raise out.troubles[0]
     return out

@@ -3,13 +3,12 @@
 What has no bytes is refused here, with its spot: an unknown name, a wrong count of a constructor's arguments. All else is packed as it is
 written and judged by the proved check.
 """
-import os
 import re
 from typing import Dict, List, NamedTuple, Optional, Sequence, Set
 
 from . import notation
 from .notation import Alternative, Definition, Item, Notation, Token
-from .source import Spot, Trouble, counted, listed, near, read_file, stand
+from .source import DISK, Disk, Spot, Trouble, counted, listed, near, stand
 from .table import (ALTERNATIVE, BINDER, BLOCK, BY_NAME, DEFINITION, GLOBAL, IS_CALL, IS_IDE, IS_KEYWORD, IS_LOCAL, IS_NUMBER, ITEM, KEYWORD,
                     LABEL, NAME, OUTSIDE_LABEL, RESULT, ROOT, SORTS, VAR, VARIABLES, encode)
 
@@ -18,12 +17,14 @@ OTHER_ITEMS = {"number": IS_NUMBER, "local": IS_LOCAL}
 
 
 class Packed(NamedTuple):
-    """A table with what its bytes leave out: where each field was written, the names of nonterminals and of each alternative's variables."""
+    """A table with what its bytes leave out: where each field was written, the names of nonterminals and of each alternative's variables; and the
+    files that its notation was read from."""
     data: bytes
     spots: Dict[int, Spot]
     nonterminals: Dict[int, str]
     variables: Dict[int, Dict[int, str]]
     warnings: Sequence[Trouble] = ()
+    files: Disk = DISK
 
 
 def spelled(keyword: Token) -> str:
@@ -70,17 +71,17 @@ def check_names(parameters: List[str], a: Alternative) -> None:
         known.add(name.text)
 
 
-def defined_beside(path: str, name: str) -> str:
+def defined_beside(files: Disk, path: str, name: str) -> str:
     """A hint at a grammar in the same folder that adds this nonterminal."""
-    folder = os.path.dirname(path) or "."
     adds = re.compile(r"^\s*%s\s*(\([^)]*\))?\s*:\s*\w+\s*==" % re.escape(name), re.MULTILINE)
-    for other in sorted(f for f in os.listdir(folder) if f.endswith(".grammar") and f != os.path.basename(path)):
+    for other in files.others(path):
         try:
-            text = read_file(os.path.join(folder, other)).decode("utf-8", "replace")
+            text = files.read(other).decode("utf-8", "replace")
         except Trouble:
             continue
         if adds.search(text):
-            return "; %s has it: a line `use %s` takes it over" % (other, other)
+            name = other.rpartition("/")[2]
+            return "; %s has it: a line `use %s` takes it over" % (name, name)
     return ""
 
 
@@ -113,7 +114,7 @@ class Packer:
                 self.definition(d)
         if self.notation.root is not None:
             self.put(ROOT, bytes([self.nonterminal(self.notation.root)]), self.notation.root.spot)
-        return Packed(bytes(self.data), self.spots, {v: k for k, v in self.numbers.items()}, self.variables, self.warnings)
+        return Packed(bytes(self.data), self.spots, {v: k for k, v in self.numbers.items()}, self.variables, self.warnings, self.notation.files)
 
     def put(self, tag: int, value: bytes, spot: Spot) -> None:
         if len(value) > 0xFFFF:
@@ -126,10 +127,13 @@ class Packer:
             raise Trouble("this is %s %d, and a table has one byte for its number" % (what, number), spot)
         return number
 
+    def beside(self, name: str) -> str:
+        return defined_beside(self.notation.files, self.notation.path, name)
+
     def nonterminal(self, token: Token) -> int:
         if token.text in self.numbers:
             return self.numbers[token.text]
-        hint = near(token.text, self.numbers) or defined_beside(self.notation.path, token.text)
+        hint = near(token.text, self.numbers) or self.beside(token.text)
         raise Trouble("`%s` is no nonterminal of this grammar%s" % (token.text, hint), token.spot)
 
     def definition(self, d: Definition) -> None:
@@ -180,7 +184,7 @@ class Packer:
         if what.text in OTHER_ITEMS:
             return bytes([OTHER_ITEMS[what.text], 0])
         if what.text not in self.numbers:
-            hint = (near(what.text, list(self.numbers) + ["ide", "number", "local"]) or defined_beside(self.notation.path, what.text)
+            hint = (near(what.text, list(self.numbers) + ["ide", "number", "local"]) or self.beside(what.text)
                     or '; a keyword stands in quotes, as "%s"' % what.text)
             raise Trouble("`%s` is no nonterminal of this grammar%s" % (what.text, hint), what.spot)
         arguments = b"".join(self.template(t, variables) for t in item.arguments)

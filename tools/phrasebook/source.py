@@ -1,6 +1,8 @@
 """Where things stand in files, and messages about them."""
 import difflib
-from typing import Iterable, NamedTuple, Optional
+import os
+import posixpath
+from typing import Dict, Iterable, List, NamedTuple, Optional
 
 
 class Spot(NamedTuple):
@@ -47,6 +49,56 @@ def read_file(path: str) -> bytes:
             return f.read()
     except OSError as e:
         raise Trouble("%s: cannot be read: %s" % (path, e.strerror or "no such file"))
+
+
+class Disk:
+    """The grammars of this machine's folders, by their paths."""
+
+    def beside(self, path: str, name: str) -> str:
+        """What a grammar calls by this name."""
+        return os.path.join(os.path.dirname(path), name)
+
+    def key(self, path: str) -> str:
+        """The same for all paths of one file."""
+        return os.path.realpath(path)
+
+    def missing(self, path: str) -> str:
+        """What is said if there is no such grammar; nothing if there is."""
+        return "" if os.path.isfile(path) else "the file %s is not there" % path
+
+    def read(self, path: str) -> bytes:
+        return read_file(path)
+
+    def others(self, path: str) -> List[str]:
+        """The other grammars in the same folder."""
+        own = os.path.basename(path)
+        return [self.beside(path, f) for f in sorted(os.listdir(os.path.dirname(path) or ".")) if f.endswith(".grammar") and f != own]
+
+
+class Texts(Disk):
+    """Grammars held by their names, which are as paths within one folder; no name is ever opened as a path."""
+
+    def __init__(self, texts: Dict[str, bytes]):
+        self.texts = texts
+
+    def beside(self, path: str, name: str) -> str:
+        return posixpath.normpath(posixpath.join(posixpath.dirname(path), name))
+
+    def key(self, path: str) -> str:
+        return path
+
+    def missing(self, path: str) -> str:
+        hint = near(path, self.texts) or ("; there are %s" % listed(sorted(self.texts), "and") if 1 < len(self.texts) < 9 else "")
+        return "" if path in self.texts else "there is no grammar %s here%s" % (path, hint)
+
+    def read(self, path: str) -> bytes:
+        return self.texts[path]
+
+    def others(self, path: str) -> List[str]:
+        return sorted(p for p in self.texts if p != path and posixpath.dirname(p) == posixpath.dirname(path))
+
+
+DISK = Disk()
 
 
 def is_table(path: str, data: bytes) -> bool:

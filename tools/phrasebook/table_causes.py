@@ -175,7 +175,7 @@ def nothing_to_extend(case: Case) -> List[str]:
         return case.at(d.field.place, "this block defines %s already, at %s; a block defines a nonterminal once" % (name, first))
     if not earlier:
         spot = case.packed.spots.get(d.field.place)
-        hint = defined_beside(spot.path, name.strip("`")) if spot else ""
+        hint = defined_beside(case.packed.files, spot.path, name.strip("`")) if spot else ""
         return case.at(d.field.place, "there is no %s in an earlier block to %s%s" % (name, verb, hint or "; `==` adds a new nonterminal"))
     old = earlier[-1]
     return case.at(d.field.place, "the signature is %s here, and %s at %s" % (signature(case, d), signature(case, old), case.where(old.field.place)))
