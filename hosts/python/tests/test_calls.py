@@ -10,8 +10,8 @@ import threading
 import unittest
 from array import array
 
-from vegzump import (FORMULA_BYTES, ROW_CELLS, ROWS, STACK, TABLE_BYTES, Accepted, Refusal, __version__, causes, check, expand, expand_each, expand_texts,
-                     expand_whole)
+from vegzump import (FORMULA_BYTES, ROW_CELLS, ROWS, STACK, TABLE_BYTES, Accepted, Portion, Refusal, __version__, causes, check, expand, expand_each, expand_texts,
+                     expand_whole, portions, portions_whole)
 
 ROOT = os.path.dirname(os.path.dirname(os.path.dirname(os.path.dirname(os.path.abspath(__file__)))))
 CASES = os.environ.get("VEGZUMP_CASES") or os.path.join(ROOT, "crates", "conformance", "data", "cases.bin")
@@ -217,6 +217,26 @@ class Calls(unittest.TestCase):
         self.assertEqual(expanded([most, 0, most - 1, most], 48), ([24, 0, 24, 0], long + long + "." * 24))
         for end in (-1, most + 1):
             self.assertRaises(OverflowError, expanded, [end], 3)
+
+    def test_portions_of_a_formula(self):
+        """With a list that is enough, too short or longer than the numbers are, and with counts at their limits."""
+        table, formula = next(every_case())[0], "{oats=80 milk=207}"
+        self.assertEqual(portions_whole(table, formula, 4, 6), [Portion(80, 120, 0), Portion(207, 310, 2)])
+        for lent in range(9):
+            cells, numbers = cells_of(64), array("Q", [7]) * lent
+            try:
+                self.assertEqual(portions(table, formula, 4, 6, cells, numbers).text, 6)
+                self.assertEqual(list(numbers), [80, 120, 0, 207, 310, 2] + [7] * (lent - 6))
+            except causes.TextTooLong as refusal:
+                self.assertEqual((refusal.needed, list(numbers), lent < 6), (6, [7] * lent, True))
+        for written, wanted in ((0, 1), (1, 0), (10_001, 1), (1, 10_001), ((1 << 64) - 1, (1 << 64) - 1)):
+            for given in (table, b""):
+                self.assertRaises(causes.BadPortions, portions_whole, given, formula, written, wanted)
+        self.assertEqual(portions_whole(table, "999999999", 10_000, 9_999), [Portion(999_999_999, 999_899_999, 1)])
+        self.assertEqual(len(portions_whole(table, "{" + "".join("f%d=%d " % (n, n) for n in range(100)) + "}", 1, 1)), 100)
+        self.assertRaises(OverflowError, portions_whole, table, formula, -1, 1)
+        self.assertRaises(OverflowError, portions_whole, table, formula, 1, 1 << 64)
+        self.assertRaises(TypeError, portions, table, formula, 1, 1, cells_of(4), array("I", [0]))
 
     def test_nothing_at_all(self):
         self.assertRaises(causes.FieldOutOfOrder, check, b"")

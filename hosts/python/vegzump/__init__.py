@@ -23,8 +23,8 @@ from typing import Iterable, List, NamedTuple, Sequence, Tuple, Union
 from . import causes
 from .refusal import Refusal, refusal
 
-__all__ = ["check", "expand", "expand_each", "expand_texts", "expand_whole", "causes", "Refusal", "Accepted", "Expansion",
-           "STACK", "TABLE_BYTES", "FORMULA_BYTES", "ROWS", "ROW_CELLS"]
+__all__ = ["check", "expand", "expand_each", "expand_texts", "expand_whole", "portions", "portions_whole", "causes", "Refusal", "Accepted", "Expansion",
+           "Portion", "STACK", "TABLE_BYTES", "FORMULA_BYTES", "ROWS", "ROW_CELLS"]
 
 # Bytes of stack that a call takes at the worst.
 STACK = 3_670_016
@@ -42,7 +42,7 @@ Bytes = Union[bytes, bytearray, memoryview, str]
 
 class Accepted(NamedTuple):
     """What an accepted formula gave: rows of cells made, unused ones too; constructors of the term, those of a shared part at each of its places; bytes of
-    text."""
+    text, or for `portions` 64-bit numbers of the list."""
     cells: int
     constructors: int
     text: int
@@ -53,6 +53,13 @@ class Expansion(NamedTuple):
     rows: List[Tuple[int, ...]]
     constructors: int
     text: str
+
+
+class Portion(NamedTuple):
+    """A number of a formula's term for another count of portions: grams * written + remainder == number * wanted, and remainder < written."""
+    number: int
+    grams: int
+    remainder: int
 
 
 class _Answer(ctypes.Structure):
@@ -70,6 +77,7 @@ def _library(kind):
     library.vegzump_check.restype, library.vegzump_check.argtypes = _Answer, _READ
     library.vegzump_expand.restype, library.vegzump_expand.argtypes = _Answer, 2 * _READ + 2 * _LENT
     library.vegzump_expand_each.restype, library.vegzump_expand_each.argtypes = ctypes.c_size_t, 2 * _READ + 4 * _LENT
+    library.vegzump_portions.restype, library.vegzump_portions.argtypes = _Answer, 2 * _READ + 2 * [ctypes.c_uint64] + 2 * _LENT
     return library
 
 
@@ -88,13 +96,13 @@ def _lent(room, size):
     """Memory that is lent, of numbers of so many bytes each, held as long as the array is."""
     view = memoryview(room)
     if view.itemsize != size or view.ndim != 1:
-        raise TypeError("lent is one row of numbers of %d bytes each, such as array('%s')" % (size, "I" if size == 4 else "B"))
-    return ({1: ctypes.c_uint8, 4: ctypes.c_uint32}[size] * len(view)).from_buffer(room)
+        raise TypeError("lent is one row of numbers of %d bytes each, such as array('%s')" % (size, {1: "B", 4: "I", 8: "Q"}[size]))
+    return ({1: ctypes.c_uint8, 4: ctypes.c_uint32, 8: ctypes.c_uint64}[size] * len(view)).from_buffer(room)
 
 
-def _rooms(cells, text):
-    """Cells and text of a caller as arrays, which have no byte in common."""
-    rooms = _lent(cells, 4), _lent(text, 1)
+def _rooms(cells, text, size=1):
+    """Cells and a text, or a list, of a caller as arrays, which have no byte in common."""
+    rooms = _lent(cells, 4), _lent(text, size)
     starts = [ctypes.addressof(room) for room in rooms]
     if max(starts) < min(start + ctypes.sizeof(room) for start, room in zip(starts, rooms)):
         raise ValueError("cells and text overlap")
@@ -187,3 +195,31 @@ def expand_whole(table: Bytes, formula: Bytes) -> Expansion:
     accepted = _taken(answer)
     numbers = iter(cells[:ROW_CELLS * accepted.cells])
     return Expansion(list(zip(*[numbers] * ROW_CELLS)), accepted.constructors, bytes(text[:accepted.text]).decode("ascii"))
+
+
+def _listed(library, table, formula, written, wanted, cells, numbers):
+    if min(written, wanted) < 0 or max(written, wanted) >= 1 << 64:
+        raise OverflowError("a count of portions is a number of 64 bits")
+    found = library.vegzump_portions(*_read(table), *_read(formula), written, wanted, cells, len(cells), numbers, len(numbers))
+    return _answer(found.number, found.a, found.b, found.c)
+
+
+def portions(table: Bytes, formula: Bytes, written: int, wanted: int, cells, numbers) -> Accepted:
+    """Expands the formula as `expand` does, and writes into `numbers`, in place of its text, the numbers of its term for another count of portions: three for
+    each number, from the left and at each of its places: itself, the whole grams and the remainder. Raises a Refusal.
+
+    `numbers` is an array('Q') or another writable buffer of 64-bit numbers. It is written on acceptance only; TextTooLong tells how many it needs, and a count of
+    portions that is 0 or over 10,000 is BadPortions, before the table is looked at.
+    """
+    return _taken(_listed(_alone, table, formula, written, wanted, *_rooms(cells, numbers, 8)))
+
+
+def portions_whole(table: Bytes, formula: Bytes, written: int, wanted: int) -> List[Portion]:
+    """All numbers of a formula's term for another count of portions, with as much room as the formula needs. Raises a Refusal."""
+    cells, numbers = (ctypes.c_uint32 * (ROWS * ROW_CELLS))(), (ctypes.c_uint64 * (3 * 64))()
+    answer = _listed(_free, table, formula, written, wanted, cells, numbers)
+    if isinstance(answer, causes.TextTooLong):
+        numbers = (ctypes.c_uint64 * answer.needed)()
+        answer = _listed(_free, table, formula, written, wanted, cells, numbers)
+    entries = iter(numbers[:_taken(answer).text])
+    return [Portion(*entry) for entry in zip(*[entries] * 3)]

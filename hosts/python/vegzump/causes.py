@@ -142,6 +142,12 @@ class LooseFreshVariable(Refusal):
 
 
 class TextTooLong(Refusal):
-    """24: the text is longer than its buffer; a length needed."""
+    """24: the text, or the list in its place, is longer than its buffer; a length needed."""
     number, names = 24, ('needed',)
-    message = "the text needs {needed} bytes"
+    message = "the text needs {needed} bytes, or the list {needed} numbers"
+
+
+class BadPortions(Refusal):
+    """25: a count of portions is 0 or over 10,000."""
+    number, names = 25, ()
+    message = "a count of portions is 0 or over 10,000"
