@@ -11,7 +11,7 @@
 #include <stdio.h>
 #include <stdlib.h>
 
-#define ENTRIES VEGZUMP_ROWS /* a term has no more numbers than constructors, and no more of these than rows may be made */
+#define ENTRIES VEGZUMP_ROWS /* a term has at most 16,384 constructors, as many as rows may be made */
 
 static uint8_t table[VEGZUMP_TABLE_BYTES + 1], formula[VEGZUMP_FORMULA_BYTES + 1]; /* one more byte each: what is too long is seen to be */
 static uint32_t cells[VEGZUMP_ROWS * VEGZUMP_ROW_CELLS];
