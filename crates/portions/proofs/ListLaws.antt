@@ -80,9 +80,9 @@ entry-room written wanted n at e l = omega (arith, ap length e, entries-length w
 first-room : (at : ℕ) (first second : List ℕ) {whole : List ℕ} → whole ≡ first ++ second → at + length whole < 2 ^ 62 → at + length first < 2 ^ 62
 first-room at first second e l = omega (arith, ap length e, length-append first second)
 
-second-room : (at : ℕ) (first second : List ℕ) {whole : List ℕ} {middle : ℕ} {list list′ : List ℕ} → whole ≡ first ++ second → at + length whole < 2 ^ 62
-    → Wrote list at first middle list′ → middle + length second < 2 ^ 62
-second-room at first second e l w = omega (arith, ap length e, length-append first second, w .end)
+second-room : (at : ℕ) (first second : List ℕ) {whole : List ℕ} {place : ℕ} → whole ≡ first ++ second → at + length whole < 2 ^ 62
+    → place ≤ at + length first → place + length second < 2 ^ 62
+second-room at first second e l no-further = omega (arith, ap length e, length-append first second)
 
 module _ {written wanted : ℕ} {cells : List ℕ} {depth row at : ℕ} (m : TermFits written wanted cells depth row at) where
   abbrev Entries : List ℕ
@@ -135,14 +135,19 @@ module _ {written wanted : ℕ} {cells : List ℕ} {depth row at : ℕ} (m : Ter
           let last-entries = entriesAt written wanted cells (depth - 1) last in
           record { counts = m .counts; room = first-room at first-entries last-entries app-entries (m .room) }
 
-      module _ {list list′ : List ℕ} {middle : ℕ} (w : Wrote list at (entriesAt written wanted cells (depth - 1) first) middle list′) where
-        -- then the second,
-        pub app-last : TermFits written wanted cells (depth - 1) last middle
-        app-last = record { counts = m .counts; room = second-room at _ _ app-entries (m .room) w }
+      -- then the second, from where the first ends, or before,
+      pub app-last : {place : ℕ} → place ≤ at + length (entriesAt written wanted cells (depth - 1) first) → TermFits written wanted cells (depth - 1) last place
+      app-last l =
+          let first-entries = entriesAt written wanted cells (depth - 1) first in
+          let last-entries = entriesAt written wanted cells (depth - 1) last in
+          record { counts = m .counts; room = second-room at first-entries last-entries app-entries (m .room) l }
 
-        -- and both are the application's
-        pub app-wrote : {list″ : List ℕ} {r : ℕ} → Wrote list′ middle (entriesAt written wanted cells (depth - 1) last) r list″ → Wrote list at Entries r list″
-        app-wrote w′ = rw app-entries (wrote-then w w′)
+      -- and both, the second from where the first ends, are the application's
+      pub app-wrote : {list list′ list″ : List ℕ} {middle r : ℕ}
+          → Wrote list at (entriesAt written wanted cells (depth - 1) first) middle list′
+          → Wrote list′ middle (entriesAt written wanted cells (depth - 1) last) r list″
+          → Wrote list at Entries r list″
+      app-wrote w w′ = rw app-entries (wrote-then w w′)
 
     -- a record has those of its fields
     module _ (is : code ≡ 0x23) {first : ℕ} (one : first ≡ column cells row 1) where
@@ -238,15 +243,19 @@ module _ {written wanted : ℕ} {cells : List ℕ} {depth row at : ℕ} (m : Fie
           let last-entries = fieldEntriesAt written wanted cells (depth - 1) others in
           record { counts = m .counts; room = first-room at first-entries last-entries cons-entries (m .room) }
 
-      module _ {list list′ : List ℕ} {middle : ℕ} (w : Wrote list at (entriesAt written wanted cells (depth - 1) part) middle list′) where
-        -- then the others,
-        pub cons-rest : FieldsFit written wanted cells (depth - 1) others middle
-        cons-rest = record { counts = m .counts; room = second-room at _ _ cons-entries (m .room) w }
+      -- then the others, from where these end, or before,
+      pub cons-rest : {place : ℕ} → place ≤ at + length (entriesAt written wanted cells (depth - 1) part) → FieldsFit written wanted cells (depth - 1) others place
+      cons-rest l =
+          let first-entries = entriesAt written wanted cells (depth - 1) part in
+          let last-entries = fieldEntriesAt written wanted cells (depth - 1) others in
+          record { counts = m .counts; room = second-room at first-entries last-entries cons-entries (m .room) l }
 
-        -- and all are the field's
-        pub cons-wrote : {list″ : List ℕ} {r : ℕ} → Wrote list′ middle (fieldEntriesAt written wanted cells (depth - 1) others) r list″
-            → Wrote list at FieldEntries r list″
-        cons-wrote w′ = rw cons-entries (wrote-then w w′)
+      -- and all, the others from where these end, are the field's
+      pub cons-wrote : {list list′ list″ : List ℕ} {middle r : ℕ}
+          → Wrote list at (entriesAt written wanted cells (depth - 1) part) middle list′
+          → Wrote list′ middle (fieldEntriesAt written wanted cells (depth - 1) others) r list″
+          → Wrote list at FieldEntries r list″
+      cons-wrote w w′ = rw cons-entries (wrote-then w w′)
 
 -- ------------------------------------------------------------------ a whole term
 

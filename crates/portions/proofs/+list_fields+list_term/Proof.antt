@@ -85,7 +85,7 @@ fields-list-fields-requires t c κs =
     let entry = fields-entry is-cons in (
       omega (arith, entry .pre .0, is-cons .before .before .before .if1 .left),
       laws.cons-rest (entry .pre .1) (is-cons .before .before .before .if1 .left) (is-cons .before .column .ensures) (is-cons .if2 .taken)
-          (read .before .before .column2 .ensures) (read .column3 .ensures) (term .list-term .ensures),
+          (read .before .before .column2 .ensures) (read .column3 .ensures) (omega (arith, term .list-term .ensures .end)),
     )
 
 term-list-term-requires : (t : ℕ) → term-lts.Need-list-term-requires (term-claims t) (term-at t) list-term.Post
@@ -118,7 +118,7 @@ term-list-term-requires-3 t c κs =
     let entry = term-entry code in (
       omega (arith, entry .pre .0, code .before .before .if1 .left),
       laws.app-last (entry .pre .1) (code .before .before .if1 .left) (code .column .ensures) (matched .match .keys3)
-          (row .before .before .column2 .ensures) (row .column3 .ensures) (term .list-term2 .ensures),
+          (row .before .before .column2 .ensures) (row .column3 .ensures) (omega (arith, term .list-term2 .ensures .end)),
     )
 
 term-list-fields-requires : (t : ℕ) → term-lts.Need-list-fields-requires (term-claims t) (term-at t) list-term.Post
