@@ -109,9 +109,13 @@ tells-own f {i} {line} {table} is e tells =
 
 -- the lines before line i are told
 pub record Telling (f : Files) (out₀ out : List ℕ) (told : Told) (i : ℕ) : Type 0 where
+  -- the line is one of nine, or behind the last
   pub within : i ≤ 9
+  -- no more differ than were told
   pub few : told .differ ≤ i
+  -- what is laid is what is written of the lines before
   pub lays : Lays out₀ 0 (toldTo f i) (told .size) out
+  -- and what is counted are those of them that differ
   pub counts : told .differ ≡ differTo f i
 
 module _ {f : Files} {out₀ : List ℕ} where
