@@ -19,14 +19,15 @@ use std::time::{Duration, Instant};
 use times::{shown, Room};
 
 const USAGE: &str = "\
-usage: bench/run [compare] [times] [growth] [many] [portions] [counts] [--draws N] [--seed N] [--cases FILE] [--budget MS] [--hash MULTIPLIER]
+usage: bench/run [compare] [times] [growth] [many] [portions] [spellings] [counts] [--draws N] [--seed N] [--cases FILE] [--budget MS] [--hash MULTIPLIER]
   compare   the conformance cases, the inputs that are measured, and N drawn inputs (100,000; seed 1)
   times     best times of both, archive over plain, for each input; MS milliseconds (300) for each; and instructions, where valgrind is installed
   growth    times at one, two, four and eight times a size
   many      times of a formula among many of one table: one check for all, and a check for each
   portions  times of a record's numbers for another count of portions, at one, two, four and eight times a size
+  spellings times of comparing two equal runs of bytes
   counts    instructions of both, by valgrind's callgrind
-Without a word: compare, times, growth, many, portions. --hash is the multiplier (31) of the polynomial hash for which colliding words are made.";
+Without a word: all but counts. --hash is the multiplier (31) of the polynomial hash for which colliding words are made.";
 
 struct Options {
     parts: Vec<String>,
@@ -52,7 +53,7 @@ fn options() -> Option<Options> {
     let mut words = std::env::args().skip(1);
     while let Some(word) = words.next() {
         match word.as_str() {
-            "compare" | "times" | "growth" | "many" | "portions" | "counts" => options.parts.push(word),
+            "compare" | "times" | "growth" | "many" | "portions" | "spellings" | "counts" => options.parts.push(word),
             "--draws" => options.draws = words.next()?.replace(',', "").parse().ok()?,
             "--seed" => options.seed = words.next()?.parse().ok()?,
             "--cases" => options.cases = words.next()?,
@@ -66,7 +67,7 @@ fn options() -> Option<Options> {
         }
     }
     if options.parts.is_empty() {
-        options.parts = ["compare", "times", "growth", "many", "portions"].map(String::from).to_vec();
+        options.parts = ["compare", "times", "growth", "many", "portions", "spellings"].map(String::from).to_vec();
     }
     Some(options)
 }
@@ -94,6 +95,7 @@ fn run(options: &Options) -> ExitCode {
             "growth" => growth(options),
             "many" => many(options, &list),
             "portions" => portions(options),
+            "spellings" => spellings(options),
             _ => well &= counts(&list),
         }
         println!();
@@ -126,7 +128,12 @@ fn compare(options: &Options, list: &[Input]) -> bool {
     }
     println!("measured inputs: {} compared, {} differ", of_inputs.inputs, of_inputs.differ);
 
+    let mut of_runs = Comparison::default();
+    each_place(&mut of_runs);
+    println!("runs of bytes that differ at each place: {} compared, {} differ", of_runs.inputs, of_runs.differ);
+
     let (mut of_draws, mut of_many, mut of_portions) = (Comparison::default(), Comparison::default(), Comparison::default());
+    let mut of_drawn_runs = Comparison::default();
     let mut passing: Vec<Vec<u8>> = cases.iter().map(|case| case.table.clone()).filter(|table| plain::check(table).number == 0).collect();
     passing.sort();
     passing.dedup();
@@ -139,6 +146,8 @@ fn compare(options: &Options, list: &[Input]) -> bool {
         of_draws.input(&label, &drawn.table, &drawn.formula, cells, text);
         let (counts, list) = drawn_portions(&mut draws, &drawn, &mut room);
         of_portions.portions(&label, &drawn.table, &drawn.formula, counts, cells, list);
+        let [a, b] = draw::runs(&mut draws);
+        of_drawn_runs.runs(&label, a.bytes(), b.bytes());
         if number % 8 == 0 {
             of_many.many(&label, &drawn.table, &draw::many(&mut draws, &drawn.formula), cells, 2 * text);
         }
@@ -148,8 +157,31 @@ fn compare(options: &Options, list: &[Input]) -> bool {
     println!("drawn lists of formulas, seed {}: {} compared, {} differ", options.seed, of_many.inputs, of_many.differ);
     println!("drawn portions, seed {}: {} compared, {} differ", options.seed, of_portions.inputs, of_portions.differ);
     println!("  answers by number: {}", of_portions.answered());
+    println!("drawn runs of bytes, seed {}: {} compared, {} differ", options.seed, of_drawn_runs.inputs, of_drawn_runs.differ);
+    let [equal, byte, length, ..] = of_drawn_runs.numbers;
+    println!("  equal: {equal}, a byte differs: {byte}, the lengths differ: {length}");
     println!("  {:.1} s", start.elapsed().as_secs_f64());
-    of_cases.differ + of_inputs.differ + of_draws.differ + of_many.differ + of_portions.differ == 0
+    let all = [of_cases, of_inputs, of_runs, of_draws, of_many, of_portions, of_drawn_runs];
+    all.iter().all(|comparison| comparison.differ == 0)
+}
+
+/// Runs of every length up to eight words and a tail, each beside itself, beside itself with another byte at each place, and beside each shorter one, at every
+/// distance from a word of memory.
+fn each_place(comparison: &mut Comparison) {
+    for length in 0..72 {
+        let bytes: Vec<u8> = (0..length).map(|at| (31 * at + length) as u8).collect();
+        let run = draw::Run::new(length % 8, &bytes);
+        for from in 0..8 {
+            let mut beside = |other: &[u8]| comparison.runs("each-place", run.bytes(), draw::Run::new(from, other).bytes());
+            beside(&bytes);
+            for at in 0..length {
+                let mut other = bytes.clone();
+                other[at] ^= 1 << ((at + from) % 8);
+                beside(&other);
+                beside(&bytes[..at]);
+            }
+        }
+    }
 }
 
 /// Counts of portions, at their limits, outside them and any, and how long a list is lent: enough, just enough, too short or none.
@@ -272,6 +304,15 @@ fn portions(options: &Options) {
     for (size, input) in &series.inputs {
         let [archive, plain] = times::best_of_portions(input, &mut room, options.budget);
         println!("| {size} | {} | {} | {:.2} |", shown(archive), shown(plain), archive / plain);
+    }
+}
+
+fn spellings(options: &Options) {
+    println!("| bytes, equal runs | comparisons | archive, ns | plain Rust | ratio |");
+    println!("|---|---|---|---|---|");
+    for length in [3, 8, 31, 64, 255, 65_536] {
+        let [archive, plain] = times::best_of_runs(length, options.budget);
+        println!("| {length} | {} | {} | {} | {:.2} |", length / 8 + length % 8, shown(archive), shown(plain), archive / plain);
     }
 }
 
