@@ -14,6 +14,7 @@ use compare::Comparison;
 use draw::Draws;
 use inputs::Input;
 use sides::Side;
+use std::path::PathBuf;
 use std::process::{Command, ExitCode};
 use std::time::{Duration, Instant};
 use times::{shown, Room};
@@ -25,7 +26,7 @@ usage: bench/run [compare] [times] [growth] [many] [portions] [spellings] [count
   growth    times at one, two, four and eight times a size
   many      times of a formula among many of one table: one check for all, and a check for each
   portions  times of a record's numbers for another count of portions, at one, two, four and eight times a size
-  spellings times of comparing two equal runs of bytes
+  spellings times of comparing two equal runs of bytes; and instructions, where valgrind is installed
   counts    instructions of both, by valgrind's callgrind
 Without a word: all but counts. --hash is the multiplier (31) of the polynomial hash for which colliding words are made.";
 
@@ -36,8 +37,20 @@ struct Options {
     cases: String,
     budget: Duration,
     hash: u32,
-    /// One call on a side, with the files that have table and formula, for callgrind.
-    once: Option<(Side, String, String)>,
+    /// One call, for callgrind.
+    once: Option<Once>,
+}
+
+/// A call on a side that callgrind counts.
+enum Once {
+    /// An expansion, with the files that have table and formula.
+    Expansion(Side, String, String),
+    /// A comparison of two equal runs of so many bytes.
+    Runs(Side, usize),
+}
+
+fn side(word: &str) -> Side {
+    if word == "archive" { Side::Archive } else { Side::Plain }
 }
 
 fn options() -> Option<Options> {
@@ -59,10 +72,8 @@ fn options() -> Option<Options> {
             "--cases" => options.cases = words.next()?,
             "--budget" => options.budget = Duration::from_millis(words.next()?.parse().ok()?),
             "--hash" => options.hash = words.next()?.parse().ok()?,
-            "--once" => {
-                let side = if words.next()? == "archive" { Side::Archive } else { Side::Plain };
-                options.once = Some((side, words.next()?, words.next()?));
-            }
+            "--once" => options.once = Some(Once::Expansion(side(&words.next()?), words.next()?, words.next()?)),
+            "--once-runs" => options.once = Some(Once::Runs(side(&words.next()?), words.next()?.parse().ok()?)),
             _ => return None,
         }
     }
@@ -83,8 +94,8 @@ fn main() -> ExitCode {
 }
 
 fn run(options: &Options) -> ExitCode {
-    if let Some((side, table, formula)) = &options.once {
-        return once(*side, table, formula).map_or(ExitCode::FAILURE, |_| ExitCode::SUCCESS);
+    if let Some(call) = &options.once {
+        return once(call).map_or(ExitCode::FAILURE, |_| ExitCode::SUCCESS);
     }
     let list = inputs::list(options.hash);
     let mut well = true;
@@ -308,21 +319,35 @@ fn portions(options: &Options) {
 }
 
 fn spellings(options: &Options) {
-    println!("| bytes, equal runs | comparisons | archive, ns | plain Rust | ratio |");
-    println!("|---|---|---|---|---|");
+    println!("| bytes, equal runs | comparisons | archive, ns | plain Rust, ns | ratio | archive, instructions | plain Rust |");
+    println!("|---|---|---|---|---|---|---|");
     for length in [3, 8, 31, 64, 255, 65_536] {
         let [archive, plain] = times::best_of_runs(length, options.budget);
-        println!("| {length} | {} | {} | {} | {:.2} |", length / 8 + length % 8, shown(archive), shown(plain), archive / plain);
+        let counted = ["archive", "plain"].map(|side| match collected_of_runs(side, length) {
+            Some(count) => count.to_string(),
+            None => "-".to_string(),
+        });
+        let count = length / 8 + length % 8;
+        println!("| {length} | {count} | {} | {} | {:.2} | {} |", shown(archive), shown(plain), archive / plain, counted.join(" | "));
     }
 }
 
 // ---- instructions ----
 
 /// One call that is counted, after one that is not.
-fn once(side: Side, table: &str, formula: &str) -> std::io::Result<()> {
-    let (table, formula, mut room) = (std::fs::read(table)?, std::fs::read(formula)?, Room::new());
-    side.expand(&table, &formula, &mut room.cells, &mut room.text);
-    measured(side, &table, &formula, &mut room);
+fn once(call: &Once) -> std::io::Result<()> {
+    match call {
+        Once::Expansion(side, table, formula) => {
+            let (table, formula, mut room) = (std::fs::read(table)?, std::fs::read(formula)?, Room::new());
+            side.expand(&table, &formula, &mut room.cells, &mut room.text);
+            measured(*side, &table, &formula, &mut room);
+        }
+        Once::Runs(side, length) => {
+            let (a, b) = (vec![b'a'; *length], vec![b'a'; *length]);
+            side.compare(&a, &b);
+            std::hint::black_box(measured_runs(*side, &a, &b));
+        }
+    }
     Ok(())
 }
 
@@ -333,21 +358,44 @@ extern "Rust" fn measured(side: Side, table: &[u8], formula: &[u8], room: &mut R
     side.expand(table, formula, &mut room.cells, &mut room.text)
 }
 
-/// The instructions of one call, without those of `memset`: it zeroes rooms by one instruction that is counted once for each byte.
+/// What callgrind counts of a comparison.
+#[no_mangle]
+#[inline(never)]
+extern "Rust" fn measured_runs(side: Side, a: &[u8], b: &[u8]) -> plain::Comparison {
+    side.compare(a, b)
+}
+
+fn scratch(part: &str) -> PathBuf {
+    std::env::temp_dir().join(format!("vegzump-bench-{}-{part}", std::process::id()))
+}
+
+/// The instructions of an expansion.
 fn collected(side: &str, input: &Input) -> Option<u64> {
-    let folder = std::env::temp_dir();
-    let files = ["table", "formula", "counts"].map(|part| folder.join(format!("vegzump-bench-{}-{part}", std::process::id())));
+    let files = ["table", "formula"].map(scratch);
     std::fs::write(&files[0], &input.table).ok()?;
     std::fs::write(&files[1], &input.formula).ok()?;
-    let ran = Command::new("valgrind")
-        .args(["--tool=callgrind", "--toggle-collect=measured"])
-        .arg(format!("--callgrind-out-file={}", files[2].display()))
-        .arg(std::env::current_exe().ok()?)
-        .args(["--once", side])
-        .args(&files[..2])
-        .output();
-    let counts = std::fs::read_to_string(&files[2]);
+    let counted = collected_in("measured", &["--once", side, files[0].to_str()?, files[1].to_str()?]);
     files.iter().for_each(|file| drop(std::fs::remove_file(file)));
+    counted
+}
+
+/// The instructions of a comparison of two equal runs of so many bytes.
+fn collected_of_runs(side: &str, length: usize) -> Option<u64> {
+    collected_in("measured_runs", &["--once-runs", side, &length.to_string()])
+}
+
+/// The instructions in a function of this program, run with some words, without those of `memset`: it zeroes rooms by one instruction that is counted once for
+/// each byte.
+fn collected_in(function: &str, words: &[&str]) -> Option<u64> {
+    let file = scratch("counts");
+    let ran = Command::new("valgrind")
+        .args(["--tool=callgrind", &format!("--toggle-collect={function}")])
+        .arg(format!("--callgrind-out-file={}", file.display()))
+        .arg(std::env::current_exe().ok()?)
+        .args(words)
+        .output();
+    let counts = std::fs::read_to_string(&file);
+    drop(std::fs::remove_file(&file));
     ran.ok()?;
     Some(own_counts(&counts.ok()?))
 }
