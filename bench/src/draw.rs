@@ -120,7 +120,11 @@ impl Run {
 
 // ---- tables ----
 
-const WORDS: [&str; 14] = ["a", "b", "c", "x", "y", "T", "U", "if", "then", "fun", "a_1", "aA0", "protein", "abcdefghijklmnopqrstuvwxyz01234"];
+// Some have a beginning in common: one word of eight bytes, less, or all but the last byte.
+const WORDS: [&str; 19] = [
+    "a", "b", "c", "x", "y", "T", "U", "if", "then", "fun", "a_1", "aA0", "protein", "abcdefgh", "abcdefgi", "abcdefgh1", "abcdefgh2",
+    "abcdefghijklmnopqrstuvwxyz01234", "abcdefghijklmnopqrstuvwxyz01235",
+];
 const SYMBOLS: [&str; 10] = ["(", ")", "{", "}", "=", ".", "*", ",", "_", "~"];
 
 fn some(draws: &mut Draws, from: &[&'static str], most: usize) -> Vec<&'static str> {
