@@ -60,13 +60,13 @@ split {base} {low} {high} {low′} {high′} l l′ e = (
     upper a b h = add-mul-div-right a b (omega arith) ∙ ap (λ n. n + b) (div-eq-of-lt h) ∙ omega arith
 
 module _ {left right : List ℕ} {count : ℕ} (alike : Alike left right count) where
-  -- bytes that agree are one number in both: two, four, eight
   two-alike : (from : ℕ) → from + 2 ≤ count → twoAt left from ≡ twoAt right from
   two-alike from h = cc (alike .agree from (omega arith), alike .agree (from + 1) (omega arith))
 
   four-alike : (from : ℕ) → from + 4 ≤ count → fourAt left from ≡ fourAt right from
   four-alike from h = cc (two-alike from (omega arith), two-alike (from + 2) (omega arith))
 
+  -- eight bytes that agree are one number in both
   pub eight-alike : (from : ℕ) → from + 8 ≤ count → eightAt left from ≡ eightAt right from
   eight-alike from h = cc (four-alike from (omega arith), four-alike (from + 4) (omega arith))
 

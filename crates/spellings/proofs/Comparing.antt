@@ -1,4 +1,5 @@
--- Two runs of bytes compared: which piece a byte stands in, how many comparisons there are up to a piece that differs, and what the loops of `compare` make of it.
+-- Two runs of bytes compared: which piece a byte stands in, how many comparisons there are up to a piece that differs, and what the loop of `compare` makes
+-- of it.
 use Prim.Native.Nat.{ℕ, zero, suc, _+_, _-_, _*_, _/_, _%_, _<_, _≤_}
 use mathlib.Core.Path.{_≡_, refl, sym, ap, _∙_}
 use mathlib.Core.Bool.{Bool, true, false}
@@ -41,7 +42,8 @@ all-compared (x ∷ xs) = rw (eq-eqb x x refl, comparisons) (ap suc (all-compare
 -- ------------------------------------------------------------------ pieces
 
 -- an eight is one piece, and so is each byte behind the eights
-pieces-length : (eights : ℕ) (s : List ℕ) (from : ℕ) → from + eights * 8 ≤ length s → length (piecesFrom eights s from) ≡ eights + (length s - (from + eights * 8))
+pieces-length : (eights : ℕ) (s : List ℕ) (from : ℕ) → from + eights * 8 ≤ length s
+    → length (piecesFrom eights s from) ≡ eights + (length s - (from + eights * 8))
 unfolding piecesFrom
 pieces-length zero s from h = omega (arith, length-drop from s)
 pieces-length (suc eights) s from h = omega (arith, pieces-length eights s (from + 8) (omega arith))
@@ -54,7 +56,8 @@ eight-piece (suc eights) s from zero h = ap (eightAt s) (omega arith)
 eight-piece (suc eights) s from (suc place) h = eight-piece eights s (from + 8) place (omega arith) ∙ ap (eightAt s) (omega arith)
 
 -- a piece of the tail
-tail-piece : (eights : ℕ) (s : List ℕ) (from place : ℕ) → eights ≤ place → getD (piecesFrom eights s from) place 0 ≡ getD s (from + eights * 8 + (place - eights)) 0
+tail-piece : (eights : ℕ) (s : List ℕ) (from place : ℕ) → eights ≤ place
+    → getD (piecesFrom eights s from) place 0 ≡ getD s (from + eights * 8 + (place - eights)) 0
 unfolding piecesFrom
 tail-piece zero s from place h = getD-drop from s place 0 ∙ ap (λ j. getD s j 0) (omega arith)
 tail-piece (suc eights) s from zero h = absurd (omega arith)
@@ -109,8 +112,11 @@ module _ (left right : List ℕ) (long : length left ≡ length right) where
         long = as-many;
         within = omega (arith, left-pieces);
         before = record { agree = λ j k. eights-alike alike j (omega arith) (omega arith) };
-        differs = λ e. d (ap (eightAt left) (omega arith) ∙ sym (eight-piece eights left 0 place h) ∙ e ∙ eight-piece eights right 0 place h ∙ ap (eightAt right) (omega arith));
+        differs = λ e. d (at-place left ∙ e ∙ sym (at-place right));
       }
+    where
+      at-place : (s : List ℕ) → eightAt s (place * 8) ≡ getD (piecesFrom eights s 0) place 0
+      at-place s = ap (eightAt s) (omega arith) ∙ sym (eight-piece eights s 0 place h)
 
   -- a byte of the tail that differs, behind all that agree, is the last that is compared
   pub stop-tail : (place : ℕ) → eights * 8 ≤ place → place < length left → Alike left right place → (getD left place 0 ≡ getD right place 0 → ⊥)

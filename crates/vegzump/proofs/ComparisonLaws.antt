@@ -27,8 +27,8 @@ module _ {left right : List ℕ} {place : ℕ} (first : FirstDifference left rig
   -- in the tail, the first byte that differs is
   pub differ-in-tail : length left / 8 * 8 ≤ place → comparisonsOf left right ≡ length left / 8 + place % 8 + 1
   differ-in-tail h =
-      stop-tail left right (first .long) place h (first .within) (first .before) (first .differs) ∙ (let e : place / 8 ≡ length left / 8 = omega (arith, first .within) in
-      ap (λ n. n + place % 8 + 1) e)
+      let e : place / 8 ≡ length left / 8 = omega (arith, first .within) in
+      rw (← e) (stop-tail left right (first .long) place h (first .within) (first .before) (first .differs))
 
 -- two runs of one length are equal, or there is a place where they first differ
 pub equal-or-differ : (left right : List ℕ) → length left ≡ length right → (left ≡ right) ⊎ ((place : ℕ) × FirstDifference left right place)
