@@ -160,6 +160,7 @@ pub record Comparing (left right : List ℕ) (place : ℕ) : Type 0 where
   pub within : place ≤ length left
   -- before the tail an eight begins there
   pub eights : place < length left / 8 * 8 → place ≡ place / 8 * 8
+  -- all before it is found equal
   pub alike : Alike left right place
 
 -- nothing is compared yet
@@ -213,7 +214,9 @@ module _ {left right : List ℕ} {place : ℕ} (comparing : Comparing left right
 
 -- the same of two runs that have no eight
 pub record Short (left right : List ℕ) (place : ℕ) : Type 0 where
+  -- there are fewer than eight bytes
   pub few : length left < 8
+  -- and those before `place` agree
   pub comparing : Comparing left right place
 
 -- nothing is compared yet
