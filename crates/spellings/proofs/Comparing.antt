@@ -1,5 +1,5 @@
--- Two runs of bytes compared: which piece a byte stands in, how many comparisons there are up to a piece that differs, and what the loop of `compare` makes
--- of it.
+-- Two runs of bytes compared: which piece a byte stands in, how many comparisons there are up to a piece that differs, and what the loops that
+-- compare make of it.
 use Prim.Native.Nat.{ℕ, zero, suc, _+_, _-_, _*_, _/_, _%_, _<_, _≤_}
 use mathlib.Core.Path.{_≡_, refl, sym, ap, _∙_}
 use mathlib.Core.Bool.{Bool, true, false}
@@ -10,6 +10,7 @@ use lib.ListN.{length, getD, drop, length-drop}
 use lib.Seq.{getD-drop}
 use borrow.Author.Tests.{eq-eqb, ne-eqb, ltb-true, ltb-false}
 use Rattle.spellings.specs.Alike.{Bytes, Alike, FirstDifference}
+use Rattle.spellings.specs.Tails.{TailLeft}
 use Rattle.spellings.specs.Eights.{eightAt}
 use Rattle.spellings.specs.Compared.{piecesFrom, pieces, comparisons, comparisonsOf, compared}
 use Rattle.spellings.specs.declared.Comparison.{Comparison}
@@ -141,7 +142,7 @@ module _ (left right : List ℕ) (long : length left ≡ length right) where
       in-tail : (j : ℕ) → j < eights + (place - eights * 8) → eights ≤ j → getD lefts j 0 ≡ getD rights j 0
       in-tail j l m = tail-piece eights left 0 j m ∙ alike .agree (0 + eights * 8 + (j - eights)) (omega arith) ∙ sym (tail-piece eights right 0 j m)
 
--- ------------------------------------------------------------------ the loop of `compare`
+-- ------------------------------------------------------------------ eight bytes at a time
 
 -- an answer by its parts
 answer-is : {equal equal′ : Bool} {count count′ : ℕ} → equal ≡ equal′ → count ≡ count′
@@ -152,87 +153,83 @@ answer-is e n = cc
 pub lengths-differ : (left right : List ℕ) → (length left ≡ length right → ⊥) → _≡_ {A = Comparison} (record { equal = false; count = 0 }) (compared left right)
 lengths-differ left right d = answer-is (sym (length-same left right d)) (sym (none-compared left right d))
 
--- the bytes before `place` agree
-pub record Comparing (left right : List ℕ) (place : ℕ) : Type 0 where
+-- the bytes before `place`, which are whole eights, agree
+pub record Passing (left right : List ℕ) (place : ℕ) : Type 0 where
   -- the runs have one length
   pub long : length left ≡ length right
   -- `place` is no further than the end
   pub within : place ≤ length left
-  -- before the tail an eight begins there
-  pub eights : place < length left / 8 * 8 → place ≡ place / 8 * 8
+  -- an eight begins there
+  pub eights : place ≡ place / 8 * 8
   -- all before it is found equal
   pub alike : Alike left right place
 
 -- nothing is compared yet
-pub comparing-start : {left right : List ℕ} → length left ≡ length right → Comparing left right 0
-comparing-start {left} {right} long = record { long = long; within = omega arith; eights = λ h. omega arith; alike = alike-start left right }
+pub passing-start : {left right : List ℕ} → length left ≡ length right → Passing left right 0
+passing-start {left} {right} long = record { long = long; within = omega arith; eights = omega arith; alike = alike-start left right }
 
-module _ {left right : List ℕ} {place : ℕ} (comparing : Comparing left right place) where
-  module _ (more : place < length left / 8 * 8) where
-    -- an eight is whole
-    pub eight-within : place + 8 ≤ length left
-    eight-within = omega (arith, comparing .eights more)
+module _ {left right : List ℕ} {place : ℕ} (passing : Passing left right place) where
+  module _ (more : 8 ≤ length left - place) {one other : ℕ} (one-is : one ≡ eightAt left place) (other-is : other ≡ eightAt right place) where
+    -- one more eight agrees
+    pub passing-next : Bytes left → Bytes right → one ≡ other → Passing left right (place + 8)
+    passing-next lefts rights e =
+        record {
+          long = passing .long;
+          within = omega (arith, passing .within);
+          eights = omega (arith, passing .eights);
+          alike = alike-eight left right lefts rights (passing .alike) (sym one-is ∙ e ∙ other-is);
+        }
 
-    module _ {one other : ℕ} (one-is : one ≡ eightAt left place) (other-is : other ≡ eightAt right place) where
-      -- one more eight agrees
-      pub eight-next : Bytes left → Bytes right → one ≡ other → Comparing left right (place + 8)
-      eight-next lefts rights e =
-          record {
-            long = comparing .long;
-            within = eight-within;
-            eights = λ h. omega (arith, comparing .eights more);
-            alike = alike-eight left right lefts rights (comparing .alike) (sym one-is ∙ e ∙ other-is);
-          }
+    -- an eight that differs is the last that is compared
+    pub passing-stop : (one ≡ other → ⊥) → _≡_ {A = Comparison} (record { equal = false; count = place / 8 + 1 }) (compared left right)
+    passing-stop d =
+        let differs : eightAt left place ≡ eightAt right place → ⊥ = λ e. d (one-is ∙ e ∙ sym other-is) in
+        answer-is (sym (differ-same left right (λ e. differs (ap (λ s. eightAt s place) e))))
+        (sym
+        (stop-eight left right (passing .long) (place / 8) (omega (arith, passing .within)) (rw (← passing .eights) (passing .alike))
+        (rw (← passing .eights) differs)))
 
-      -- an eight that differs is the last that is compared
-      pub eight-stop : (one ≡ other → ⊥) → _≡_ {A = Comparison} (record { equal = false; count = place / 8 + 1 }) (compared left right)
-      eight-stop d =
-          let differs : eightAt left place ≡ eightAt right place → ⊥ = λ e. d (one-is ∙ e ∙ sym other-is) in
-          answer-is (sym (differ-same left right (λ e. differs (ap (λ s. eightAt s place) e))))
-          (sym
-          (stop-eight left right (comparing .long) (place / 8) (omega arith) (rw (← comparing .eights more) (comparing .alike))
-          (rw (← comparing .eights more) differs)))
+  -- fewer than eight bytes are left
+  pub passing-end : length left - place < 8 → TailLeft left right place
+  passing-end h = record { long = passing .long; behind = omega (arith, passing .within, passing .eights); before = passing .alike }
 
-  module _ (behind : length left / 8 * 8 ≤ place) (more : place < length left) where
-    -- one more byte of the tail agrees
-    pub tail-next : getD left place 0 ≡ getD right place 0 → Comparing left right (place + 1)
-    tail-next e = record { long = comparing .long; within = omega arith; eights = λ h. absurd (omega arith); alike = alike-next (comparing .alike) e }
+-- ------------------------------------------------------------------ the tail
 
-    -- a byte of the tail that differs is the last that is compared
-    pub tail-stop : (getD left place 0 ≡ getD right place 0 → ⊥)
-        → _≡_ {A = Comparison} (record { equal = false; count = place / 8 + place % 8 + 1 }) (compared left right)
-    tail-stop d = answer-is (differ-at left right place d) (sym (stop-tail left right (comparing .long) place behind more (comparing .alike) d))
+-- the bytes before `place`, which is none of an eight, agree
+pub record Tailing (left right : List ℕ) (place : ℕ) : Type 0 where
+  -- the runs have one length
+  pub long : length left ≡ length right
+  -- `place` is no further than the end
+  pub within : place ≤ length left
+  -- the whole eights end before it
+  pub behind : length left / 8 * 8 ≤ place
+  -- all before it is found equal
+  pub alike : Alike left right place
 
-  -- where nothing is left, all agree
-  pub comparing-end : length left ≤ place → _≡_ {A = Comparison} (record { equal = true; count = place / 8 + place % 8 }) (compared left right)
-  comparing-end h =
-      let end : place ≡ length left = omega (arith, comparing .within) in
-      answer-is (alike-same (comparing .alike) (comparing .long) h)
-      (rw (← alike-end (comparing .alike) (comparing .long) h, end) (sym (whole-compared left)))
+-- no byte of the tail is compared yet
+pub tailing-start : {left right : List ℕ} {tail : ℕ} → TailLeft left right tail → Tailing left right tail
+tailing-start left = record { long = left .long; within = omega (arith, left .behind); behind = omega (arith, left .behind); alike = left .before }
 
--- ------------------------------------------------------------------ fewer than eight bytes, which are a tail alone
+module _ {left right : List ℕ} {place : ℕ} (tailing : Tailing left right place) where
+  -- one more byte agrees
+  pub tailing-next : place < length left → getD left place 0 ≡ getD right place 0 → Tailing left right (place + 1)
+  tailing-next h e =
+      record { long = tailing .long; within = omega arith; behind = omega (arith, tailing .behind); alike = alike-next (tailing .alike) e }
 
--- the same of two runs that have no eight
-pub record Short (left right : List ℕ) (place : ℕ) : Type 0 where
-  -- there are fewer than eight bytes
-  pub few : length left < 8
-  -- and those before `place` agree
-  pub comparing : Comparing left right place
-
--- nothing is compared yet
-pub short-start : {left right : List ℕ} → length right < 8 → length left ≡ length right → Short left right 0
-short-start few long = record { few = omega arith; comparing = comparing-start long }
-
-module _ {left right : List ℕ} {place : ℕ} (short : Short left right place) where
-  module _ (more : place < length left) where
-    -- one more byte agrees
-    pub short-next : getD left place 0 ≡ getD right place 0 → Short left right (place + 1)
-    short-next e = record { few = short .few; comparing = tail-next (short .comparing) (omega (arith, short .few)) more e }
-
-    -- a byte that differs is the last that is compared
-    pub short-stop : (getD left place 0 ≡ getD right place 0 → ⊥) → _≡_ {A = Comparison} (record { equal = false; count = place + 1 }) (compared left right)
-    short-stop d = answer-is refl (omega (arith, short .few)) ∙ tail-stop (short .comparing) (omega (arith, short .few)) more d
+  -- a byte that differs is the last that is compared
+  pub tailing-stop : place < length left → (getD left place 0 ≡ getD right place 0 → ⊥)
+      → _≡_ {A = Comparison} (record { equal = false; count = place / 8 + place % 8 + 1 }) (compared left right)
+  tailing-stop h d =
+      answer-is (differ-at left right place d)
+      (sym (stop-tail left right (tailing .long) place (tailing .behind) h (tailing .alike) d))
 
   -- where nothing is left, all agree
-  pub short-end : length left ≤ place → _≡_ {A = Comparison} (record { equal = true; count = place }) (compared left right)
-  short-end h = answer-is refl (omega (arith, short .few, short .comparing .within)) ∙ comparing-end (short .comparing) h
+  pub tailing-end : length left ≤ place → _≡_ {A = Comparison} (record { equal = true; count = place / 8 + place % 8 }) (compared left right)
+  tailing-end h =
+      let end : place ≡ length left = omega (arith, tailing .within) in
+      answer-is (alike-same (tailing .alike) (tailing .long) h)
+      (rw (← alike-end (tailing .alike) (tailing .long) h, end) (sym (whole-compared left)))
+
+-- fewer than eight bytes are a tail alone
+pub tail-alone : {left right : List ℕ} → length right < 8 → length left ≡ length right → TailLeft left right 0
+tail-alone {left} {right} few long = record { long = long; behind = omega arith; before = alike-start left right }

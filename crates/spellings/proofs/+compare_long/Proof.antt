@@ -1,5 +1,6 @@
 -- `compare_long`: it is passed no empty run, so that it never calls itself.
 use Prim.Native.Nat.{ℕ, _<_}
+use mathlib.Core.Path.{_∙_}
 use native.Mathlib.Omega.{arith}
 use borrow.Author.Needs.{needs}
 use borrow.Fn.Kinds.{In}
@@ -8,6 +9,7 @@ use Rattle.spellings.proofs.compare_long.Reads as compare-long
 use Rattle.spellings.proofs.compare_long.Kinds as compare-long-kinds
 use Rattle.spellings.proofs.+compare_long.Lts-compare_long as compare-long-lts
 use Rattle.spellings.proofs.compare_eights.Reads as compare-eights-reads
+use Rattle.spellings.proofs.rebuilt.Reads as rebuilt-reads
 use Rattle.spellings.proofs.+compare_long.{statement}
 use Rattle.spellings.proofs.+compare_long.Tie.{close}
 
@@ -25,13 +27,18 @@ pub +compare-long-spec : {M : Type 1} → statement M
 +compare-long-spec = close μ-compare-long λ t. compare-long-lts.spec (
   compare-long-below t,
   compare-long.Post,
+  rebuilt-reads.Asked,
+  rebuilt-reads.Learnt,
   compare-eights-reads.Asked,
   compare-eights-reads.Learnt,
 )
     (compare-long-at t)
     compare-long.Post
     (λ c. search needs)
+    (λ c. search needs)
+    (λ c κs. absurd (omega arith))
     (λ c κs. absurd (omega arith))
     (λ c. absurd (omega arith))
     (λ c κs. search needs)
-    (λ c. search needs)
+    (λ c κs. search needs)
+    (λ c. c .rebuilt2 .ensures ∙ c .before .compare-eights .ensures)
