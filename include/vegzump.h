@@ -104,6 +104,17 @@ size_t vegzump_expand_each(const uint8_t *table, size_t table_len, const uint8_t
 vegzump_answer vegzump_portions(const uint8_t *table, size_t table_len, const uint8_t *formula, size_t formula_len,
                                 uint64_t written, uint64_t wanted, uint32_t *cells, size_t cells_len, uint64_t *list, size_t list_len);
 
+/* equal is 1 if two runs of bytes are equal, else 0; count is how many comparisons it took to tell. */
+typedef struct vegzump_comparison {
+    uint8_t equal;
+    uint64_t count;
+} vegzump_comparison;
+
+/* Compares two runs of any bytes as the library compares spellings: eight bytes at a time from the front, each eight as one 64-bit number, then the tail of fewer
+   than eight byte by byte. Each is one comparison. If the lengths differ there is none, and no byte is looked at; else count has all up to and with the
+   first that fails, for equal runs of n bytes n / 8 + n % 8. Nothing is refused, and nothing is written. */
+vegzump_comparison vegzump_compare(const uint8_t *a, size_t a_len, const uint8_t *b, size_t b_len);
+
 /* The version of the library, as "0.1.0". Only the shared object has it; the version of its symbols is VEGZUMP_0. */
 extern const char vegzump_version[];
 

@@ -86,6 +86,20 @@ impl Comparison {
         }
     }
 
+    /// Two runs of bytes: whether they are equal, and how many comparisons it took. A 0 is counted for runs that are equal, a 1 for those that differ
+    /// in a byte, a 2 for those that differ in length.
+    pub fn runs(&mut self, label: &str, a: &[u8], b: &[u8]) {
+        let [archive, plain] = [Side::Archive, Side::Plain].map(|side| side.compare(a, b));
+        self.inputs += 1;
+        self.numbers[if plain.equal { 0 } else { 1 + usize::from(a.len() != b.len()) }] += 1;
+        if archive != plain {
+            self.differ += 1;
+            if self.differ <= 10 {
+                println!("DIFFERS: {label} compare {} {}\n  archive {archive:?}\n  plain   {plain:?}", hex(a), hex(b));
+            }
+        }
+    }
+
     fn report(archive: &Found, plain: &Found, checks: (Answer, Answer)) {
         println!("  archive {:?}, check {:?}", archive.answer, checks.0);
         println!("  plain   {:?}, check {:?}", plain.answer, checks.1);

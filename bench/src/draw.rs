@@ -70,9 +70,61 @@ pub fn many(draws: &mut Draws, formula: &[u8]) -> Many {
     Many { ends: ends.collect(), formulas }
 }
 
+/// Two runs of bytes, equal or damaged: another byte or two at any place, another length, or nothing in common. Each begins anywhere in a word of memory.
+pub fn runs(draws: &mut Draws) -> [Run; 2] {
+    let length = match draws.below(200) {
+        0 => 65_530 + draws.below(12),
+        1..=9 => draws.below(600),
+        10..=79 => 24 + draws.below(16),
+        _ => draws.below(24),
+    };
+    let few = draws.percent(50);
+    let bytes: Vec<u8> = (0..length).map(|_| if few { draws.one(&[0, b'a', b'b', 0xff]) } else { draws.next() as u8 }).collect();
+    let mut other = bytes.clone();
+    match draws.below(10) {
+        0..=2 => (),
+        3..=7 => (0..1 + draws.below(2)).for_each(|_| change(draws, &mut other)),
+        8 => match draws.below(4) {
+            0 => other.truncate(draws.below(length + 1)),
+            1 => drop(other.pop()),
+            2 => other.insert(draws.below(length + 1), 0),
+            _ => other.extend_from_slice(&bytes),
+        },
+        _ => other.iter_mut().for_each(|byte| *byte = draws.next() as u8),
+    }
+    [bytes, other].map(|bytes| Run::new(draws.below(8), &bytes))
+}
+
+/// Another byte at some place: any, or one with one bit changed.
+fn change(draws: &mut Draws, bytes: &mut [u8]) {
+    let at = draws.below(bytes.len());
+    if let Some(byte) = bytes.get_mut(at) {
+        *byte = if draws.percent(50) { *byte ^ 1 << draws.below(8) } else { draws.next() as u8 };
+    }
+}
+
+/// Bytes behind some others.
+pub struct Run {
+    held: Vec<u8>,
+    from: usize,
+}
+
+impl Run {
+    pub fn new(from: usize, bytes: &[u8]) -> Run {
+        Run { held: [&vec![0xee; from], bytes].concat(), from }
+    }
+    pub fn bytes(&self) -> &[u8] {
+        &self.held[self.from..]
+    }
+}
+
 // ---- tables ----
 
-const WORDS: [&str; 14] = ["a", "b", "c", "x", "y", "T", "U", "if", "then", "fun", "a_1", "aA0", "protein", "abcdefghijklmnopqrstuvwxyz01234"];
+// Some have a beginning in common: one word of eight bytes, less, or all but the last byte.
+const WORDS: [&str; 19] = [
+    "a", "b", "c", "x", "y", "T", "U", "if", "then", "fun", "a_1", "aA0", "protein", "abcdefgh", "abcdefgi", "abcdefgh1", "abcdefgh2",
+    "abcdefghijklmnopqrstuvwxyz01234", "abcdefghijklmnopqrstuvwxyz01235",
+];
 const SYMBOLS: [&str; 10] = ["(", ")", "{", "}", "=", ".", "*", ",", "_", "~"];
 
 fn some(draws: &mut Draws, from: &[&'static str], most: usize) -> Vec<&'static str> {

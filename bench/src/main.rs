@@ -14,19 +14,21 @@ use compare::Comparison;
 use draw::Draws;
 use inputs::Input;
 use sides::Side;
+use std::path::PathBuf;
 use std::process::{Command, ExitCode};
 use std::time::{Duration, Instant};
 use times::{shown, Room};
 
 const USAGE: &str = "\
-usage: bench/run [compare] [times] [growth] [many] [portions] [counts] [--draws N] [--seed N] [--cases FILE] [--budget MS] [--hash MULTIPLIER]
+usage: bench/run [compare] [times] [growth] [many] [portions] [spellings] [counts] [--draws N] [--seed N] [--cases FILE] [--budget MS] [--hash MULTIPLIER]
   compare   the conformance cases, the inputs that are measured, and N drawn inputs (100,000; seed 1)
   times     best times of both, archive over plain, for each input; MS milliseconds (300) for each; and instructions, where valgrind is installed
   growth    times at one, two, four and eight times a size
   many      times of a formula among many of one table: one check for all, and a check for each
   portions  times of a record's numbers for another count of portions, at one, two, four and eight times a size
+  spellings times of comparing two equal runs of bytes; and instructions, where valgrind is installed
   counts    instructions of both, by valgrind's callgrind
-Without a word: compare, times, growth, many, portions. --hash is the multiplier (31) of the polynomial hash for which colliding words are made.";
+Without a word: all but counts. --hash is the multiplier (31) of the polynomial hash for which colliding words are made.";
 
 struct Options {
     parts: Vec<String>,
@@ -35,8 +37,20 @@ struct Options {
     cases: String,
     budget: Duration,
     hash: u32,
-    /// One call on a side, with the files that have table and formula, for callgrind.
-    once: Option<(Side, String, String)>,
+    /// One call, for callgrind.
+    once: Option<Once>,
+}
+
+/// A call on a side that callgrind counts.
+enum Once {
+    /// An expansion, with the files that have table and formula.
+    Expansion(Side, String, String),
+    /// A comparison of two equal runs of so many bytes.
+    Runs(Side, usize),
+}
+
+fn side(word: &str) -> Side {
+    if word == "archive" { Side::Archive } else { Side::Plain }
 }
 
 fn options() -> Option<Options> {
@@ -52,21 +66,19 @@ fn options() -> Option<Options> {
     let mut words = std::env::args().skip(1);
     while let Some(word) = words.next() {
         match word.as_str() {
-            "compare" | "times" | "growth" | "many" | "portions" | "counts" => options.parts.push(word),
+            "compare" | "times" | "growth" | "many" | "portions" | "spellings" | "counts" => options.parts.push(word),
             "--draws" => options.draws = words.next()?.replace(',', "").parse().ok()?,
             "--seed" => options.seed = words.next()?.parse().ok()?,
             "--cases" => options.cases = words.next()?,
             "--budget" => options.budget = Duration::from_millis(words.next()?.parse().ok()?),
             "--hash" => options.hash = words.next()?.parse().ok()?,
-            "--once" => {
-                let side = if words.next()? == "archive" { Side::Archive } else { Side::Plain };
-                options.once = Some((side, words.next()?, words.next()?));
-            }
+            "--once" => options.once = Some(Once::Expansion(side(&words.next()?), words.next()?, words.next()?)),
+            "--once-runs" => options.once = Some(Once::Runs(side(&words.next()?), words.next()?.parse().ok()?)),
             _ => return None,
         }
     }
     if options.parts.is_empty() {
-        options.parts = ["compare", "times", "growth", "many", "portions"].map(String::from).to_vec();
+        options.parts = ["compare", "times", "growth", "many", "portions", "spellings"].map(String::from).to_vec();
     }
     Some(options)
 }
@@ -82,8 +94,8 @@ fn main() -> ExitCode {
 }
 
 fn run(options: &Options) -> ExitCode {
-    if let Some((side, table, formula)) = &options.once {
-        return once(*side, table, formula).map_or(ExitCode::FAILURE, |_| ExitCode::SUCCESS);
+    if let Some(call) = &options.once {
+        return once(call).map_or(ExitCode::FAILURE, |_| ExitCode::SUCCESS);
     }
     let list = inputs::list(options.hash);
     let mut well = true;
@@ -94,6 +106,7 @@ fn run(options: &Options) -> ExitCode {
             "growth" => growth(options),
             "many" => many(options, &list),
             "portions" => portions(options),
+            "spellings" => spellings(options),
             _ => well &= counts(&list),
         }
         println!();
@@ -126,7 +139,12 @@ fn compare(options: &Options, list: &[Input]) -> bool {
     }
     println!("measured inputs: {} compared, {} differ", of_inputs.inputs, of_inputs.differ);
 
+    let mut of_runs = Comparison::default();
+    each_place(&mut of_runs);
+    println!("runs of bytes that differ at each place: {} compared, {} differ", of_runs.inputs, of_runs.differ);
+
     let (mut of_draws, mut of_many, mut of_portions) = (Comparison::default(), Comparison::default(), Comparison::default());
+    let mut of_drawn_runs = Comparison::default();
     let mut passing: Vec<Vec<u8>> = cases.iter().map(|case| case.table.clone()).filter(|table| plain::check(table).number == 0).collect();
     passing.sort();
     passing.dedup();
@@ -139,6 +157,8 @@ fn compare(options: &Options, list: &[Input]) -> bool {
         of_draws.input(&label, &drawn.table, &drawn.formula, cells, text);
         let (counts, list) = drawn_portions(&mut draws, &drawn, &mut room);
         of_portions.portions(&label, &drawn.table, &drawn.formula, counts, cells, list);
+        let [a, b] = draw::runs(&mut draws);
+        of_drawn_runs.runs(&label, a.bytes(), b.bytes());
         if number % 8 == 0 {
             of_many.many(&label, &drawn.table, &draw::many(&mut draws, &drawn.formula), cells, 2 * text);
         }
@@ -148,8 +168,31 @@ fn compare(options: &Options, list: &[Input]) -> bool {
     println!("drawn lists of formulas, seed {}: {} compared, {} differ", options.seed, of_many.inputs, of_many.differ);
     println!("drawn portions, seed {}: {} compared, {} differ", options.seed, of_portions.inputs, of_portions.differ);
     println!("  answers by number: {}", of_portions.answered());
+    println!("drawn runs of bytes, seed {}: {} compared, {} differ", options.seed, of_drawn_runs.inputs, of_drawn_runs.differ);
+    let [equal, byte, length, ..] = of_drawn_runs.numbers;
+    println!("  equal: {equal}, a byte differs: {byte}, the lengths differ: {length}");
     println!("  {:.1} s", start.elapsed().as_secs_f64());
-    of_cases.differ + of_inputs.differ + of_draws.differ + of_many.differ + of_portions.differ == 0
+    let all = [of_cases, of_inputs, of_runs, of_draws, of_many, of_portions, of_drawn_runs];
+    all.iter().all(|comparison| comparison.differ == 0)
+}
+
+/// Runs of every length up to eight words and a tail, each beside itself, beside itself with another byte at each place, and beside each shorter one, at every
+/// distance from a word of memory.
+fn each_place(comparison: &mut Comparison) {
+    for length in 0..72 {
+        let bytes: Vec<u8> = (0..length).map(|at| (31 * at + length) as u8).collect();
+        let run = draw::Run::new(length % 8, &bytes);
+        for from in 0..8 {
+            let mut beside = |other: &[u8]| comparison.runs("each-place", run.bytes(), draw::Run::new(from, other).bytes());
+            beside(&bytes);
+            for at in 0..length {
+                let mut other = bytes.clone();
+                other[at] ^= 1 << ((at + from) % 8);
+                beside(&other);
+                beside(&bytes[..at]);
+            }
+        }
+    }
 }
 
 /// Counts of portions, at their limits, outside them and any, and how long a list is lent: enough, just enough, too short or none.
@@ -275,13 +318,36 @@ fn portions(options: &Options) {
     }
 }
 
+fn spellings(options: &Options) {
+    println!("| bytes, equal runs | comparisons | archive, ns | plain Rust, ns | ratio | archive, instructions | plain Rust |");
+    println!("|---|---|---|---|---|---|---|");
+    for length in [3, 8, 31, 64, 255, 65_536] {
+        let [archive, plain] = times::best_of_runs(length, options.budget);
+        let counted = ["archive", "plain"].map(|side| match collected_of_runs(side, length) {
+            Some(count) => count.to_string(),
+            None => "-".to_string(),
+        });
+        let count = length / 8 + length % 8;
+        println!("| {length} | {count} | {} | {} | {:.2} | {} |", shown(archive), shown(plain), archive / plain, counted.join(" | "));
+    }
+}
+
 // ---- instructions ----
 
 /// One call that is counted, after one that is not.
-fn once(side: Side, table: &str, formula: &str) -> std::io::Result<()> {
-    let (table, formula, mut room) = (std::fs::read(table)?, std::fs::read(formula)?, Room::new());
-    side.expand(&table, &formula, &mut room.cells, &mut room.text);
-    measured(side, &table, &formula, &mut room);
+fn once(call: &Once) -> std::io::Result<()> {
+    match call {
+        Once::Expansion(side, table, formula) => {
+            let (table, formula, mut room) = (std::fs::read(table)?, std::fs::read(formula)?, Room::new());
+            side.expand(&table, &formula, &mut room.cells, &mut room.text);
+            measured(*side, &table, &formula, &mut room);
+        }
+        Once::Runs(side, length) => {
+            let (a, b) = (vec![b'a'; *length], vec![b'a'; *length]);
+            side.compare(&a, &b);
+            std::hint::black_box(measured_runs(*side, &a, &b));
+        }
+    }
     Ok(())
 }
 
@@ -292,21 +358,44 @@ extern "Rust" fn measured(side: Side, table: &[u8], formula: &[u8], room: &mut R
     side.expand(table, formula, &mut room.cells, &mut room.text)
 }
 
-/// The instructions of one call, without those of `memset`: it zeroes rooms by one instruction that is counted once for each byte.
+/// What callgrind counts of a comparison.
+#[no_mangle]
+#[inline(never)]
+extern "Rust" fn measured_runs(side: Side, a: &[u8], b: &[u8]) -> plain::Comparison {
+    side.compare(a, b)
+}
+
+fn scratch(part: &str) -> PathBuf {
+    std::env::temp_dir().join(format!("vegzump-bench-{}-{part}", std::process::id()))
+}
+
+/// The instructions of an expansion.
 fn collected(side: &str, input: &Input) -> Option<u64> {
-    let folder = std::env::temp_dir();
-    let files = ["table", "formula", "counts"].map(|part| folder.join(format!("vegzump-bench-{}-{part}", std::process::id())));
+    let files = ["table", "formula"].map(scratch);
     std::fs::write(&files[0], &input.table).ok()?;
     std::fs::write(&files[1], &input.formula).ok()?;
-    let ran = Command::new("valgrind")
-        .args(["--tool=callgrind", "--toggle-collect=measured"])
-        .arg(format!("--callgrind-out-file={}", files[2].display()))
-        .arg(std::env::current_exe().ok()?)
-        .args(["--once", side])
-        .args(&files[..2])
-        .output();
-    let counts = std::fs::read_to_string(&files[2]);
+    let counted = collected_in("measured", &["--once", side, files[0].to_str()?, files[1].to_str()?]);
     files.iter().for_each(|file| drop(std::fs::remove_file(file)));
+    counted
+}
+
+/// The instructions of a comparison of two equal runs of so many bytes.
+fn collected_of_runs(side: &str, length: usize) -> Option<u64> {
+    collected_in("measured_runs", &["--once-runs", side, &length.to_string()])
+}
+
+/// The instructions in a function of this program, run with some words, without those of `memset`: it zeroes rooms by one instruction that is counted once for
+/// each byte.
+fn collected_in(function: &str, words: &[&str]) -> Option<u64> {
+    let file = scratch("counts");
+    let ran = Command::new("valgrind")
+        .args(["--tool=callgrind", &format!("--toggle-collect={function}")])
+        .arg(format!("--callgrind-out-file={}", file.display()))
+        .arg(std::env::current_exe().ok()?)
+        .args(words)
+        .output();
+    let counts = std::fs::read_to_string(&file);
+    drop(std::fs::remove_file(&file));
     ran.ok()?;
     Some(own_counts(&counts.ok()?))
 }

@@ -1,6 +1,6 @@
 //! The two implementations behind one face.
 
-use plain::Answer;
+use plain::{Answer, Comparison};
 
 /// Formulas one behind the other, and where each ends.
 pub struct Many {
@@ -46,6 +46,18 @@ impl Side {
         match self {
             Side::Plain => plain::portions(table, formula, written, wanted, cells, list),
             Side::Archive => answered(vegzump::portions(table, formula, written, wanted, cells, list)),
+        }
+    }
+
+    /// Two runs of bytes: whether they are equal, and how many comparisons it took.
+    #[inline]
+    pub fn compare(self, a: &[u8], b: &[u8]) -> Comparison {
+        match self {
+            Side::Plain => plain::compare(a, b),
+            Side::Archive => {
+                let found = vegzump::compare(a, b);
+                Comparison { equal: found.equal, count: found.count }
+            }
         }
     }
 

@@ -79,7 +79,20 @@ pub fn best_of_portions(input: &Input, room: &mut Room, budget: Duration) -> [f6
     best_of([&mut || call(Side::Archive), &mut || call(Side::Plain)], budget)
 }
 
-/// A time in microseconds with three digits or so.
+/// The best time of comparing two equal runs of so many bytes, in nanoseconds: archive, plain.
+pub fn best_of_runs(length: usize, budget: Duration) -> [f64; 2] {
+    // So many that the clock tells them.
+    const CALLS: u32 = 100;
+    let (a, b) = (vec![b'a'; length], vec![b'a'; length]);
+    let call = |side: Side| {
+        for _ in 0..CALLS {
+            black_box(side.compare(black_box(&a), black_box(&b)));
+        }
+    };
+    best_of([&mut || call(Side::Archive), &mut || call(Side::Plain)], budget).map(|time| 1_000.0 * time / f64::from(CALLS))
+}
+
+/// A time in microseconds, or in another measure, with three digits or so.
 pub fn shown(microseconds: f64) -> String {
     match microseconds {
         t if t < 10.0 => format!("{t:.2}"),

@@ -1,5 +1,5 @@
-/* The archive from C: the conformance cases (cases.bin), lengths round every limit, nothing at all, many formulas in one call beside one by one, several
-   threads. Each part that is passed lies in a heap block of exactly its size, so that a memory checker sees any byte read or written outside.
+/* The archive from C: the conformance cases (cases.bin), lengths round every limit, nothing at all, many formulas in one call beside one by one, runs that
+   differ at each place, several threads. Each part that is passed lies in a heap block of exactly its size, so that a memory checker sees any byte read or written outside.
 
    Usage: test CASES [THREADS]. The last line is `CASES cases, N failures`. */
 #include "vegzump.h"
@@ -283,6 +283,50 @@ static void portions(void) {
     expect("nothing", 2, vegzump_portions(NULL, 0, NULL, 0, 1, 1, NULL, 0, NULL, 0), 4, 0, 0, 0);
 }
 
+/* ---- comparisons ---- */
+
+static void expect_comparison(const char *what, long n, vegzump_comparison found, unsigned equal, uint64_t count) {
+    if (found.equal == equal && found.count == count) return;
+    pthread_mutex_lock(&lock);
+    failures++;
+    printf("%s %ld: expected %u %" PRIu64 ", found %u %" PRIu64 "\n", what, n, equal, count, found.equal, found.count);
+    pthread_mutex_unlock(&lock);
+}
+
+/* Every length up to four words and a tail: equal, one byte shorter or longer, and another byte at each place, in its highest and in its lowest bit. */
+static void comparisons(void) {
+    for (size_t length = 0; length < 40; length++) {
+        size_t words = length / 8;
+        uint8_t *a = block(length, 0), *b = block(length, 0), *longer = block(length + 1, 0);
+        for (size_t i = 0; i < length; i++) a[i] = b[i] = longer[i] = 37 * i + length;
+        expect_comparison("equal runs of", length, vegzump_compare(a, length, b, length), 1, words + length % 8);
+        expect_comparison("a run with itself of", length, vegzump_compare(a, length, a, length), 1, words + length % 8);
+        expect_comparison("one byte more than", length, vegzump_compare(a, length, longer, length + 1), 0, 0);
+        expect_comparison("one byte less than one more than", length, vegzump_compare(longer, length + 1, a, length), 0, 0);
+        for (size_t i = 0; i < length; i++)
+            for (int bit = 1; bit <= 128; bit += 127) {
+                b[i] ^= bit;
+                uint64_t owed = i < 8 * words ? i / 8 + 1 : words + i - 8 * words + 1;
+                expect_comparison("another byte in runs of", length, vegzump_compare(a, length, b, length), 0, owed);
+                expect_comparison("another byte in runs, the other way, of", length, vegzump_compare(b, length, a, length), 0, owed);
+                b[i] ^= bit;
+            }
+        free(a), free(b), free(longer);
+    }
+    size_t length = 1 << 20;
+    uint8_t *a = block(length, 0xFF), *b = block(length, 0xFF);
+    expect_comparison("equal runs of", length, vegzump_compare(a, length, b, length), 1, length / 8);
+    b[length - 1] = 0;
+    expect_comparison("another last byte in runs of", length, vegzump_compare(a, length, b, length), 0, length / 8);
+    free(a), free(b);
+    /* The lengths are looked at before any byte, and an empty run may be anywhere. */
+    uint8_t one = 0;
+    expect_comparison("huge run", 0, vegzump_compare(&one, SIZE_MAX / 2, &one, 1), 0, 0);
+    expect_comparison("huge run", 1, vegzump_compare(NULL, 0, &one, SIZE_MAX / 2), 0, 0);
+    expect_comparison("empty runs", 0, vegzump_compare(NULL, 0, NULL, 0), 1, 0);
+    expect_comparison("empty runs", 1, vegzump_compare(&one, 0, NULL, 0), 1, 0);
+}
+
 /* ---- many formulas in one call, beside one by one ---- */
 
 typedef struct {
@@ -385,6 +429,7 @@ static void *all(void *count) {
     formula_lengths();
     rooms();
     portions();
+    comparisons();
     many_formulas();
     nothing_at_all();
     return NULL;
@@ -401,6 +446,7 @@ int main(int argc, char **argv) {
     if (!cases_size || fread(cases, 1, cases_size, f) != cases_size) return puts("no cases"), 2;
     fclose(f);
     if (sizeof(vegzump_answer) != 32 || offsetof(vegzump_answer, a) != 8) fail("layout of the answer", sizeof(vegzump_answer));
+    if (sizeof(vegzump_comparison) != 16 || offsetof(vegzump_comparison, count) != 8) fail("layout of a comparison", sizeof(vegzump_comparison));
 
     pthread_attr_t attr;
     pthread_t id[64];

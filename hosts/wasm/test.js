@@ -95,6 +95,10 @@ const calls = {
     const answer = numbers(library.portions(octets(table), octets(formula), BigInt(written), BigInt(wanted), cells, list));
     return [answer, shown(list, 0xeeeeeeeeeeeeeeeen, owed[4]), shown(cells, 0xaaaaaaaa, owed[5])].join(" ");
   },
+  compare([a, b]) {
+    const {equal, count} = library.compare(octets(a), octets(b));
+    return `${equal ? 1 : 0} ${count}`;
+  },
 };
 const octets = word => Uint8Array.from(word === "-" ? [] : Buffer.from(word, "hex"));
 

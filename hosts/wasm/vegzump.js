@@ -21,13 +21,14 @@ const Vegzump = (() => {
   const tableOf = given => given.subarray(0, TABLE_BYTES + 1);
   const formulaOf = given => bytesOf(given).subarray(0, FORMULA_BYTES + 1);
 
+  // The answer of a call; a comparison lies likewise, with `equal` for the number and the count for a.
   function answerAt(memory, place) {
     const view = new DataView(memory.buffer, place, ANSWER_BYTES);
     return {number: view.getUint8(0), a: view.getBigUint64(8, true), b: view.getBigUint64(16, true), c: view.getBigUint64(24, true)};
   }
 
   // The calls of one instance. It is not for several workers at once: each makes its own of the same module.
-  function faceOf({memory, __heap_base, __stack_pointer, vegzump_check, vegzump_expand, vegzump_expand_each, vegzump_portions}) {
+  function faceOf({memory, __heap_base, __stack_pointer, vegzump_check, vegzump_expand, vegzump_expand_each, vegzump_portions, vegzump_compare}) {
     const free = Number(__heap_base.value), top = __stack_pointer.value;
 
     // Runs a call on copies of views behind the library's own memory, with a place and a length (in elements) for each, and copies those lent back.
@@ -104,7 +105,13 @@ const Vegzump = (() => {
       const entry = (_, i) => ({number: list[3 * i], grams: list[3 * i + 1], remainder: list[3 * i + 2]});
       return {...answer, portions: Array.from({length: Number(answer.c) / 3}, entry)};
     }
-    return {check, expand, expandEach, expandWhole, portions, portionsWhole};
+
+    // Compares two runs of bytes, eight at a time and then the tail byte by byte: whether they are equal, and how many comparisons it took, a BigInt.
+    function compare(a, b) {
+      const {number, a: count} = answered(vegzump_compare, [bytesOf(a), bytesOf(b)], []);
+      return {equal: number === 1, count};
+    }
+    return {check, expand, expandEach, expandWhole, portions, portionsWhole, compare};
   }
 
   const load = async bytes => faceOf((await WebAssembly.instantiate(bytes)).instance.exports);

@@ -1,5 +1,5 @@
-//! The phrase expander of document 01, and C-11 of document 02, in plain safe Rust, written from the documents alone and for speed. It is what the proved
-//! archive is compared with, answer by answer, cell by cell and byte by byte, and measured against. Nothing here is shared with the proved code.
+//! The phrase expander of document 01, and C-11 and C-12 of document 02, in plain safe Rust, written from the documents alone and for speed. It is what the
+//! proved archive is compared with, answer by answer, cell by cell and byte by byte, and measured against. Nothing here is shared with the proved code.
 //!
 //! A call goes `table` (1 to 6, 10), `sorts` (7, 8, 9, 11), `firsts` (12, 13), `scan` (14 to 16), `run` (17 to 21), `print` (22 to 24). What a call
 //! needs is kept for the next one on the same thread, so that a call allocates only where its input is larger than all before it.
@@ -91,6 +91,28 @@ pub fn portions(table: &[u8], formula: &[u8], written: u64, wanted: u64, cells: 
         Ok(accepted) => accepted,
         Err(refused) => refused,
     })
+}
+
+/// Whether two runs of bytes are equal, and how many comparisons it took.
+#[derive(Clone, Copy, Debug, PartialEq, Eq)]
+pub struct Comparison {
+    pub equal: bool,
+    pub count: u64,
+}
+
+/// Compares two runs of bytes: no comparison if the lengths differ, else eight bytes at a time as one number, then the tail byte by byte, up to the first that
+/// fails.
+pub fn compare(a: &[u8], b: &[u8]) -> Comparison {
+    if a.len() != b.len() {
+        return Comparison { equal: false, count: 0 };
+    }
+    let ((a_words, a_tail), (b_words, b_tail)) = (a.as_chunks::<8>(), b.as_chunks::<8>());
+    let word = a_words.iter().zip(b_words).position(|(a, b)| u64::from_ne_bytes(*a) != u64::from_ne_bytes(*b));
+    let byte = || a_tail.iter().zip(b_tail).position(|(a, b)| a != b).map(|at| a_words.len() + at);
+    match word.or_else(byte) {
+        Some(at) => Comparison { equal: false, count: at as u64 + 1 },
+        None => Comparison { equal: true, count: (a_words.len() + a_tail.len()) as u64 },
+    }
 }
 
 impl Workspace {

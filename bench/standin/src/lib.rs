@@ -23,6 +23,12 @@ unsafe fn bytes<'a>(from: *const u8, length: usize) -> &'a [u8] {
 }
 
 /// # Safety
+/// `from` is valid for `length` bytes, or the length is 0.
+unsafe fn run<'a>(from: *const u8, length: usize) -> &'a [u8] {
+    if length == 0 { &[] } else { slice::from_raw_parts(from, length) }
+}
+
+/// # Safety
 /// `from` is valid for `length` parts, or the length is 0.
 unsafe fn room<'a, T>(from: *mut T, length: usize) -> &'a mut [T] {
     if length == 0 { &mut [] } else { slice::from_raw_parts_mut(from, length) }
@@ -76,6 +82,23 @@ pub unsafe extern "C" fn vegzump_portions(
     answer(plain::portions(bytes(table, table_len), bytes(formula, formula_len), written, wanted, cells, list))
 }
 
+#[repr(C)]
+pub struct Comparison {
+    equal: u8,
+    count: u64,
+}
+
+/// # Safety
+/// As the header asks.
+#[no_mangle]
+pub unsafe extern "C" fn vegzump_compare(a: *const u8, a_len: usize, b: *const u8, b_len: usize) -> Comparison {
+    // Where the lengths differ no byte is read, and a length may be past all memory: any two runs of different lengths stand for these.
+    let found = if a_len == b_len { plain::compare(run(a, a_len), run(b, b_len)) } else { plain::compare(&[0], &[]) };
+    #[cfg(feature = "wrong")]
+    let found = plain::Comparison { count: found.count - u64::from(found.count == 5 && !found.equal), ..found };
+    Comparison { equal: u8::from(found.equal), count: found.count }
+}
+
 /// # Safety
 /// As the header asks.
 #[no_mangle]
@@ -95,7 +118,7 @@ pub unsafe extern "C" fn vegzump_expand_each(
 ) -> usize {
     let count = ends_len.min(answers_len / 4);
     let (ends, answers) = (room(ends.cast_mut(), count), room(answers, 4 * count));
-    let formulas: &[u8] = if formulas_len == 0 { &[] } else { slice::from_raw_parts(formulas, formulas_len) };
+    let formulas = run(formulas, formulas_len);
     let mut found = vec![plain::Answer { number: 0, a: 0, b: 0, c: 0 }; count];
     plain::expand_each(bytes(table, table_len), formulas, ends, room(cells, cells_len), room(text, text_len), &mut found);
     for (numbers, found) in answers.chunks_exact_mut(4).zip(found) {

@@ -7,9 +7,10 @@ use native.Mathlib.Omega.{arith}
 use lib.Dec.{eqb, leb}
 use lib.ListN.{length, getD, take, drop, replicate, length-append, length-replicate, getD-replicate, List·getD-eq-default}
 use borrow.Author.Tests.{leb-true, eqb-true, eqb-false, lt-leb, eq-eqb, ne-eqb}
+use Rattle.spellings.specs.Alike.{Alike}
 use Rattle.spellings.specs.Bytes.{same}
 use Rattle.spellings.proofs.BytesLaws.{by-test, length-same}
-use Rattle.spellings.proofs.Loops.{Agreeing, agreeing-start, agreeing-next, agreeing-stop, agreeing-end}
+use Rattle.spellings.proofs.AlikeLaws.{alike-start, alike-next, alike-same, differ-at}
 use Rattle.cases.specs.declared.case.Places.{Places}
 use Rattle.cases.specs.declared.case.Case.{Case}
 use Rattle.cases.specs.declared.case.Next.the-variants.{Whole, End, Broken}
@@ -22,7 +23,7 @@ pub record Left (written : List ℕ) (untouched : ℕ) (room : List ℕ) (count 
   -- what is written fits the room
   pub fits : length written ≤ length room
   -- the first `count` numbers agree with a room that is written and untouched behind
-  pub agree : Agreeing room (leftAs written (length room) untouched) count
+  pub agree : Alike room (leftAs written (length room) untouched) count
 
 front-at : (written : List ℕ) (count untouched i : ℕ) → i < length written + count → getD (written ++ replicate count untouched) i 0 ≡ getD written i untouched
 front-at [] count untouched i h = getD-replicate count i untouched 0 (omega arith)
@@ -45,7 +46,7 @@ module _ (written : List ℕ) (untouched : ℕ) (room : List ℕ) where
 
   -- no number is compared yet
   pub left-start : length written ≤ length room → Left written untouched room 0
-  left-start fits = record { fits = fits; agree = agreeing-start _ _ }
+  left-start fits = record { fits = fits; agree = alike-start _ _ }
 
 module _ {written : List ℕ} {untouched : ℕ} {room : List ℕ} {count : ℕ} (left : Left written untouched room count) where
   long : length room ≡ length (leftAs written (length room) untouched)
@@ -54,16 +55,16 @@ module _ {written : List ℕ} {untouched : ℕ} {room : List ℕ} {count : ℕ} 
   -- one more number is the one written there, or as it was
   pub left-next : {expected : ℕ} → count < length room → expected ≡ getD written count untouched → getD room count 0 ≡ expected
       → Left written untouched room (count + 1)
-  left-next h e f = record { fits = left .fits; agree = agreeing-next (left .agree) long h (f ∙ e ∙ left-at written untouched room count h) }
+  left-next h e f = record { fits = left .fits; agree = alike-next (left .agree) (f ∙ e ∙ left-at written untouched room count h) }
 
   -- a number is not
   pub left-stop : {expected : ℕ} → count < length room → expected ≡ getD written count untouched → (getD room count 0 ≡ expected → ⊥)
       → false ≡ same room (leftAs written (length room) untouched)
-  left-stop h e n = agreeing-stop (left .agree) long h (λ f. n (f ∙ sym (e ∙ left-at written untouched room count h)))
+  left-stop h e n = differ-at _ _ count (λ f. n (f ∙ sym (e ∙ left-at written untouched room count h)))
 
   -- all are
   pub left-end : length room ≤ count → true ≡ same room (leftAs written (length room) untouched)
-  left-end h = agreeing-end (left .agree) long h
+  left-end h = alike-same (left .agree) long h
 
 -- behind what is written a number is as it was
 pub behind-written : (written : List ℕ) (untouched i : ℕ) → length written ≤ i → untouched ≡ getD written i untouched

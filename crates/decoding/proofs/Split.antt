@@ -8,14 +8,11 @@ use lib.Dec.{leb}
 use lib.ListN.{length, getD, take, drop, length-append, length-drop, take-append-drop}
 use lib.Seq.{drop-drop, take-append-seam, drop-append-seam, getD-drop, length-take-le}
 use borrow.Author.Tests.{le-leb, leb-true, ne-eqb}
+pub use Rattle.spellings.specs.Alike.{Bytes}
 use Rattle.spellings.proofs.BytesLaws.{by-test}
 use Rattle.grammar.specs.Encode.{fieldThen, fieldBytes}
 use Rattle.grammar.specs.Values.{Field, field}
 use Rattle.grammar.specs.Fields.{RawFields, end, cut, next, sizeOf, fieldsFrom, fieldsOf}
-
--- every member of the list is a byte; a place past the end has the byte 0
-abbrev pub Bytes : List ℕ → Type 0
-Bytes bs = (i : ℕ) → getD bs i 0 < 256
 
 -- a part of bytes is bytes
 pub dropped-bytes : (count : ℕ) (bs : List ℕ) → Bytes bs → Bytes (drop count bs)

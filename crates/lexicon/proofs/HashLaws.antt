@@ -7,8 +7,9 @@ use lib.Seq.{take-all}
 use lib.ListN.{length, getD, take, drop, length-drop, List·getD-eq-default}
 use borrow.Author.Tests.{lt-ltb, le-ltb}
 use Rattle.spellings.specs.Bytes.{longestRun, isWordByte}
+use Rattle.spellings.specs.Eights.{fourAt, eightAt}
 use Rattle.spellings.proofs.BytesLaws.{run-prefix}
-use Rattle.lexicon.specs.Trees.{twoAt, fourAt, eightAt, fewOf, crossed, mixed, chunksFrom, seedOf, bodyOf, hashOf, Hashed}
+use Rattle.lexicon.specs.Trees.{fewOf, crossed, mixed, chunksFrom, seedOf, bodyOf, hashOf, Hashed}
 
 -- the halves of a number fit in each other's place
 pub crossed-fits : (product : ℕ) → product < 18446744073709551616 → crossed product < 18446744073709551616

@@ -8,6 +8,7 @@ use lib.Bits.{bitAnd, bitXor}
 use lib.Dec.{ltb}
 use lib.ListN.{length, getD, set, drop}
 use Rattle.spellings.specs.Bytes.{indexOf}
+use Rattle.spellings.specs.Eights.{fourAt, eightAt}
 use Rattle.lexicon.specs.Places.{wordsIn}
 use Rattle.lexicon.specs.declared.trees.Spot.{Spot}
 use Rattle.lexicon.specs.declared.trees.Spot.the-variants.{Node, Free}
@@ -15,16 +16,6 @@ use Rattle.lexicon.specs.declared.trees.Seen.{Seen}
 use Rattle.lexicon.specs.declared.trees.Seen.the-variants.{Met, New, Beyond}
 
 -- ------------------------------------------------------------------ the hash
-
--- two, four and eight bytes from an index on as one number, the first the lowest
-abbrev pub twoAt : List ℕ → ℕ → ℕ
-twoAt s i = getD s i 0 + getD s (i + 1) 0 * 256
-
-abbrev pub fourAt : List ℕ → ℕ → ℕ
-fourAt s i = twoAt s i + twoAt s (i + 2) * 65536
-
-abbrev pub eightAt : List ℕ → ℕ → ℕ
-eightAt s i = fourAt s i + fourAt s (i + 4) * 4294967296
 
 -- the bytes of a spelling of fewer than eight: two fours, which overlap, or of fewer than four the first, the middle and the last
 unfoldable pub fewOf : List ℕ → ℕ

@@ -10,8 +10,8 @@ import threading
 import unittest
 from array import array
 
-from vegzump import (FORMULA_BYTES, ROW_CELLS, ROWS, STACK, TABLE_BYTES, Accepted, Portion, Refusal, __version__, causes, check, expand, expand_each, expand_texts,
-                     expand_whole, portions, portions_whole)
+from vegzump import (FORMULA_BYTES, ROW_CELLS, ROWS, STACK, TABLE_BYTES, Accepted, Comparison, Portion, Refusal, __version__, causes, check, compare, expand,
+                     expand_each, expand_texts, expand_whole, portions, portions_whole)
 
 ROOT = os.path.dirname(os.path.dirname(os.path.dirname(os.path.dirname(os.path.abspath(__file__)))))
 CASES = os.environ.get("VEGZUMP_CASES") or os.path.join(ROOT, "crates", "conformance", "data", "cases.bin")
@@ -237,6 +237,19 @@ class Calls(unittest.TestCase):
         self.assertRaises(OverflowError, portions_whole, table, formula, -1, 1)
         self.assertRaises(OverflowError, portions_whole, table, formula, 1, 1 << 64)
         self.assertRaises(TypeError, portions, table, formula, 1, 1, cells_of(4), array("I", [0]))
+
+    def test_runs_that_differ_at_each_place(self):
+        """Every length up to four words and a tail: equal, one byte more, and another byte at each place."""
+        for length in range(40):
+            words, run = length // 8, bytes((37 * at + length) % 256 for at in range(length))
+            self.assertEqual(compare(run, bytearray(run)), Comparison(True, words + length % 8))
+            self.assertEqual(compare(run, run + b"\0"), Comparison(False, 0))
+            self.assertEqual(compare(run + b"\0", run), Comparison(False, 0))
+            for at in range(length):
+                other = run[:at] + bytes([run[at] ^ 128]) + run[at + 1:]
+                owed = at // 8 + 1 if at < 8 * words else words + at - 8 * words + 1
+                self.assertEqual(compare(run, other), Comparison(False, owed))
+        self.assertEqual(compare("north_ward_oats", "north_ward_milk"), Comparison(False, 5))
 
     def test_nothing_at_all(self):
         self.assertRaises(causes.FieldOutOfOrder, check, b"")

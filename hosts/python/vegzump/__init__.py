@@ -23,8 +23,8 @@ from typing import Iterable, List, NamedTuple, Sequence, Tuple, Union
 from . import causes
 from .refusal import Refusal, refusal
 
-__all__ = ["check", "expand", "expand_each", "expand_texts", "expand_whole", "portions", "portions_whole", "causes", "Refusal", "Accepted", "Expansion",
-           "Portion", "STACK", "TABLE_BYTES", "FORMULA_BYTES", "ROWS", "ROW_CELLS"]
+__all__ = ["check", "compare", "expand", "expand_each", "expand_texts", "expand_whole", "portions", "portions_whole", "causes", "Refusal", "Accepted",
+           "Comparison", "Expansion", "Portion", "STACK", "TABLE_BYTES", "FORMULA_BYTES", "ROWS", "ROW_CELLS"]
 
 # Bytes of stack that a call takes at the worst.
 STACK = 3_670_016
@@ -62,8 +62,18 @@ class Portion(NamedTuple):
     remainder: int
 
 
+class Comparison(NamedTuple):
+    """Whether two runs of bytes are equal, and how many comparisons it took to tell."""
+    equal: bool
+    count: int
+
+
 class _Answer(ctypes.Structure):
     _fields_ = [("number", ctypes.c_uint8), ("a", ctypes.c_uint64), ("b", ctypes.c_uint64), ("c", ctypes.c_uint64)]
+
+
+class _Comparison(ctypes.Structure):
+    _fields_ = [("equal", ctypes.c_uint8), ("count", ctypes.c_uint64)]
 
 
 _READ = [ctypes.c_char_p, ctypes.c_size_t]
@@ -77,6 +87,7 @@ def _library(kind):
     library.vegzump_check.restype, library.vegzump_check.argtypes = _Answer, _READ
     library.vegzump_expand.restype, library.vegzump_expand.argtypes = _Answer, 2 * _READ + 2 * _LENT
     library.vegzump_expand_each.restype, library.vegzump_expand_each.argtypes = ctypes.c_size_t, 2 * _READ + 4 * _LENT
+    library.vegzump_compare.restype, library.vegzump_compare.argtypes = _Comparison, 2 * _READ
     library.vegzump_portions.restype, library.vegzump_portions.argtypes = _Answer, 2 * _READ + 2 * [ctypes.c_uint64] + 2 * _LENT
     return library
 
@@ -223,3 +234,10 @@ def portions_whole(table: Bytes, formula: Bytes, written: int, wanted: int) -> L
         answer = _listed(_free, table, formula, written, wanted, cells, numbers)
     entries = iter(numbers[:_taken(answer).text])
     return [Portion(*entry) for entry in zip(*[entries] * 3)]
+
+
+def compare(a: Bytes, b: Bytes) -> Comparison:
+    """Compares two runs of any bytes as spellings are compared: words of eight bytes from the front, then the tail of fewer than eight byte by byte. Each is one
+    comparison. If the lengths differ there is none, else `count` has all up to and with the first that fails."""
+    found = _free.vegzump_compare(*_read(a), *_read(b))
+    return Comparison(found.equal != 0, found.count)

@@ -52,6 +52,12 @@ mod sys {
         pub c: u64,
     }
 
+    #[repr(C)]
+    pub struct Comparison {
+        pub equal: u8,
+        pub count: u64,
+    }
+
     extern "C" {
         pub fn vegzump_check(table: *const u8, table_len: usize) -> Answer;
         pub fn vegzump_expand(
@@ -90,6 +96,7 @@ mod sys {
             text: *mut u8,
             text_len: usize,
         ) -> usize;
+        pub fn vegzump_compare(a: *const u8, a_len: usize, b: *const u8, b_len: usize) -> Comparison;
     }
 }
 
@@ -209,6 +216,26 @@ pub fn portions_whole(table: &[u8], formula: &[u8], written: u64, wanted: u64) -
     }
     let entries = list[..answer?.text].chunks_exact(3);
     Ok(entries.map(|entry| Portion { number: entry[0], grams: entry[1], remainder: entry[2] }).collect())
+}
+
+/// Whether two runs of bytes are equal, and how many comparisons it took to tell.
+#[derive(Clone, Copy, Debug, PartialEq, Eq)]
+pub struct Comparison {
+    pub equal: bool,
+    pub count: u64,
+}
+
+/// Compares two runs of any bytes as spellings are compared: words of eight bytes from the front, then the tail of fewer than eight byte by byte. Each is one
+/// comparison. If the lengths differ there is none, else `count` has all up to and with the first that fails.
+///
+/// ```no_run
+/// let found = vegzump::compare(b"north_ward_oats", b"north_ward_milk");
+/// assert_eq!(found, vegzump::Comparison { equal: false, count: 5 }); // `north_wa`, and `rd_o` byte by byte
+/// ```
+pub fn compare(a: &[u8], b: &[u8]) -> Comparison {
+    // SAFETY: each slice is valid for its length.
+    let found = unsafe { sys::vegzump_compare(a.as_ptr(), a.len(), b.as_ptr(), b.len()) };
+    Comparison { equal: found.equal != 0, count: found.count }
 }
 
 /// As many formulas as one call of the archive is handed.

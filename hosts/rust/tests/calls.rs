@@ -1,8 +1,9 @@
-//! The archive from Rust: the conformance cases, lengths round every limit, nothing at all, many formulas in one call beside one by one, several threads.
+//! The archive from Rust: the conformance cases, lengths round every limit, nothing at all, many formulas in one call beside one by one, runs that differ at each
+//! place, several threads.
 
 use std::{env, fs, thread};
-use vegzump::{check, expand, expand_each, expand_texts, expand_whole, portions, portions_whole};
-use vegzump::{Answer, Portion, Refusal, FORMULA_BYTES, ROWS, ROW_CELLS, STACK, TABLE_BYTES};
+use vegzump::{check, compare, expand, expand_each, expand_texts, expand_whole, portions, portions_whole};
+use vegzump::{Answer, Comparison, Portion, Refusal, FORMULA_BYTES, ROWS, ROW_CELLS, STACK, TABLE_BYTES};
 
 /// Runs on a thread with the stack that the header states; what else runs there has a megabyte.
 fn with_stack<T: Send + 'static>(test: impl FnOnce() -> T + Send + 'static) -> thread::JoinHandle<T> {
@@ -322,4 +323,24 @@ fn portions_of_a_formula() {
     }
     let most = portions_whole(table, b"999999999", 10_000, 9_999).unwrap();
     assert_eq!(most, [Portion { number: 999_999_999, grams: 999_899_999, remainder: 1 }]);
+}
+
+/// Every length up to four words and a tail: equal, one byte more, and another byte at each place.
+#[test]
+fn runs_that_differ_at_each_place() {
+    for length in 0..40 {
+        let (words, tail) = (length / 8, length % 8);
+        let run: Vec<u8> = (0..length).map(|at| (37 * at + length) as u8).collect();
+        let longer = [&run[..], &[0]].concat();
+        assert_eq!(compare(&run, &run.clone()), Comparison { equal: true, count: (words + tail) as u64 }, "{length} bytes");
+        assert_eq!(compare(&run, &longer), Comparison { equal: false, count: 0 }, "{length} bytes and one more");
+        assert_eq!(compare(&longer, &run), Comparison { equal: false, count: 0 }, "{length} bytes and one more");
+        for at in 0..length {
+            let mut other = run.clone();
+            other[at] ^= 128;
+            let owed = if at < 8 * words { at / 8 + 1 } else { words + at - 8 * words + 1 };
+            assert_eq!(compare(&run, &other), Comparison { equal: false, count: owed as u64 }, "{length} bytes, another at {at}");
+        }
+    }
+    assert_eq!(compare(b"north_ward_oats", b"north_ward_milk"), Comparison { equal: false, count: 5 });
 }
