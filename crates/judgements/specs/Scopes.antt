@@ -15,6 +15,11 @@ Env = List Declaration
 abbrev pub entryOf : Definition → Declaration
 entryOf d = record { nonterminal = d .nonterminal; signature = d .signature }
 
+-- what stands before a block: the environment that the blocks before it give, and these blocks with a template for each result, as they were checked
+pub record Before : Type 0 where
+  pub env : Env
+  pub blocks : List (List Definition)
+
 -- what a body is checked under: how many keywords and outside names there are, and E
 pub record Scope : Type 0 where
   pub keywords : ℕ
