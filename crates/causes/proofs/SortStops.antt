@@ -4,78 +4,24 @@ use mathlib.Core.Path.{_≡_, refl, sym, ap, _∙_, subst, subst⁻¹}
 use mathlib.Core.Logic.{_↔_}
 use mathlib.Core.List.{List, [], _∷_, _++_}
 use native.Mathlib.Omega.{arith}
-use lib.ListN.{length, length-append}
+use lib.ListN.{length}
 use Rattle.answers.specs.declared.Refusal.{Refusal}
 use Rattle.answers.specs.Checked.{Checked, ok, bad, _>>=_, _>>_}
 use Rattle.grammar.specs.Table.{Item, Alternative, Definition, Table}
-use Rattle.grammar.specs.Values.{Field, field, itemValue, headValue, templateThen}
-use Rattle.grammar.specs.Encode.{fieldBytes, spellingsThen, itemsThen, alternativesThen, definitionsThen, blocksThen}
+use Rattle.grammar.specs.Values.{Field, field, headValue}
+use Rattle.grammar.specs.Encode.{itemsThen, alternativesThen, definitionsThen}
 use Rattle.decoding.specs.Within.{Each, AlternativeWithin, DefinitionWithin, Within}
-use Rattle.judgements.specs.Sizes.{fieldSize, spellingsSize, itemsSize, alternativeSize, alternativesSize, definitionSize, definitionsSize}
+use Rattle.judgements.specs.Sizes.{fieldSize, spellingsSize, itemsSize, alternativesSize, definitionsSize}
 use Rattle.judgements.specs.Scopes.{Env, Before, Scope}
 use Rattle.judgements.specs.CheckSorts.{collect, checkItems, checkResult, checkAlternative, checkBodies, checkBlocks, blocksSize, checkRoot, checkSorts}
 use Rattle.judgements.specs.Judgements.{Bodies, Defines, Ok, Sequence}
 use Rattle.judgements.proofs.SequenceSorts.{atFirst}
+use Rattle.judgements.proofs.SizeLaws.{bytesOf, one-field, no-bytes, items-bytes, alternatives-bytes, definitions-bytes, front-size}
 use Rattle.causes.specs.Missorted.{Part, head, result, root, Fails, At, Numbered, Next, placeBehind, headPlace, bodyPlace, within, Missorted}
 use Rattle.causes.specs.Missorted as rules
 use Rattle.causes.proofs.PartTests.{outcome, item-view, item-fails, result-view, result-fails, head-view, head-fails, root-view, root-fails}
 use Rattle.causes.proofs.Walking.{no-refusal, first-or-next, then-is, this-of, Stop, stops, stopped, passes, passed}
 use Rattle.causes.proofs.SortWalks.{items, alternatives, bodies, heads, checkBlock, blocks}
-
--- ------------------------------------------------------------------ places
-
--- how many bytes some fields take
-abbrev bytesOf : List Field → ℕ
-bytesOf fs = length (fieldBytes fs)
-
-one-field : (f : Field) (fs : List Field) → bytesOf (f ∷ fs) ≡ 3 + length (f .value) + bytesOf fs
-unfolding fieldBytes
-one-field f fs = omega (arith, length-append (f .value) (fieldBytes fs))
-
-no-bytes : bytesOf [] ≡ 0
-unfolding fieldBytes
-no-bytes = refl
-
-module _ (follow : List Field) where
-  spellings-bytes : (tag : ℕ) (ss : List (List ℕ)) → bytesOf (spellingsThen tag ss follow) ≡ spellingsSize ss + bytesOf follow
-  unfolding spellingsThen spellingsSize
-  spellings-bytes tag [] = omega arith
-  spellings-bytes tag (s ∷ ss) = omega (arith, one-field (field tag s) (spellingsThen tag ss follow), spellings-bytes tag ss)
-
-  items-bytes : (is : List Item) → bytesOf (itemsThen is follow) ≡ itemsSize is + bytesOf follow
-  unfolding itemsThen itemsSize
-  items-bytes [] = omega arith
-  items-bytes (i ∷ is) = omega (arith, one-field (field 6 (itemValue i)) (itemsThen is follow), items-bytes is)
-
-alternatives-bytes : (follow : List Field) (choices : List Alternative) → bytesOf (alternativesThen choices follow) ≡ alternativesSize choices + bytesOf follow
-unfolding alternativesThen alternativesSize alternativeSize
-alternatives-bytes follow [] = omega arith
-alternatives-bytes follow (a ∷ rest) =
-    let last : Field = field 7 (templateThen (a .result) []) in
-    omega (
-      arith,
-      one-field (field 5 []) (itemsThen (a .items) (last ∷ alternativesThen rest follow)),
-      items-bytes (last ∷ alternativesThen rest follow) (a .items),
-      one-field last (alternativesThen rest follow),
-      alternatives-bytes follow rest,
-    )
-
-definitions-bytes : (follow : List Field) (ds : List Definition) → bytesOf (definitionsThen ds follow) ≡ definitionsSize ds + bytesOf follow
-unfolding definitionsThen definitionsSize definitionSize
-definitions-bytes follow [] = omega arith
-definitions-bytes follow (d ∷ ds) =
-    omega (
-      arith,
-      one-field (field 4 (headValue d)) (alternativesThen (d .alternatives) (definitionsThen ds follow)),
-      alternatives-bytes (definitionsThen ds follow) (d .alternatives),
-      definitions-bytes follow ds,
-    )
-
-blocks-bytes : (follow : List Field) (bs : List (List Definition)) → bytesOf (blocksThen bs follow) ≡ blocksSize bs + bytesOf follow
-unfolding blocksThen blocksSize
-blocks-bytes follow [] = omega arith
-blocks-bytes follow (b ∷ bs) =
-    omega (arith, one-field (field 3 []) (definitionsThen b (blocksThen bs follow)), definitions-bytes (blocksThen bs follow) b, blocks-bytes follow bs)
 
 -- ------------------------------------------------------------------ the whole table
 
@@ -91,13 +37,7 @@ module _ (t : Table) where
   first = spellingsSize (t .keywords) + spellingsSize (t .outsides)
 
   place-behind : (bs : List (List Definition)) (follow : List Field) → placeBehind t bs follow ≡ first + blocksSize bs + bytesOf follow
-  place-behind bs follow =
-      omega (
-        arith,
-        spellings-bytes (spellingsThen 2 (t .outsides) (blocksThen bs follow)) 1 (t .keywords),
-        spellings-bytes (blocksThen bs follow) 2 (t .outsides),
-        blocks-bytes follow bs,
-      )
+  place-behind = front-size (t .keywords) (t .outsides)
 
   -- the place of a head, and of what stands in a body
   head-place : (bs : List (List Definition)) (ds : List Definition)

@@ -95,7 +95,8 @@ module _ (E : Env) where
       → Accepts (consistent mode E own definition at) P → Accepts (consistent (definition .mode) E own definition at) P
   in-mode P own definition at e h = rw (← e) at h
 
-  rule-collect :
+  -- heads that are derived are accepted
+  pub rule-collect :
       (P : Env → Type 0) {own own′ : Env} (at : ℕ) {ds : List Definition} → Defines E own ds own′ → P own′
       → Accepts (collect E own at ds) P
   unfolding collect
