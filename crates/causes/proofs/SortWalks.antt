@@ -286,7 +286,8 @@ module _ (K N : ℕ) where
           (λ P′. checkBlocks K N P′ next bs))
 
       derived : (P P′ : Before) {own : Env} (at : ℕ) {b ds : List Definition} {bs : List (List Definition)} → Each DefinitionWithin b
-          → collect (P .env) [] at b ≡ ok own → checkBodies (scope K N (own ++ P .env)) [] at b ≡ ok ds → Leads (behindBlock P own ds) bs P′ → Leads P (b ∷ bs) P′
+          → collect (P .env) [] at b ≡ ok own → checkBodies (scope K N (own ++ P .env)) [] at b ≡ ok ds → Leads (behindBlock P own ds) bs P′
+          → Leads P (b ∷ bs) P′
       derived P P′ {own} at {b} {ds} {bs} w p q (s, e) =
           let (o, is) = passes (bodies (scope K N (own ++ P .env))) b [] ds at w q in
           (by-grammar (passes (heads (P .env)) b [] own at w p) o s, laid-behind (P .blocks) bs is e)

@@ -38,7 +38,8 @@ module _ (follow : List Field) where
   items-bytes (i ∷ is) = omega (arith, one-field (field 6 (itemValue i)) (itemsThen is follow), items-bytes is)
 
 -- those of alternatives
-pub alternatives-bytes : (follow : List Field) (choices : List Alternative) → bytesOf (alternativesThen choices follow) ≡ alternativesSize choices + bytesOf follow
+pub alternatives-bytes : (follow : List Field) (choices : List Alternative)
+    → bytesOf (alternativesThen choices follow) ≡ alternativesSize choices + bytesOf follow
 unfolding alternativesThen alternativesSize alternativeSize
 alternatives-bytes follow [] = omega arith
 alternatives-bytes follow (a ∷ rest) =
