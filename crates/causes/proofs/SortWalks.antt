@@ -217,7 +217,7 @@ module _ (E : Env) where
         more-is = λ own own′ d ds k. let (c, rest) = defined k in (tt, λ at. consistent-passes own d at c, rest);
       }
     where
-      none-is : (own own′ : Env) → Defines E own [] own′ → own ≡ own′
+      none-is : (own own′ : Env) → Defines {R = Template} E own [] own′ → own ≡ own′
       none-is own own′ no-definition = refl
 
 -- ------------------------------------------------------------------ blocks

@@ -10,7 +10,7 @@ use Rattle.spellings.specs.Bytes.{same}
 use Rattle.grammar.specs.Sorts.{Signature, gives, unit, var, binder, label, term, num, constructor}
 use Rattle.grammar.specs.SortTests.{fits}
 use Rattle.grammar.specs.Table.{Template, Templates, variable, outsideVar, outsideLabel, make, none, more, keyword, ide, number, Item, terminal, local, call}
-use Rattle.grammar.specs.Table.{Alternative, Mode, add, extend, update, Definition, Table}
+use Rattle.grammar.specs.Table.{Alternative, Mode, add, extend, update, DefinitionOf, Definition, Table}
 use Rattle.grammar.specs.Values.{itemValue, headValue}
 use Rattle.judgements.specs.Sizes.{fieldSize, spellingsSize, itemsSize, alternativeSize, definitionSize, definitionsSize}
 use Rattle.judgements.specs.Scopes.{Env, Before, Scope, entryOf}
@@ -33,16 +33,16 @@ sameSignature S S′ = same (S .result ∷ S .params) (S′ .result ∷ S′ .pa
 -- ------------------------------------------------------------------ E ⊢ g :: E', refusals 7 and 8
 
 -- an earlier block defined the nonterminal with the same signature, and this block, of which `own` has what stands before, did not
-abbrev pub isAsBefore : Env → Env → Definition → Bool
+abbrev pub isAsBefore : {R : Type 0} → Env → Env → DefinitionOf R → Bool
 isAsBefore E own d =
     not (isDefined own (d .nonterminal)) && isDefined E (d .nonterminal)
     && sameSignature (signatureOf E (d .nonterminal)) (d .signature)
 
 -- neither this block nor an earlier one defined it
-abbrev pub isUnused : Env → Env → Definition → Bool
+abbrev pub isUnused : {R : Type 0} → Env → Env → DefinitionOf R → Bool
 isUnused E own d = not (isDefined own (d .nonterminal)) && not (isDefined E (d .nonterminal))
 
-abbrev pub consistent : Mode → Env → Env → Definition → ℕ → Checked (Unit {0})
+abbrev pub consistent : {R : Type 0} → Mode → Env → Env → DefinitionOf R → ℕ → Checked (Unit {0})
 consistent add E own d at = need (isUnused E own d) 7 at
 consistent extend E own d at = need (isAsBefore E own d) 8 at
 consistent update E own d at = need (isAsBefore E own d) 8 at
