@@ -23,7 +23,7 @@ use Rattle.decoding.proofs.LayoutTheorems.{decode-exactly}
 use Rattle.decoding.proofs.RefusalNumbers.{isLayoutNumber, decode-answers}
 use Rattle.judgements.specs.CheckSorts.{checkSorts}
 use Rattle.judgements.specs.Judgements.{WellSorted}
-use Rattle.judgements.proofs.SortTheorems.{sorts-exactly, sort-refusals}
+use Rattle.judgements.proofs.SortTheorems.{sorts-exactly, checked-as-is, sort-refusals}
 use Rattle.productions.specs.Normal.{Production, normalized}
 use Rattle.clashes.specs.CheckFirsts.{checkFirsts}
 use Rattle.clashes.specs.FirstRefusals.{Says}
@@ -82,7 +82,7 @@ same e = cc
 
 module _ (bs : List ℕ) (bytes : (place : ℕ) → getD bs place 0 < 256) where
   -- what the check refuses, part by part
-  from-firsts : (table : Table) {cause : Refusal} → decode bs ≡ ok table → checkSorts table ≡ ok tt → (checked : Checked (Unit {0}))
+  from-firsts : (table : Table) {cause : Refusal} → decode bs ≡ ok table → checkSorts table ≡ ok table → (checked : Checked (Unit {0}))
       → checkFirsts (grammarOf table) ≡ checked → verdict (checked >> ok (syntaxOf table)) ≡ Refused cause → RefusesTable bs cause
   from-firsts table {cause} d s (ok u) e h = never cause (sym h)
   from-firsts table {cause} d s (bad q) e h =
@@ -94,15 +94,18 @@ module _ (bs : List ℕ) (bytes : (place : ℕ) → getD bs place 0 < 256) where
       by encoded within sorted (inr says) =
           subst⁻¹ (RefusesTable bs) (says .answer) (clashing encoded within sorted (says .earlier) (says .lowest) (says .shared))
 
-  from-sorts : (table : Table) {cause : Refusal} → decode bs ≡ ok table → (checked : Checked (Unit {0})) → checkSorts table ≡ checked
-      → verdict (checked >> checkFirsts (grammarOf table) >> ok (syntaxOf table)) ≡ Refused cause → RefusesTable bs cause
-  from-sorts table d (ok u) e h = from-firsts table d e (checkFirsts (grammarOf table)) refl h
+  from-sorts : (table : Table) {cause : Refusal} → decode bs ≡ ok table → (checked : Checked Table) → checkSorts table ≡ checked
+      → verdict (checked >>= λ u. checkFirsts (grammarOf u) >> ok (syntaxOf u)) ≡ Refused cause → RefusesTable bs cause
+  from-sorts table {cause} d (ok u) e h =
+      let same-table : table ≡ u = checked-as-is (decode-exactly bs bytes table .0 d .1) e in
+      from-firsts table d (e ∙ ap ok (sym same-table)) (checkFirsts (grammarOf table)) refl
+      (subst⁻¹ (λ t. verdict (checkFirsts (grammarOf t) >> ok (syntaxOf t)) ≡ Refused cause) same-table h)
   from-sorts table d (bad q) e h =
       let (encoded, within) = decode-exactly bs bytes table .0 d in
       unlaid (by-sorts encoded within (missorted-exactly table within _ .0 (e ∙ ap bad (same h))))
 
   from-layout : {cause : Refusal} (checked : Checked Table) → decode bs ≡ checked
-      → verdict (checked >>= λ t. checkSorts t >> checkFirsts (grammarOf t) >> ok (syntaxOf t)) ≡ Refused cause → RefusesTable bs cause
+      → verdict (checked >>= λ t. checkSorts t >>= λ u. checkFirsts (grammarOf u) >> ok (syntaxOf u)) ≡ Refused cause → RefusesTable bs cause
   from-layout (ok t) e h = from-sorts t e (checkSorts t) refl h
   from-layout (bad q) e h = unlaid (by-layout (misplaced-exactly bs bytes _ .0 (e ∙ ap bad (same h))))
 
@@ -201,11 +204,11 @@ module _ (bs : List ℕ) (bytes : (place : ℕ) → getD bs place 0 < 256) where
   pub laid-or-unlaid : Laid bs ⊎ ((cause : Refusal) × Unlaid bs cause)
   laid-or-unlaid = by (decode bs) refl
     where
-      by-table : (table : Table) → decode bs ≡ ok table → (checked : Checked (Unit {0})) → checkSorts table ≡ checked
+      by-table : (table : Table) → decode bs ≡ ok table → (checked : Checked Table) → checkSorts table ≡ checked
           → Laid bs ⊎ ((cause : Refusal) × Unlaid bs cause)
       by-table table d (ok u) e =
           let (encoded, within) = decode-exactly bs bytes table .0 d in
-          inl (record { table = table; encoded = encoded; within = within; sorted = sorts-exactly table within .0 e })
+          inl (record { table = table; encoded = encoded; within = within; sorted = sorts-exactly table within .0 (e ∙ ap ok (sym (checked-as-is within e))) })
       by-table table d (bad q) e =
           let (encoded, within) = decode-exactly bs bytes table .0 d in
           inr (q, by-sorts encoded within (missorted-exactly table within q .0 e))

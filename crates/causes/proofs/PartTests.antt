@@ -76,9 +76,9 @@ pub outcome : {A C : Type 0} {at : ℕ} {p : Part} {R : A → Type 0} {checked :
 outcome (passing a r e) f g = f a r e
 outcome (failing {r} h e) f g = g r h e
 
--- a result has a sort that fits
-abbrev pub ResultSorted : Scope → List ℕ → ℕ → Template → Unit {0} → Type 0
-ResultSorted G L B t u = (A : ℕ) × Sorted (G .outsides) L t A × Fits A B
+-- a result is the template that is answered, and has a sort that fits
+abbrev pub ResultSorted : Scope → List ℕ → ℕ → Template → Template → Type 0
+ResultSorted G L B t u = (t ≡ u) × (A : ℕ) × Sorted (G .outsides) L t A × Fits A B
 
 module _ (G : Scope) (L : List ℕ) (at : ℕ) where
   closed-call : (n : ℕ) (ts : Templates) → isDefined (G .env) n ≡ true → areClosed ts G (length L) ≡ true → ¬ UndefinedItem G (length L) (call n ts)
@@ -149,14 +149,14 @@ module _ (G : Scope) (L : List ℕ) (at : ℕ) where
       (λ c. by-test (isSorted t L && fits (sortOf t L) B)
       (λ s.
       let (k, f) = both (isSorted t L) (fits (sortOf t L) B) s in
-      passing tt (sortOf t L, sorted-rule G L t w c k, fits-rule (sortOf t L) B f) (rw (c, s) refl))
+      passing t (refl, sortOf t L, sorted-rule G L t w c k, fits-rule (sortOf t L) B f) (rw (c, s) refl))
       (λ s. failing (rules.unsorted-result (closed-result t c) (unfit B t s)) (rw (c, s) refl)))
       (λ c. failing (rules.undefined-result (open-rule G (length L) t c)) (rw c refl))
 
   -- a result with a sort that fits passes
-  pub result-passes : (B : ℕ) (t : Template) → ResultSorted G L B t tt → checkResult G L B at t ≡ ok tt
-  result-passes B t (A, s, f) =
-      let (closed, sorted, is) = rule-sorted G L t s in rw (closed, sorted, is, rule-fits f) refl
+  pub result-passes : (B : ℕ) (t : Template) {u : Template} → ResultSorted G L B t u → checkResult G L B at t ≡ ok u
+  result-passes B t (e, A, s, f) =
+      let (closed, sorted, is) = rule-sorted G L t s in rw (closed, sorted, is, rule-fits f) (ap ok e)
 
   -- a result that fails is refused
   pub result-fails : {B : ℕ} {t : Template} {r : Refusal} → TemplateWithin t → Fails at (result G L B t) r → checkResult G L B at t ≡ bad r
@@ -164,8 +164,8 @@ module _ (G : Scope) (L : List ℕ) (at : ℕ) where
     where
       by : {r : Refusal} → Outcome at (result G L B t) (ResultSorted G L B t) (checkResult G L B at t) → Fails at (result G L B t) r
           → checkResult G L B at t ≡ bad r
-      by (passing u (A, s, f) e) (rules.undefined-result v) = absurd (closed-result t (rule-sorted G L t s .0) v)
-      by (passing u (A, s, f) e) (rules.unsorted-result d v) = absurd (v A s f)
+      by (passing u (q, A, s, f) e) (rules.undefined-result v) = absurd (closed-result t (rule-sorted G L t s .0) v)
+      by (passing u (q, A, s, f) e) (rules.unsorted-result d v) = absurd (v A s f)
       by (failing (rules.undefined-result v) e) (rules.undefined-result u) = e
       by (failing (rules.unsorted-result d v) e) (rules.undefined-result u) = absurd (d u)
       by (failing (rules.undefined-result v) e) (rules.unsorted-result d u) = absurd (d v)

@@ -4,77 +4,24 @@ use mathlib.Core.Path.{_≡_, refl, sym, ap, _∙_, subst, subst⁻¹}
 use mathlib.Core.Logic.{_↔_}
 use mathlib.Core.List.{List, [], _∷_, _++_}
 use native.Mathlib.Omega.{arith}
-use lib.ListN.{length, length-append}
+use lib.ListN.{length}
 use Rattle.answers.specs.declared.Refusal.{Refusal}
 use Rattle.answers.specs.Checked.{Checked, ok, bad, _>>=_, _>>_}
 use Rattle.grammar.specs.Table.{Item, Alternative, Definition, Table}
-use Rattle.grammar.specs.Values.{Field, field, itemValue, headValue, templateThen}
-use Rattle.grammar.specs.Encode.{fieldBytes, spellingsThen, itemsThen, alternativesThen, definitionsThen, blocksThen}
+use Rattle.grammar.specs.Values.{Field, field, headValue}
+use Rattle.grammar.specs.Encode.{itemsThen, alternativesThen, definitionsThen}
 use Rattle.decoding.specs.Within.{Each, AlternativeWithin, DefinitionWithin, Within}
-use Rattle.judgements.specs.Sizes.{fieldSize, spellingsSize, itemsSize, alternativeSize, alternativesSize, definitionSize, definitionsSize}
-use Rattle.judgements.specs.Scopes.{Env, Scope}
+use Rattle.judgements.specs.Sizes.{fieldSize, spellingsSize, itemsSize, alternativesSize, definitionsSize}
+use Rattle.judgements.specs.Scopes.{Env, Before, Scope}
 use Rattle.judgements.specs.CheckSorts.{collect, checkItems, checkResult, checkAlternative, checkBodies, checkBlocks, blocksSize, checkRoot, checkSorts}
 use Rattle.judgements.specs.Judgements.{Bodies, Defines, Ok, Sequence}
+use Rattle.judgements.proofs.SequenceSorts.{atFirst}
+use Rattle.judgements.proofs.SizeLaws.{bytesOf, one-field, no-bytes, items-bytes, alternatives-bytes, definitions-bytes, front-size}
 use Rattle.causes.specs.Missorted.{Part, head, result, root, Fails, At, Numbered, Next, placeBehind, headPlace, bodyPlace, within, Missorted}
 use Rattle.causes.specs.Missorted as rules
 use Rattle.causes.proofs.PartTests.{outcome, item-view, item-fails, result-view, result-fails, head-view, head-fails, root-view, root-fails}
 use Rattle.causes.proofs.Walking.{no-refusal, first-or-next, then-is, this-of, Stop, stops, stopped, passes, passed}
 use Rattle.causes.proofs.SortWalks.{items, alternatives, bodies, heads, checkBlock, blocks}
-
--- ------------------------------------------------------------------ places
-
--- how many bytes some fields take
-abbrev bytesOf : List Field → ℕ
-bytesOf fs = length (fieldBytes fs)
-
-one-field : (f : Field) (fs : List Field) → bytesOf (f ∷ fs) ≡ 3 + length (f .value) + bytesOf fs
-unfolding fieldBytes
-one-field f fs = omega (arith, length-append (f .value) (fieldBytes fs))
-
-no-bytes : bytesOf [] ≡ 0
-unfolding fieldBytes
-no-bytes = refl
-
-module _ (follow : List Field) where
-  spellings-bytes : (tag : ℕ) (ss : List (List ℕ)) → bytesOf (spellingsThen tag ss follow) ≡ spellingsSize ss + bytesOf follow
-  unfolding spellingsThen spellingsSize
-  spellings-bytes tag [] = omega arith
-  spellings-bytes tag (s ∷ ss) = omega (arith, one-field (field tag s) (spellingsThen tag ss follow), spellings-bytes tag ss)
-
-  items-bytes : (is : List Item) → bytesOf (itemsThen is follow) ≡ itemsSize is + bytesOf follow
-  unfolding itemsThen itemsSize
-  items-bytes [] = omega arith
-  items-bytes (i ∷ is) = omega (arith, one-field (field 6 (itemValue i)) (itemsThen is follow), items-bytes is)
-
-alternatives-bytes : (follow : List Field) (choices : List Alternative) → bytesOf (alternativesThen choices follow) ≡ alternativesSize choices + bytesOf follow
-unfolding alternativesThen alternativesSize alternativeSize
-alternatives-bytes follow [] = omega arith
-alternatives-bytes follow (a ∷ rest) =
-    let last : Field = field 7 (templateThen (a .result) []) in
-    omega (
-      arith,
-      one-field (field 5 []) (itemsThen (a .items) (last ∷ alternativesThen rest follow)),
-      items-bytes (last ∷ alternativesThen rest follow) (a .items),
-      one-field last (alternativesThen rest follow),
-      alternatives-bytes follow rest,
-    )
-
-definitions-bytes : (follow : List Field) (ds : List Definition) → bytesOf (definitionsThen ds follow) ≡ definitionsSize ds + bytesOf follow
-unfolding definitionsThen definitionsSize definitionSize
-definitions-bytes follow [] = omega arith
-definitions-bytes follow (d ∷ ds) =
-    omega (
-      arith,
-      one-field (field 4 (headValue d)) (alternativesThen (d .alternatives) (definitionsThen ds follow)),
-      alternatives-bytes (definitionsThen ds follow) (d .alternatives),
-      definitions-bytes follow ds,
-    )
-
-blocks-bytes : (follow : List Field) (bs : List (List Definition)) → bytesOf (blocksThen bs follow) ≡ blocksSize bs + bytesOf follow
-unfolding blocksThen blocksSize
-blocks-bytes follow [] = omega arith
-blocks-bytes follow (b ∷ bs) =
-    omega (arith, one-field (field 3 []) (definitionsThen b (blocksThen bs follow)), definitions-bytes (blocksThen bs follow) b, blocks-bytes follow bs)
 
 -- ------------------------------------------------------------------ the whole table
 
@@ -90,13 +37,7 @@ module _ (t : Table) where
   first = spellingsSize (t .keywords) + spellingsSize (t .outsides)
 
   place-behind : (bs : List (List Definition)) (follow : List Field) → placeBehind t bs follow ≡ first + blocksSize bs + bytesOf follow
-  place-behind bs follow =
-      omega (
-        arith,
-        spellings-bytes (spellingsThen 2 (t .outsides) (blocksThen bs follow)) 1 (t .keywords),
-        spellings-bytes (blocksThen bs follow) 2 (t .outsides),
-        blocks-bytes follow bs,
-      )
+  place-behind = front-size (t .keywords) (t .outsides)
 
   -- the place of a head, and of what stands in a body
   head-place : (bs : List (List Definition)) (ds : List Definition)
@@ -125,31 +66,36 @@ module _ (t : Table) where
   -- ------------------------------------------------------------------ from the check to the rules
 
   -- a part that is reached and fails, at its place
-  missorted : {r r′ : Refusal} {at place : ℕ} {p : Part} → rules.Reaches t at p → Fails place p r′ → _≡_ {A = Checked (Unit {0})} (bad r′) (bad r)
+  missorted : {A : Type 0} {r r′ : Refusal} {at place : ℕ} {p : Part} → rules.Reaches t at p → Fails place p r′ → _≡_ {A = Checked A} (bad r′) (bad r)
       → place ≡ at → Missorted t r
   missorted {r′ = r′} {p = p} reached f e q = subst (Missorted t) (cc) (rules.fails reached (subst (λ k. Fails k p r′) q f))
 
-  module _ {r : Refusal} (block : Stop (blocks K N) [] first (t .blocks) r) where
+  module _ {r : Refusal} (block : Stop (blocks K N) atFirst first (t .blocks) r) where
     abbrev E : Env
-    E = block .state
+    E = block .state .env
+
+    -- the blocks before it are derived
+    derived : Sequence K N [] (block .here .before) E
+    unfolding blocks
+    derived = block .before .0
 
     by-head : Stop (heads E) [] (block .place + 3) (block .here .this) r → Missorted t r
     unfolding heads blocks
     by-head stop =
         outcome (head-view E (stop .state) (stop .here .this) (stop .place)) (λ u c q. no-refusal (sym q ∙ stop .refused))
-        (λ r′ f q. missorted (rules.at-head (block .here) (stop .here) (block .before) (stop .before)) f (sym q ∙ stop .refused)
+        (λ r′ f q. missorted (rules.at-head (block .here) (stop .here) derived (stop .before)) f (sym q ∙ stop .refused)
         (omega (arith, head-place (block .here .before) (stop .here .before), block .place-is, stop .place-is)))
 
     -- in a body of the block, whose heads give `own`
     module _ (own : Env) (defines : Defines E [] (block .here .this) own)
-        (body : Stop (bodies (within t (own ++ E))) tt (block .place + 3) (block .here .this) r) where
+        (body : Stop (bodies (within t (own ++ E))) [] (block .place + 3) (block .here .this) r) where
       abbrev G : Scope
       G = within t (own ++ E)
 
       abbrev d : Definition
       d = body .here .this
 
-      module _ (choice : Stop (alternatives G (d .signature)) tt (body .place + fieldSize (headValue d)) (d .alternatives) r) where
+      module _ (choice : Stop (alternatives G (d .signature)) [] (body .place + fieldSize (headValue d)) (d .alternatives) r) where
         abbrev a : Alternative
         a = choice .here .this
 
@@ -170,14 +116,15 @@ module _ (t : Table) where
         reached : {L : List ℕ} {is : List Item} {p : Part} → Numbered G params is L → Next G L (d .signature .result) a is p
             → rules.Reaches t (bodyPlace t (block .here) (body .here) (choice .here) is) p
         unfolding alternatives bodies blocks
-        reached = rules.in-body (block .here) (body .here) (choice .here) (block .before) defines (body .before) (choice .before)
+        reached = rules.in-body (block .here) (body .here) (choice .here) derived defines (body .before .0) (choice .before .0)
 
         by-item : AlternativeWithin a → Stop (items G) params (choice .place + 3) (a .items) r → Missorted t r
         unfolding items
         by-item w stop =
             outcome (item-view G (stop .state) (stop .place) (stop .here .this) (this-of (stop .here) (w .items)))
             (λ A s q. no-refusal (sym q ∙ stop .refused))
-            (λ r′ f q. missorted (reached (stop .before) (rules.next-item (stop .here))) f (cc) (omega (arith, stop .place-is, place (stop .here .before))))
+            (λ r′ f q. missorted (reached (stop .before) (rules.next-item (stop .here))) f (sym q ∙ stop .refused)
+            (omega (arith, stop .place-is, place (stop .here .before))))
 
         by-result : AlternativeWithin a → (L : List ℕ) → Numbered G params (a .items) L
             → checkResult G L (d .signature .result) (choice .place + 3 + itemsSize (a .items)) (a .result) ≡ bad r → Missorted t r
@@ -189,14 +136,17 @@ module _ (t : Table) where
         by-alternative : AlternativeWithin a → checkAlternative G (d .signature) (choice .place) a ≡ bad r → Missorted t r
         unfolding checkAlternative items
         by-alternative w h =
+            let from : ℕ = choice .place + 3 + itemsSize (a .items) in
             first-or-next (checkItems G params (choice .place + 3) (a .items)) _ h
             (λ h. by-item w (stops (items G) (a .items) params (choice .place + 3) (w .items) h))
-            (λ L p h. by-result w L (passes (items G) (a .items) params L (choice .place + 3) (w .items) p) h)
+            (λ L p h. first-or-next (checkResult G L (d .signature .result) from (a .result)) _ h
+            (λ h. by-result w L (passes (items G) (a .items) params L (choice .place + 3) (w .items) p) h)
+            (λ u q h. no-refusal h))
 
       by-body : DefinitionWithin d → Missorted t r
       unfolding bodies alternatives
       by-body w =
-          let choice = stops (alternatives G (d .signature)) (d .alternatives) tt (body .place + fieldSize (headValue d)) (w .alternatives) (body .refused) in
+          let choice = stops (alternatives G (d .signature)) (d .alternatives) [] (body .place + fieldSize (headValue d)) (w .alternatives) (body .refused) in
           by-alternative choice (this-of (choice .here) (w .alternatives)) (choice .refused)
 
     by-block : Each DefinitionWithin (block .here .this) → Missorted t r
@@ -204,38 +154,54 @@ module _ (t : Table) where
     by-block w =
         first-or-next (collect E [] (block .place + 3) (block .here .this)) _ (block .refused)
         (λ h. by-head (stops (heads E) (block .here .this) [] (block .place + 3) w h))
-        (λ own p h. first-or-next (checkBodies (within t (own ++ E)) (block .place + 3) (block .here .this)) _
-        (sym (then-is (checkBodies (within t (own ++ E)) (block .place + 3) (block .here .this)) (ok own)) ∙ h)
+        (λ own p h. first-or-next (checkBodies (within t (own ++ E)) [] (block .place + 3) (block .here .this)) _ h
         (λ h.
-        let body = stops (bodies (within t (own ++ E))) (block .here .this) tt (block .place + 3) w h in
+        let body = stops (bodies (within t (own ++ E))) (block .here .this) [] (block .place + 3) w h in
         by-body own (passes (heads E) (block .here .this) [] own (block .place + 3) w p) body (this-of (body .here) w))
         (λ u q h. no-refusal h))
 
-  root-place : placeBehind t (t .blocks) [] ≡ first + blocksSize (t .blocks)
+  abbrev root-at : ℕ
+  root-at = first + blocksSize (t .blocks)
+
+  root-place : placeBehind t (t .blocks) [] ≡ root-at
   root-place = omega (arith, place-behind (t .blocks) [], no-bytes)
 
   -- A table that the check of sorts refuses is refused by the rules.
   pub sorts-rule : {r : Refusal} → Within t → checkSorts t ≡ bad r → Missorted t r
   unfolding checkSorts blocks
   sorts-rule {r} w e =
-      first-or-next {C = Missorted t r} (checkBlocks K N [] first (t .blocks)) _ e
-      (λ h. let block = stops (blocks K N) (t .blocks) [] first (w .blocks) h in by-block block (this-of (block .here) (w .blocks)))
-      (λ E p h. outcome (root-view E (first + blocksSize (t .blocks)) (t .root)) (λ u d q. no-refusal (sym q ∙ h))
-      (λ r′ f q. missorted (rules.at-root (passes (blocks K N) (t .blocks) [] E first (w .blocks) p)) f (sym q ∙ h) (sym root-place)))
+      first-or-next {C = Missorted t r} (checkBlocks K N atFirst first (t .blocks)) _ e
+      (λ h. let block = stops (blocks K N) (t .blocks) atFirst first (w .blocks) h in by-block block (this-of (block .here) (w .blocks)))
+      (λ P p h. first-or-next (checkRoot (P .env) root-at (t .root)) _ (sym (then-is (checkRoot (P .env) root-at (t .root)) _) ∙ h)
+      (λ h. outcome (root-view (P .env) root-at (t .root)) (λ u d q. no-refusal (sym q ∙ h))
+      (λ r′ f q. missorted (rules.at-root (passes (blocks K N) (t .blocks) atFirst P first (w .blocks) p .0)) f (sym q ∙ h) (sym root-place)))
+      (λ u q h. no-refusal h))
 
   -- ------------------------------------------------------------------ from the rules to the check
 
-  in-block : {r : Refusal} {E : Env} (b : At (t .blocks)) → Sequence K N [] (b .before) E → checkBlock K N E (first + blocksSize (b .before)) (b .this) ≡ bad r
+  -- what stands behind some blocks
+  abbrev standing : Env → List (List Definition) → Before
+  standing E bs = record { env = E; blocks = bs }
+
+  in-block : {r : Refusal} {E : Env} (b : At (t .blocks)) → Sequence K N [] (b .before) E
+      → checkBlock K N (standing E (b .before)) (first + blocksSize (b .before)) (b .this) ≡ bad r
       → checkSorts t ≡ bad r
   unfolding checkSorts blocks
   in-block {E = E} b s h =
-      let stop : Stop (blocks K N) [] first (t .blocks) _
-      = record { here = b; state = E; before = s; place = first + blocksSize (b .before); place-is = refl; refused = h } in
+      let stop : Stop (blocks K N) atFirst first (t .blocks) _
+      = record {
+        here = b;
+        state = standing E (b .before);
+        before = (s, refl);
+        place = first + blocksSize (b .before);
+        place-is = refl;
+        refused = h;
+      } in
       rw (stopped (blocks K N) stop) refl
 
-  at-root : {r : Refusal} {E : Env} → Sequence K N [] (t .blocks) E → checkRoot E (first + blocksSize (t .blocks)) (t .root) ≡ bad r → checkSorts t ≡ bad r
+  at-root : {r : Refusal} {E : Env} → Sequence K N [] (t .blocks) E → checkRoot E root-at (t .root) ≡ bad r → checkSorts t ≡ bad r
   unfolding checkSorts blocks
-  at-root {E = E} s h = rw (passed (blocks K N) (t .blocks) [] E first s) h
+  at-root {E = E} s h = rw (passed (blocks K N) (t .blocks) atFirst (standing E (t .blocks)) first (s, refl), h) refl
 
   at-head : {r : Refusal} {E own : Env} (b : At (t .blocks)) (d : At (b .this)) → Sequence K N [] (b .before) E → Defines E [] (d .before) own
       → Fails (headPlace t b d) (head E own (d .this)) r → checkSorts t ≡ bad r
@@ -267,13 +233,13 @@ module _ (t : Table) where
       let G : Scope = within t (own ++ E) in
       let place : ℕ = first + blocksSize (b .before) + 3 in
       let behind : ℕ = place + definitionsSize (d .before) + fieldSize (headValue (d .this)) in
-      let choice : Stop (alternatives G (d .this .signature)) tt behind (d .this .alternatives) r
-      = record { here = a; state = tt; before = c; place = _; place-is = refl; refused = h } in
-      let body : Stop (bodies G) tt place (b .this) r
+      let choice : Stop (alternatives G (d .this .signature)) [] behind (d .this .alternatives) r
+      = record { here = a; state = a .before; before = (c, refl); place = _; place-is = refl; refused = h } in
+      let body : Stop (bodies G) [] place (b .this) r
       = record {
         here = d;
-        state = tt;
-        before = o;
+        state = d .before;
+        before = (o, refl);
         place = place + definitionsSize (d .before);
         place-is = refl;
         refused = stopped (alternatives G (d .this .signature)) choice;
@@ -302,10 +268,12 @@ module _ (t : Table) where
       let fine = this-of a (this-of d (this-of b (w .blocks)) .alternatives) in
       let place = body-place (b .before) (d .before) (d .this) (a .before) (a .this .items) in
       in-body b d a s k o c
-      (rw (passed (items G) (a .this .items) (d .this .signature .params) L _ n)
-      (result-fails G L _ (fine .result) (subst (λ at. Fails at (result G L (d .this .signature .result) (a .this .result)) r) place f)))
+      (rw (
+        passed (items G) (a .this .items) (d .this .signature .params) L _ n,
+        result-fails G L _ (fine .result) (subst (λ at. Fails at (result G L (d .this .signature .result) (a .this .result)) r) place f),
+      ) refl)
   rule-sorts {r} w (rules.fails (rules.at-root {E} s) f) =
-      at-root s (root-fails E (first + blocksSize (t .blocks)) (subst (λ at. Fails at (root E (t .root)) r) root-place f))
+      at-root s (root-fails E root-at (subst (λ at. Fails at (root E (t .root)) r) root-place f))
 
   -- The check of sorts refuses exactly as the rules do.
   pub missorted-exactly : Within t → (r : Refusal) → (checkSorts t ≡ bad r) ↔ Missorted t r

@@ -15,6 +15,7 @@ use Rattle.decoding.specs.Within.{Within}
 use Rattle.decoding.proofs.Split.{Bytes}
 use Rattle.decoding.proofs.Inverse.{layout-encoded, decode-encoded}
 use Rattle.judgements.specs.CheckSorts.{checkSorts}
+use Rattle.judgements.proofs.SortTheorems.{checked-as-is}
 use Rattle.sorts.specs.ByBytes.{sortsOf}
 use Rattle.sorts.proofs.SortedBytes.{bytes-checked}
 use Rattle.clashes.specs.CheckFirsts.{checkFirsts}
@@ -37,8 +38,8 @@ refused-bad : {A : Type 0} (checked : Checked A) (refusal : Refusal) → verdict
 refused-bad (ok a) refusal e = never refusal (sym e)
 refused-bad (bad q) refusal e = ap bad (let z : q ≡ refusal = cc in z)
 
-passed-ok : (checked : Checked (Unit {0})) → verdict checked ≡ Passed → checked ≡ ok tt
-passed-ok (ok a) e = refl
+passed-ok : {A : Type 0} (checked : Checked A) → verdict checked ≡ Passed → (value : A) × (checked ≡ ok value)
+passed-ok (ok a) e = (a, refl)
 passed-ok (bad q) e = never q e
 
 verdict-then : {A : Type 0} (checked : Checked (Unit {0})) (item : A) → verdict (checked >> ok item) ≡ verdict checked
@@ -62,9 +63,12 @@ module _ (bs : List ℕ) where
       }
 
   module _ (bytes : Bytes bs) (laid : verdict (layout bs) ≡ Passed) where
+    layout-right : layout bs ≡ ok tt
+    layout-right = passed-ok (layout bs) laid .1
+
     -- the table that the bytes are
     pub encoded : (table : Table) × (bs ≡ encode table) × Within table
-    encoded = layout-encoded bs bytes (passed-ok (layout bs) laid)
+    encoded = layout-encoded bs bytes layout-right
 
     decoded : decode bs ≡ ok (encoded .0)
     decoded = ap decode (encoded .1) ∙ decode-encoded (encoded .0) (encoded .2)
@@ -87,7 +91,7 @@ module _ (bs : List ℕ) where
 
     -- the table fits its index
     pub few : FitsIndex bs
-    few = few-alternatives bs (passed-ok (layout bs) laid)
+    few = few-alternatives bs layout-right
 
     -- an index that was built is whole
     pub whole-index : {many : ℕ} {owners starts : List ℕ} → Index (placesOf bs) (most .alternatives) many owners starts → WholeIndex bs many owners starts
@@ -95,7 +99,7 @@ module _ (bs : List ℕ) where
         record {
           short = few .short;
           few = i .few;
-          whole = rw (i .entries) (whole-places bs (passed-ok (layout bs) laid));
+          whole = rw (i .entries) (whole-places bs layout-right);
         }
 
     -- the productions of the table's bytes are its grammar
@@ -103,8 +107,10 @@ module _ (bs : List ℕ) where
     indexed = cc (productions-at bs, encoded .1, normalized-by (encoded .0) (encoded .2))
 
     module _ (sorted : sortsOf bs ≡ Passed) where
-      sorts-ok : checkSorts (encoded .0) ≡ ok tt
-      sorts-ok = passed-ok (checkSorts (encoded .0)) (sym sorts-here ∙ sorted)
+      sorts-ok : checkSorts (encoded .0) ≡ ok (encoded .0)
+      sorts-ok =
+          let (answered, e) = passed-ok (checkSorts (encoded .0)) (sym sorts-here ∙ sorted) in
+          e ∙ ap ok (sym (checked-as-is (encoded .2) e))
 
       by-firsts : check bs ≡ verdict (checkFirsts (productionsIn bs))
       unfolding check passedTable
@@ -126,5 +132,5 @@ module _ (bs : List ℕ) where
           record {
             answer = cc (f .answer, i .entries, by-firsts);
             held = cc (f .held, i .entries, room-written room₀);
-            whole = λ p. whole-places bs (passed-ok (layout bs) laid);
+            whole = λ p. whole-places bs layout-right;
           }

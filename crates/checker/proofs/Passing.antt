@@ -1,6 +1,6 @@
 -- The check of a table accepts exactly the tables that pass, and gives the first refusal otherwise.
 use Prim.Native.Nat.{ℕ, _<_}
-use mathlib.Core.Path.{_≡_, refl, sym, ap, _∙_}
+use mathlib.Core.Path.{_≡_, refl, sym, ap, _∙_, subst⁻¹}
 use mathlib.Core.Bool.{Bool, true, false, true≢false, _&&_, _||_}
 use native.Mathlib.Omega.{arith}
 use mathlib.Core.Logic.{_↔_, _⊎_, inl, inr}
@@ -21,7 +21,7 @@ use Rattle.decoding.specs.Decode.{decode}
 use Rattle.decoding.proofs.LayoutTheorems.{decode-exactly}
 use Rattle.decoding.proofs.Inverse.{decode-encoded}
 use Rattle.judgements.specs.CheckSorts.{checkSorts}
-use Rattle.judgements.proofs.SortTheorems.{sorts-exactly, sort-refusals}
+use Rattle.judgements.proofs.SortTheorems.{sorts-exactly, checked-as-is, sort-refusals}
 use Rattle.clashes.specs.CheckFirsts.{checkFirsts}
 use Rattle.clashes.proofs.ClashTheorems.{passes-exactly, left-recursion-lowest, clash-lowest}
 use Rattle.checker.specs.Syntax.{Syntax, syntaxOf}
@@ -30,27 +30,33 @@ use Rattle.checker.specs.Passes.{grammarOf, Passes}
 use Rattle.checker.specs.Laid.{Laid}
 
 -- the table's rules, checked in order
+abbrev firstsOf : Table → Checked Syntax
+firstsOf t = checkFirsts (grammarOf t) >> ok (syntaxOf t)
+
 abbrev rules : Table → Checked Syntax
-rules t = checkSorts t >> checkFirsts (grammarOf t) >> ok (syntaxOf t)
+rules t = checkSorts t >>= firstsOf
 
 -- a refusal is no pass
 pub never : {A : Type 0} (cause : Refusal) → Refused cause ≡ Passed → A
 never cause e = let z : _≡_ {A = ℕ} 0 1 = cc in absurd (omega arith)
 
 -- both checks of a table passed
-both : (syntax : Syntax) (checked other : Checked (Unit {0})) → verdict (checked >> other >> ok syntax) ≡ Passed → (checked ≡ ok tt) × (other ≡ ok tt)
-both syntax (ok a) (ok b) e = (refl, refl)
-both syntax (ok a) (bad r) e = never r e
-both syntax (bad r) other e = never r e
+both : (sorted : Checked Table) → verdict (sorted >>= firstsOf) ≡ Passed → (table : Table) × (sorted ≡ ok table) × (checkFirsts (grammarOf table) ≡ ok tt)
+both (ok t) e = (t, refl, by (checkFirsts (grammarOf t)) e)
+  where
+    by : (checked : Checked (Unit {0})) → verdict (checked >> ok (syntaxOf t)) ≡ Passed → checked ≡ ok tt
+    by (ok u) e = refl
+    by (bad r) e = never r e
+both (bad r) e = never r e
 
 module _ (bs : List ℕ) where
-  -- the table that was decoded, with both checks passed
+  -- the table that was decoded, and what its check of sorts answered, with both checks passed
   accepted : (checked : Checked Table) → decode bs ≡ checked → verdict (checked >>= rules) ≡ Passed
-      → (table : Table) × (decode bs ≡ ok table) × (checkSorts table ≡ ok tt) × (checkFirsts (grammarOf table) ≡ ok tt)
-  accepted (ok t) e h = let b = both (syntaxOf t) (checkSorts t) (checkFirsts (grammarOf t)) h in (t, e, b .0, b .1)
+      → (table sorted : Table) × (decode bs ≡ ok table) × (checkSorts table ≡ ok sorted) × (checkFirsts (grammarOf sorted) ≡ ok tt)
+  accepted (ok t) e h = let (u, s, f) = both (checkSorts t) h in (t, u, e, s, f)
   accepted (bad r) e h = never r h
 
-  accepts : (table : Table) → decode bs ≡ ok table → checkSorts table ≡ ok tt → checkFirsts (grammarOf table) ≡ ok tt → check bs ≡ Passed
+  accepts : (table : Table) → decode bs ≡ ok table → checkSorts table ≡ ok table → checkFirsts (grammarOf table) ≡ ok tt → check bs ≡ Passed
   unfolding check passedTable
   accepts table e s f =
       cc
@@ -59,14 +65,15 @@ module _ (bs : List ℕ) where
     passing : check bs ≡ Passed → Passes bs
     unfolding check passedTable
     passing h =
-        let a = accepted (decode bs) refl h in
-        let e = decode-exactly bs bytes (a .0) .0 (a .1) in
-        let f = passes-exactly (grammarOf (a .0)) .0 (a .3) in
+        let (table, sorted, d, s, firsts) = accepted (decode bs) refl h in
+        let (encoded, within) = decode-exactly bs bytes table .0 d in
+        let same : table ≡ sorted = checked-as-is within s in
+        let f = passes-exactly (grammarOf table) .0 (subst⁻¹ (λ t. checkFirsts (grammarOf t) ≡ ok tt) same firsts) in
         record {
-          table = a .0;
-          encoded = e .0;
-          within = e .1;
-          meets = record { sorted = sorts-exactly (a .0) (e .1) .0 (a .2); not-left-recursive = f .0; without-clash = f .1 };
+          table = table;
+          encoded = encoded;
+          within = within;
+          meets = record { sorted = sorts-exactly table within .0 (s ∙ ap ok (sym same)); not-left-recursive = f .0; without-clash = f .1 };
         }
 
     passed : Passes bs → check bs ≡ Passed
@@ -96,7 +103,7 @@ module _ (bs : List ℕ) where
   refused-by-sorts table cause e s = cc
 
   -- and then as the check of first sets refuses it
-  pub refused-by-firsts : (table : Table) (cause : Refusal) → decode bs ≡ ok table → checkSorts table ≡ ok tt → checkFirsts (grammarOf table) ≡ bad cause
+  pub refused-by-firsts : (table : Table) (cause : Refusal) → decode bs ≡ ok table → checkSorts table ≡ ok table → checkFirsts (grammarOf table) ≡ bad cause
       → check bs ≡ Refused cause
   unfolding check passedTable
   refused-by-firsts table cause e s f =
@@ -133,17 +140,20 @@ module _ (bs : List ℕ) (bytes : (place : ℕ) → getD bs place 0 < 256) where
       passed-never : {A : Type 0} → Passed ≡ Refused cause → A
       passed-never e = never cause (sym e)
 
-      by-firsts : (table : Table) → decode bs ≡ ok table → checkSorts table ≡ ok tt → (checked : Checked (Unit {0})) → checkFirsts (grammarOf table) ≡ checked
-          → verdict (checked >> ok (syntaxOf table)) ≡ Refused cause → (laid : Laid bs) × (checkFirsts (grammarOf (laid .table)) ≡ bad cause)
+      by-firsts : (table : Table) → decode bs ≡ ok table → checkSorts table ≡ ok table → (checked : Checked (Unit {0}))
+          → checkFirsts (grammarOf table) ≡ checked → verdict (checked >> ok (syntaxOf table)) ≡ Refused cause
+          → (laid : Laid bs) × (checkFirsts (grammarOf (laid .table)) ≡ bad cause)
       by-firsts table d s (ok u) e h = passed-never h
       by-firsts table d s (bad q) e h =
           let w = decode-exactly bs bytes table .0 d in
           (record { table = table; encoded = w .0; within = w .1; sorted = sorts-exactly table (w .1) .0 s }, e ∙ ap bad (same h))
 
-      by-sorts : (table : Table) → decode bs ≡ ok table → (checked : Checked (Unit {0})) → checkSorts table ≡ checked
-          → verdict (checked >> checkFirsts (grammarOf table) >> ok (syntaxOf table)) ≡ Refused cause
-          → (laid : Laid bs) × (checkFirsts (grammarOf (laid .table)) ≡ bad cause)
-      by-sorts table d (ok u) e h = by-firsts table d e (checkFirsts (grammarOf table)) refl h
+      by-sorts : (table : Table) → decode bs ≡ ok table → (checked : Checked Table) → checkSorts table ≡ checked
+          → verdict (checked >>= firstsOf) ≡ Refused cause → (laid : Laid bs) × (checkFirsts (grammarOf (laid .table)) ≡ bad cause)
+      by-sorts table d (ok u) e h =
+          let same : table ≡ u = checked-as-is (decode-exactly bs bytes table .0 d .1) e in
+          by-firsts table d (e ∙ ap ok (sym same)) (checkFirsts (grammarOf table)) refl
+          (subst⁻¹ (λ t. verdict (firstsOf t) ≡ Refused cause) same h)
       by-sorts table d (bad q) e h = not-sort {number = q .number} (omega (arith, over, ap (λ (x : Refusal). x .number) (same h))) (sort-refusals table q e .0)
 
       by-layout : (checked : Checked Table) → decode bs ≡ checked → verdict (checked >>= rules) ≡ Refused cause

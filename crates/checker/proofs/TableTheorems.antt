@@ -45,7 +45,7 @@ encode-injective = layout.encode-injective
 
 -- None of 7, 8, 9 and 11 is given to a table within the counts and ranges exactly if the judgements of 001 derive the sequence, and the root is
 -- defined, without parameters, of sort Term.
-pub sorts-exactly : (table : Table) → Within table → (checkSorts table ≡ ok tt) ↔ WellSorted table
+pub sorts-exactly : (table : Table) → Within table → (checkSorts table ≡ ok table) ↔ WellSorted table
 sorts-exactly = sorting.sorts-exactly
 
 -- ------------------------------------------------------------------ 3. nullables and first sets
@@ -90,7 +90,7 @@ module _ (bs : List ℕ) where
   refused-by-sorts = passing.refused-by-sorts bs
 
   -- A well sorted table has the refusal of its first sets, 12 or 13, if they give one.
-  pub refused-by-firsts : (table : Table) (cause : Refusal) → decode bs ≡ ok table → checkSorts table ≡ ok tt → checkFirsts (grammarOf table) ≡ bad cause
+  pub refused-by-firsts : (table : Table) (cause : Refusal) → decode bs ≡ ok table → checkSorts table ≡ ok table → checkFirsts (grammarOf table) ≡ bad cause
       → check bs ≡ Refused cause
   refused-by-firsts = passing.refused-by-firsts bs
 

@@ -11,7 +11,7 @@ use Rattle.checker.specs.Syntax.{Syntax, syntaxOf}
 
 -- what an expansion needs of the table that some bytes are, if it passes
 unfoldable pub passedTable : List ℕ → Checked Syntax
-passedTable bs = decode bs >>= λ t. checkSorts t >> checkFirsts (normalized (t .blocks)) >> ok (syntaxOf t)
+passedTable bs = decode bs >>= λ t. checkSorts t >>= λ u. checkFirsts (normalized (u .blocks)) >> ok (syntaxOf u)
 
 -- what `check_table` answers
 unfoldable pub check : List ℕ → Verdict

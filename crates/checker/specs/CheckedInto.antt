@@ -13,8 +13,8 @@ use Rattle.productions.specs.Room.{overwritten}
 use Rattle.firsts.specs.Room.{tableRoom}
 use Rattle.checker.specs.Check.{check}
 
-abbrev pub roomIfPassed : Checked (Unit {0}) → List ℕ → List ℕ → List ℕ
-roomIfPassed (ok u) bs room = overwritten (tableRoom bs) room
+abbrev pub roomIfPassed : {A : Type 0} → Checked A → List ℕ → List ℕ → List ℕ
+roomIfPassed (ok a) bs room = overwritten (tableRoom bs) room
 roomIfPassed (bad r) bs room = room
 
 -- the room of a table over what was there, where layout and sorts are right; else what was there

@@ -9,6 +9,7 @@ pub mod Spelled
 pub mod Sound
 pub mod Complete
 pub mod Rebuilt
+pub mod Fronts
 pub mod Inverse
 pub mod RefusalNumbers
 pub mod DecodedLexicon

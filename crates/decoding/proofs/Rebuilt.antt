@@ -54,12 +54,12 @@ module _ (bs : List (List Definition)) (root : ℕ) where
   definitions-built (each-more {x = d} {xs = ds} h w) follow e =
       cc (alternatives-built ds (h .alternatives) (definitionsThen ds follow) (definitions-built w follow e), head-read d)
 
-blocks-built : (root : ℕ) {bs : List (List Definition)} → Each (Each DefinitionWithin) bs
-    → gather (blocksThen bs (field 8 (root ∷ []) ∷ [])) ≡ between bs root [] []
+blocks-built : (root : ℕ) (follow : List Field) → gather follow ≡ between [] root [] [] → {bs : List (List Definition)} → Each (Each DefinitionWithin) bs
+    → gather (blocksThen bs follow) ≡ between bs root [] []
 unfolding gather blocksThen put
-blocks-built root each-none = refl
-blocks-built root (each-more {xs = bs} w ws) =
-    ap (put 3 []) (definitions-built bs root w (blocksThen bs (field 8 (root ∷ []) ∷ [])) (blocks-built root ws))
+blocks-built root follow e each-none = e
+blocks-built root follow e (each-more {xs = bs} w ws) =
+    ap (put 3 []) (definitions-built bs root w (blocksThen bs follow) (blocks-built root follow e ws))
 
 module _ (bs : List (List Definition)) (root : ℕ) (follow : List Field) where
   outsides-built : (os : List (List ℕ)) → gather follow ≡ between bs root [] []
@@ -74,16 +74,29 @@ module _ (bs : List (List Definition)) (root : ℕ) (follow : List Field) where
   keywords-built [] os e = e
   keywords-built (v ∷ ks) os e = ap (put 1 v) (keywords-built ks os e)
 
+-- the fields of keywords, outside names and blocks, in front of others
+abbrev fieldsThen : List (List ℕ) → List (List ℕ) → List (List Definition) → List Field → List Field
+fieldsThen ks os bs follow = spellingsThen 1 ks (spellingsThen 2 os (blocksThen bs follow))
+
+-- keywords, outside names and blocks are built from their fields, and nothing is left pending
+fields-built : (ks os : List (List ℕ)) {bs : List (List Definition)} (root : ℕ) (follow : List Field) (at : ℕ) → gather follow ≡ between [] root [] []
+    → Each (Each DefinitionWithin) bs → decodeFields (spread at (fieldsThen ks os bs follow)) ≡ decoded ks os bs root [] [] [] (variable 0)
+fields-built ks os {bs} root follow at e w =
+    let blocks = blocksThen bs follow in
+    build-spread (fieldsThen ks os bs follow) at
+    ∙ keywords-built bs root (spellingsThen 2 os blocks) ks os (outsides-built bs root blocks os (blocks-built root follow e w))
+
 -- The parts of a table are built from its fields, and nothing is left pending.
 pub parts-built : (table : Table) (at : ℕ) → Within table
     → decodeFields (spread at (tableFields table)) ≡ decoded (table .keywords) (table .outsides) (table .blocks) (table .root) [] [] [] (variable 0)
-unfolding tableFields
-parts-built table at w =
-    let root = field 8 (table .root ∷ []) ∷ [] in
-    let blocks = blocksThen (table .blocks) root in
-    build-spread (tableFields table) at
-    ∙ keywords-built (table .blocks) (table .root) (spellingsThen 2 (table .outsides) blocks) (table .keywords) (table .outsides)
-    (outsides-built (table .blocks) (table .root) blocks (table .outsides) (blocks-built (table .root) (w .blocks)))
+unfolding tableFields gather put
+parts-built table at w = fields-built (table .keywords) (table .outsides) (table .root) (field 8 (table .root ∷ []) ∷ []) at refl (w .blocks)
+
+-- The fields up to a block give the blocks before it.
+pub front-built : (ks os : List (List ℕ)) {before : List (List Definition)} → Each (Each DefinitionWithin) before
+    → decodeFields (spread 0 (fieldsThen ks os before [])) ≡ decoded ks os before 0 [] [] [] (variable 0)
+unfolding gather
+front-built ks os w = fields-built ks os 0 [] 0 refl w
 
 -- from the fields of a table the table is built
 pub table-built : (table : Table) (at : ℕ) → Within table → tableOf (decodeFields (spread at (tableFields table))) ≡ table

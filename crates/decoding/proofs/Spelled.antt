@@ -2,7 +2,7 @@
 use Prim.Native.Nat.{ℕ}
 use mathlib.Core.Path.{_≡_, refl, sym, _∙_}
 use mathlib.Core.Bool.{Bool, true, false, _||_, true≢false}
-use mathlib.Core.List.{List, [], _∷_}
+use mathlib.Core.List.{List, [], _∷_, _++_}
 use Rattle.spellings.specs.Bytes.{same}
 use Rattle.spellings.proofs.BytesLaws.{same-false, differ-same}
 use Rattle.grammar.specs.Values.{Field, field}
@@ -13,6 +13,11 @@ use Rattle.decoding.specs.Within.{Each, each-none, each-more, Different,
 pub each-map : {A : Type 0} {P Q : A → Type 0} → ((item : A) → P item → Q item) → {xs : List A} → Each P xs → Each Q xs
 each-map f each-none = each-none
 each-map f (each-more {x} h t) = each-more (f x h) (each-map f t)
+
+-- what holds of each member of two lists together holds of each member of both
+pub each-split : {A : Type 0} {P : A → Type 0} (xs : List A) {ys : List A} → Each P (xs ++ ys) → Each P xs × Each P ys
+each-split [] h = (each-none, h)
+each-split (x ∷ xs) (each-more h hs) = let q = each-split xs hs in (each-more h (q .0), q .1)
 
 each-both : {A : Type 0} {P Q R : A → Type 0} → ((item : A) → P item → Q item → R item) → {xs : List A} → Each P xs → Each Q xs → Each R xs
 each-both f each-none each-none = each-none

@@ -2,4 +2,5 @@ pub mod CallLaws
 pub mod CellLaws
 pub mod Choosing
 pub mod Shows
+pub mod Endings
 pub mod Unique

@@ -1,7 +1,7 @@
 -- What it is for a check to be passed, as a type of its outcome. The lemmas on the parts of the sort check go both ways:
 -- NAME-rule takes a passed check to the derivation and to what holds of the value, rule-NAME goes back.
 use Prim.Native.Nat.{ℕ}
-use mathlib.Core.Path.{_≡_, refl, sym, subst₂}
+use mathlib.Core.Path.{_≡_, refl, sym, ap, subst₂}
 use mathlib.Core.Bool.{Bool, true, false}
 use Rattle.answers.specs.Checked.{Checked, ok, bad, _>>=_, _>>_, need}
 
@@ -54,11 +54,11 @@ module _ {A B : Type 0} (P : B → Type 0) where
   then-passes (ok a) next h = h
   then-passes (bad r) next h = h
 
--- a check without a value is passed exactly if it gives `ok tt`
-pub passed : (checked : Checked (Unit {0})) → checked ≡ ok tt → Accepts checked (λ u. Unit {0})
-passed checked e = rw e tt
+-- a check is passed with a value exactly if it gives that value
+pub passed : {A : Type 0} (checked : Checked A) {value : A} → checked ≡ ok value → Accepts checked (λ a. a ≡ value)
+passed checked e = rw e refl
 
 -- what is accepted passes
-pub passes : (checked : Checked (Unit {0})) → Accepts checked (λ u. Unit {0}) → checked ≡ ok tt
-passes (ok a) h = refl
+pub passes : {A : Type 0} (checked : Checked A) {value : A} → Accepts checked (λ a. a ≡ value) → checked ≡ ok value
+passes (ok a) h = ap ok h
 passes (bad r) h = absurd h

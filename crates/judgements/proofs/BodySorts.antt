@@ -1,11 +1,12 @@
 -- Checking items, alternatives and definitions is the judgement E ⊢ g ok.
 use Prim.Native.Nat.{ℕ, _+_}
+use mathlib.Core.Path.{subst, subst⁻¹}
 use mathlib.Core.Bool.{Bool, _&&_}
-use mathlib.Core.List.{List, [], _∷_, _++_}
+use mathlib.Core.List.{List, [], _∷_, _++_, append-nil, append-assoc}
 use lib.Dec.{ltb}
 use lib.ListN.{length}
 use borrow.Author.Tests.{ltb-true, lt-ltb}
-use Rattle.answers.specs.Checked.{Checked, ok, _>>_, need}
+use Rattle.answers.specs.Checked.{Checked, ok, _>>=_, _>>_, need}
 use Rattle.grammar.specs.Sorts.{Signature, unit}
 use Rattle.grammar.specs.SortTests.{fits}
 use Rattle.grammar.specs.Table.{Template, keyword, ide, number, Item, terminal, local, call, Alternative, Definition}
@@ -22,6 +23,10 @@ use Rattle.judgements.proofs.Accepting.{Accepts, need-passed, need-pass
 use Rattle.judgements.proofs.Accepting.{then-passed, then-passes}
 use Rattle.judgements.proofs.Environments.{defined-newest, newest-defined, newest-signature}
 use Rattle.judgements.proofs.TemplateSorts.{both, pair, fits-rule, rule-fits, sorted-rule, rule-sorted, fill-rule, rule-fill}
+
+-- a definition with the alternatives that were checked
+abbrev pub withAlternatives : Definition → List Alternative → Definition
+withAlternatives d choices = record { nonterminal = d .nonterminal; mode = d .mode; signature = d .signature; alternatives = choices }
 
 module _ (scope : Scope) where
   -- ------------------------------------------------------------------ an item
@@ -60,19 +65,25 @@ module _ (scope : Scope) where
 
   -- ------------------------------------------------------------------ an alternative
 
-  module _ (P : Unit {0} → Type 0) where
+  -- what the rest of a check makes of an alternative whose result has become a template
+  module _ {A : Type 0} (P : A → Type 0) (whole : Template → A) where
     -- once the sorts of all variables are known, the result is checked
     abbrev Rest : ℕ → ℕ → Template → List ℕ → Type 0
-    Rest B at t L = Accepts (checkResult scope L B at t) P
+    Rest B at t L = Accepts (checkResult scope L B at t >>= λ u. ok (whole u)) P
+
+    -- the two tests of a result
+    abbrev tests : List ℕ → ℕ → ℕ → Template → Checked (Unit {0})
+    tests L B at t = need (isClosed t scope (length L)) 9 at >> need (isSorted t L && fits (sortOf t L) B) 11 at
 
     -- items and result together
     body-rule :
         (is : List Item) (L : List ℕ) (B at from : ℕ) (template : Template) → Each ItemWithin is → TemplateWithin template
         → Accepts (checkItems scope L at is) (Rest B from template)
-        → Body scope L is template B × P tt
+        → Body scope L is template B × P (whole template)
     unfolding checkItems
     body-rule [] L B at from template each-none w h =
-        let n = needs-passed (isClosed template scope (length L)) (isSorted template L && fits (sortOf template L) B) 9 11 from P h in
+        let passed = then-passed _ (tests L B from template) (ok template) (bind-passed P (checkResult scope L B from template) _ h) in
+        let n = needs-passed (isClosed template scope (length L)) (isSorted template L && fits (sortOf template L) B) 9 11 from _ passed in
         let s = both (isSorted template L) (fits (sortOf template L) B) (n .1) in
         (by-result (sorted-rule scope L template w (n .0) (s .0)) (fits-rule (sortOf template L) B (s .1)), n .2)
     body-rule (i ∷ is) L B at from template (each-more z zs) w h =
@@ -81,71 +92,79 @@ module _ (scope : Scope) where
         (by-binding (r .1) (q .0), q .1)
 
     rule-body :
-        {is : List Item} {L : List ℕ} {B : ℕ} (at from : ℕ) {template : Template} → Body scope L is template B → P tt
+        {is : List Item} {L : List ℕ} {B : ℕ} (at from : ℕ) {template : Template} → Body scope L is template B → P (whole template)
         → Accepts (checkItems scope L at is) (Rest B from template)
     unfolding checkItems
     rule-body at from (by-result {L = L} {t = t} {A = A} {B = B} s f) p =
         let r = rule-sorted scope L t s in
-        needs-passes _ _ 9 11 from P (r .0)
-        (pair (isSorted t L) (fits (sortOf t L) B) (r .1) (cc (r .2, rule-fits f))) p
+        bind-passes P (checkResult scope L B from t) _
+        (then-passes _ (tests L B from t) (ok t)
+        (needs-passes _ _ 9 11 from _ (r .0) (pair (isSorted t L) (fits (sortOf t L) B) (r .1) (cc (r .2, rule-fits f))) p))
     rule-body at from (by-binding {L = L} {i = i} {t = t} {B = B} s b) p =
         bind-passes (Rest B from t) (checkItem scope L at i) _ (rule-item at _ s (rule-body _ from b p))
 
+  module _ (P : Alternative → Type 0) (S : Signature) (at : ℕ) (alternative : Alternative) where
+    -- an alternative with a template as its result
+    abbrev whole : Template → Alternative
+    whole t = record { items = alternative .items; result = t }
+
     alternative-rule :
-        (S : Signature) (at : ℕ) (alternative : Alternative) → AlternativeWithin alternative → Accepts (checkAlternative scope S at alternative) P
-        → Body scope (S .params) (alternative .items) (alternative .result) (S .result) × P tt
+        AlternativeWithin alternative → Accepts (checkAlternative scope S at alternative) P
+        → Body scope (S .params) (alternative .items) (alternative .result) (S .result) × P alternative
     unfolding checkAlternative
-    alternative-rule S at alternative w h =
-        body-rule (alternative .items) (S .params) (S .result) (at + 3) (at + 3 + itemsSize (alternative .items)) (alternative .result) (w .items) (w .result)
+    alternative-rule w h =
+        body-rule P whole (alternative .items) (S .params) (S .result) (at + 3) (at + 3 + itemsSize (alternative .items)) (alternative .result) (w .items)
+        (w .result)
         (bind-passed P (checkItems scope (S .params) (at + 3) (alternative .items)) _ h)
 
     rule-alternative :
-        (S : Signature) (at : ℕ) (alternative : Alternative) → Body scope (S .params) (alternative .items) (alternative .result) (S .result) → P tt
-        → Accepts (checkAlternative scope S at alternative) P
+        Body scope (S .params) (alternative .items) (alternative .result) (S .result) → P alternative → Accepts (checkAlternative scope S at alternative) P
     unfolding checkAlternative
-    rule-alternative S at alternative b p =
-        bind-passes P (checkItems scope (S .params) (at + 3) (alternative .items)) _ (rule-body (at + 3) (at + 3 + itemsSize (alternative .items)) b p)
+    rule-alternative b p =
+        bind-passes P (checkItems scope (S .params) (at + 3) (alternative .items)) _
+        (rule-body P whole (at + 3) (at + 3 + itemsSize (alternative .items)) b p)
 
   -- ------------------------------------------------------------------ alternatives and definitions
 
   bodies-rule :
-      (P : Unit {0} → Type 0) (S : Signature) (at : ℕ) (choices : List Alternative) → Each AlternativeWithin choices
-      → Accepts (checkAlternatives scope S at choices) P
-      → Bodies scope S choices × P tt
+      (P : List Alternative → Type 0) (S : Signature) (done : List Alternative) (at : ℕ) (choices : List Alternative) → Each AlternativeWithin choices
+      → Accepts (checkAlternatives scope S done at choices) P
+      → Bodies scope S choices × P (done ++ choices)
   unfolding checkAlternatives
-  bodies-rule P S at [] each-none h = (no-alternative, h)
-  bodies-rule P S at (a ∷ rest) (each-more w ws) h =
-      let r = alternative-rule _ S at a w (then-passed P (checkAlternative scope S at a) _ h) in
-      let q = bodies-rule P S _ rest ws (r .1) in
-      (by-choice (r .0) (q .0), q .1)
+  bodies-rule P S done at [] each-none h = (no-alternative, rw (append-nil done) h)
+  bodies-rule P S done at (a ∷ rest) (each-more w ws) h =
+      let r = alternative-rule _ S at a w (bind-passed P (checkAlternative scope S at a) _ h) in
+      let q = bodies-rule P S (done ++ (a ∷ [])) _ rest ws (r .1) in
+      (by-choice (r .0) (q .0), subst P (append-assoc done (a ∷ []) rest) (q .1))
 
   rule-bodies :
-      (P : Unit {0} → Type 0) {S : Signature} (at : ℕ) {choices : List Alternative} → Bodies scope S choices → P tt
-      → Accepts (checkAlternatives scope S at choices) P
+      (P : List Alternative → Type 0) {S : Signature} (done : List Alternative) (at : ℕ) {choices : List Alternative} → Bodies scope S choices
+      → P (done ++ choices) → Accepts (checkAlternatives scope S done at choices) P
   unfolding checkAlternatives
-  rule-bodies P at no-alternative p = p
-  rule-bodies P {S} at (by-choice {a = a} b bs) p =
-      then-passes P (checkAlternative scope S at a) _ (rule-alternative _ S at a b (rule-bodies P _ bs p))
+  rule-bodies P done at no-alternative p = subst P (append-nil done) p
+  rule-bodies P {S} done at (by-choice {a = a} {rest = rest} b bs) p =
+      bind-passes P (checkAlternative scope S at a) _
+      (rule-alternative _ S at a b (rule-bodies P (done ++ (a ∷ [])) _ bs (subst⁻¹ P (append-assoc done (a ∷ []) rest) p)))
 
-  -- bodies that the check accepts are derived
+  -- bodies that the check accepts are derived, and answered as they are
   pub ok-rule :
-      (P : Unit {0} → Type 0) (at : ℕ) (ds : List Definition) → Each DefinitionWithin ds → Accepts (checkBodies scope at ds) P → Ok scope ds × P tt
+      (P : List Definition → Type 0) (done : List Definition) (at : ℕ) (ds : List Definition) → Each DefinitionWithin ds
+      → Accepts (checkBodies scope done at ds) P → Ok scope ds × P (done ++ ds)
   unfolding checkBodies
-  ok-rule P at [] each-none h = (ok-empty, h)
-  ok-rule P at (d ∷ ds) (each-more w ws) h =
+  ok-rule P done at [] each-none h = (ok-empty, rw (append-nil done) h)
+  ok-rule P done at (d ∷ ds) (each-more w ws) h =
       let from : ℕ = at + fieldSize (headValue d) in
-      let bodies : Checked (Unit {0}) = checkAlternatives scope (d .signature) from (d .alternatives) in
-      let r = bodies-rule _ (d .signature) from (d .alternatives) (w .alternatives)
-      (then-passed P bodies (checkBodies scope (at + definitionSize d) ds) h) in
-      let q = ok-rule P (at + definitionSize d) ds ws (r .1) in
-      (ok-definition (r .0) (q .0), q .1)
+      let r = bodies-rule _ (d .signature) [] from (d .alternatives) (w .alternatives)
+      (bind-passed P (checkAlternatives scope (d .signature) [] from (d .alternatives)) _ h) in
+      let q = ok-rule P (done ++ (d ∷ [])) (at + definitionSize d) ds ws (r .1) in
+      (ok-definition (r .0) (q .0), subst P (append-assoc done (d ∷ []) ds) (q .1))
 
   -- bodies that are derived are accepted
-  pub rule-ok : (P : Unit {0} → Type 0) (at : ℕ) {ds : List Definition} → Ok scope ds → P tt → Accepts (checkBodies scope at ds) P
+  pub rule-ok : (P : List Definition → Type 0) (done : List Definition) (at : ℕ) {ds : List Definition} → Ok scope ds → P (done ++ ds)
+      → Accepts (checkBodies scope done at ds) P
   unfolding checkBodies
-  rule-ok P at ok-empty p = p
-  rule-ok P at (ok-definition {d = d} {ds = ds} b o) p =
+  rule-ok P done at ok-empty p = subst P (append-nil done) p
+  rule-ok P done at (ok-definition {d = d} {ds = ds} b o) p =
       let from : ℕ = at + fieldSize (headValue d) in
-      let bodies : Checked (Unit {0}) = checkAlternatives scope (d .signature) from (d .alternatives) in
-      let rest : Checked (Unit {0}) = checkBodies scope (at + definitionSize d) ds in
-      then-passes P bodies rest (rule-bodies (λ u. Accepts rest P) from b (rule-ok P (at + definitionSize d) o p))
+      bind-passes P (checkAlternatives scope (d .signature) [] from (d .alternatives)) _
+      (rule-bodies _ [] from b (rule-ok P (done ++ (d ∷ [])) (at + definitionSize d) o (subst⁻¹ P (append-assoc done (d ∷ []) ds) p)))

@@ -3,5 +3,7 @@ pub mod Environments
 pub mod TemplateSorts
 pub mod BodySorts
 pub mod SequenceSorts
+pub mod SizeLaws
+pub mod BlocksBefore
 pub mod RefusalNumbers
 pub mod SortTheorems

@@ -9,13 +9,13 @@ use Rattle.answers.specs.declared.Refusal.{Refusal}
 use Rattle.answers.specs.Checked.{Checked, ok, bad, _>>=_, _>>_, need}
 use Rattle.grammar.specs.Sorts.{Signature, unit, term}
 use Rattle.grammar.specs.SortTests.{fits}
-use Rattle.grammar.specs.Table.{keyword, ide, number, Item, terminal, local, call, Alternative, Mode, add, extend, update, Definition, Table}
+use Rattle.grammar.specs.Table.{Template, keyword, ide, number, Item, terminal, local, call, Alternative, Mode, add, extend, update, Definition, Table}
 use Rattle.grammar.specs.Values.{itemValue}
 use Rattle.judgements.specs.Sizes.{fieldSize, alternativeSize, definitionSize, definitionsSize}
 use Rattle.judgements.specs.CheckSorts.{isDefined, signatureOf, isUnused, isAsBefore, isClosed, areClosed, isSorted, sortOf, fill}
-use Rattle.judgements.specs.Scopes.{Env, Scope, entryOf}
-use Rattle.judgements.specs.CheckSorts.{consistent, collect, checkItem, checkItems, checkAlternative, checkAlternatives, checkBodies, checkBlocks}
-use Rattle.judgements.specs.CheckSorts.{checkRoot, checkSorts}
+use Rattle.judgements.specs.Scopes.{Env, Before, Scope, entryOf}
+use Rattle.judgements.specs.CheckSorts.{consistent, collect, checkItem, checkItems, checkResult, checkAlternative, checkAlternatives, checkBodies}
+use Rattle.judgements.specs.CheckSorts.{checkBlocks, checkRoot, checkSorts}
 
 -- one of the four numbers; b and c are 0
 abbrev pub IsSortRefusal : Refusal → Type 0
@@ -26,7 +26,7 @@ data Sort {A : Type 0} : Checked A → Type 0 where
   none : {item : A} → Sort (ok item)
   one : {refusal : Refusal} → IsSortRefusal refusal → Sort (bad refusal)
 
-refused : {refusal : Refusal} → Sort {A = Unit {0}} (bad refusal) → IsSortRefusal refusal
+refused : {A : Type 0} {refusal : Refusal} → Sort {A = A} (bad refusal) → IsSortRefusal refusal
 refused (one h) = h
 
 need-sort : (test : Bool) (cause-number at : ℕ) → List·Memᴰ cause-number (7 ∷ 8 ∷ 9 ∷ 11 ∷ []) → Sort (need test cause-number at)
@@ -86,29 +86,38 @@ module _ (scope : Scope) where
   items-sort L at [] = none
   items-sort L at (i ∷ is) = bind _ _ (item-sort L at i) (λ s. items-sort (L ++ (s ∷ [])) (at + fieldSize (itemValue i)) is)
 
-  alternatives-sort : (S : Signature) (at : ℕ) (choices : List Alternative) → Sort (checkAlternatives scope S at choices)
+  result-sort : (L : List ℕ) (B at : ℕ) (template : Template) → Sort (checkResult scope L B at template)
+  result-sort L B at template =
+      after _ (ok template) (needs-sort (isClosed template scope (length L)) (isSorted template L && fits (sortOf template L) B) at) none
+
+  alternatives-sort : (S : Signature) (done : List Alternative) (at : ℕ) (choices : List Alternative) → Sort (checkAlternatives scope S done at choices)
   unfolding checkAlternatives checkAlternative
-  alternatives-sort S at [] = none
-  alternatives-sort S at (a ∷ rest) =
-      after _ _
-      (bind _ _ (items-sort (S .params) _ (a .items))
-      (λ L. needs-sort (isClosed (a .result) scope (length L)) (isSorted (a .result) L && fits (sortOf (a .result) L) (S .result)) _))
-      (alternatives-sort S (at + alternativeSize a) rest)
+  alternatives-sort S done at [] = none
+  alternatives-sort S done at (a ∷ rest) =
+      bind _ _
+      (bind _ _ (items-sort (S .params) _ (a .items)) (λ L. bind _ _ (result-sort L (S .result) _ (a .result)) (λ t. none)))
+      (λ b. alternatives-sort S (done ++ (b ∷ [])) (at + alternativeSize a) rest)
 
-  bodies-sort : (at : ℕ) (ds : List Definition) → Sort (checkBodies scope at ds)
+  bodies-sort : (done : List Definition) (at : ℕ) (ds : List Definition) → Sort (checkBodies scope done at ds)
   unfolding checkBodies
-  bodies-sort at [] = none
-  bodies-sort at (d ∷ ds) = after _ _ (alternatives-sort (d .signature) _ (d .alternatives)) (bodies-sort (at + definitionSize d) ds)
+  bodies-sort done at [] = none
+  bodies-sort done at (d ∷ ds) =
+      bind _ _ (alternatives-sort (d .signature) [] _ (d .alternatives)) (λ choices. bodies-sort _ (at + definitionSize d) ds)
 
-blocks-sort : (keywords outsides : ℕ) (E : Env) (at : ℕ) (gs : List (List Definition)) → Sort (checkBlocks keywords outsides E at gs)
+blocks-sort : (keywords outsides : ℕ) (before : Before) (at : ℕ) (gs : List (List Definition)) → Sort (checkBlocks keywords outsides before at gs)
 unfolding checkBlocks
-blocks-sort keywords outsides E at [] = none
-blocks-sort keywords outsides E at (g ∷ gs) =
-    bind _ _ (collect-sort E [] _ g) (λ own. after _ _ (bodies-sort _ _ g) (blocks-sort keywords outsides (own ++ E) (at + 3 + definitionsSize g) gs))
+blocks-sort keywords outsides before at [] = none
+blocks-sort keywords outsides before at (g ∷ gs) =
+    bind _ _ (collect-sort (before .env) [] _ g)
+    (λ own. bind _ _ (bodies-sort _ [] _ g) (λ ds. blocks-sort keywords outsides _ (at + 3 + definitionsSize g) gs))
+
+root-sort : (E : Env) (at root : ℕ) → Sort (checkRoot E at root)
+unfolding checkRoot
+root-sort E at root =
+    needs-sort (isDefined E root) (eqb (length (signatureOf E root .params)) 0 && eqb (signatureOf E root .result) term) at
 
 -- the check of sorts refuses with 7, 8, 9 or 11 only
 pub table-sort : (table : Table) (refusal : Refusal) → checkSorts table ≡ bad refusal → IsSortRefusal refusal
-unfolding checkSorts checkRoot
+unfolding checkSorts
 table-sort table refusal e =
-    refused (subst Sort e (bind _ _ (blocks-sort _ _ [] _ (table .blocks))
-    (λ E. needs-sort (isDefined E (table .root)) (eqb (length (signatureOf E (table .root) .params)) 0 && eqb (signatureOf E (table .root) .result) term) _)))
+    refused (subst Sort e (bind _ _ (blocks-sort _ _ _ _ (table .blocks)) (λ before. after _ _ (root-sort (before .env) _ (table .root)) none)))

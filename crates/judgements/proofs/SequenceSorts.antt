@@ -1,20 +1,19 @@
 -- Checking the blocks and the root is the judgement ⊢ gseq ⇒ E.
 use Prim.Native.Nat.{ℕ, _+_}
-use mathlib.Core.Path.{_≡_, refl, ap, subst}
+use mathlib.Core.Path.{_≡_, refl, ap, subst, subst⁻¹}
 use mathlib.Core.Bool.{true, not, _&&_}
-use mathlib.Core.List.{List, [], _∷_, _++_}
+use mathlib.Core.List.{List, [], _∷_, _++_, append-nil, append-assoc}
 use native.Mathlib.Omega.{arith}
 use lib.Dec.{eqb}
 use lib.ListN.{length}
 use borrow.Author.Tests.{eqb-true, eq-eqb, not-true}
-use Rattle.answers.specs.Checked.{Checked}
 use Rattle.grammar.specs.Sorts.{Signature, term}
 use Rattle.grammar.specs.Table.{Mode, add, extend, update, Definition, Table}
 use Rattle.decoding.specs.Within.{Each, each-none, each-more, DefinitionWithin, Within}
-use Rattle.judgements.specs.Sizes.{definitionSize, definitionsSize}
+use Rattle.judgements.specs.Sizes.{spellingsSize, definitionSize, definitionsSize}
 use Rattle.judgements.specs.CheckSorts.{isDefined, signatureOf, sameSignature, isAsBefore, isUnused, consistent, collect}
-use Rattle.judgements.specs.Scopes.{Env, Scope, entryOf}
-use Rattle.judgements.specs.CheckSorts.{checkBodies, checkBlocks, checkRoot, checkSorts}
+use Rattle.judgements.specs.Scopes.{Env, Before, Scope, entryOf}
+use Rattle.judgements.specs.CheckSorts.{checkBodies, checkBlocks, blocksSize, checkRoot, checkSorts}
 use Rattle.judgements.specs.Judgements.{Newest, Undeclared, Defines, no-definition, by-add, by-extend, by-update, scope, Sequence, no-grammar}
 use Rattle.judgements.specs.Judgements.{by-grammar, WellSorted}
 use Rattle.judgements.proofs.Accepting.{Accepts, need-passed, need-passes, needs-passed, needs-passes, bind-passed, bind-passes}
@@ -96,7 +95,8 @@ module _ (E : Env) where
       → Accepts (consistent mode E own definition at) P → Accepts (consistent (definition .mode) E own definition at) P
   in-mode P own definition at e h = rw (← e) at h
 
-  rule-collect :
+  -- heads that are derived are accepted
+  pub rule-collect :
       (P : Env → Type 0) {own own′ : Env} (at : ℕ) {ds : List Definition} → Defines E own ds own′ → P own′
       → Accepts (collect E own at ds) P
   unfolding collect
@@ -116,29 +116,45 @@ module _ (E : Env) where
 
 -- ------------------------------------------------------------------ ⊢ gseq ⇒ E
 
-module _ (keywords outsides : ℕ) (P : Env → Type 0) where
+-- nothing stands before the first block
+abbrev pub atFirst : Before
+atFirst = record { env = []; blocks = [] }
+
+-- what stands behind a block that gives the signatures `own` and was checked as `ds`
+abbrev pub behindBlock : Before → Env → List Definition → Before
+behindBlock before own ds = record { env = own ++ before .env; blocks = before .blocks ++ (ds ∷ []) }
+
+module _ (keywords outsides : ℕ) (P : Before → Type 0) where
+  -- what stands behind some blocks
+  abbrev Behind : List (List Definition) → Env → Type 0
+  Behind blocks E = P (record { env = E; blocks = blocks })
+
   sequence-rule :
-      (E : Env) (at : ℕ) (gs : List (List Definition)) → Each (Each DefinitionWithin) gs → Accepts (checkBlocks keywords outsides E at gs) P
-      → (E′ : Env) × Sequence keywords outsides E gs E′ × P E′
+      (before : Before) (at : ℕ) (gs : List (List Definition)) → Each (Each DefinitionWithin) gs
+      → Accepts (checkBlocks keywords outsides before at gs) P
+      → (E : Env) × Sequence keywords outsides (before .env) gs E × Behind (before .blocks ++ gs) E
   unfolding checkBlocks
-  sequence-rule E at [] each-none h = (E, no-grammar, h)
-  sequence-rule E at (g ∷ gs) (each-more w ws) h =
-      let c = collect-rule E _ [] (at + 3) g (bind-passed P (collect E [] (at + 3) g) _ h) in
-      let G : Scope = scope keywords outsides (c .0 ++ E) in
-      let rest : Checked Env = checkBlocks keywords outsides (c .0 ++ E) (at + 3 + definitionsSize g) gs in
-      let o = ok-rule G (λ u. Accepts rest P) (at + 3) g w (then-passed P (checkBodies G (at + 3) g) rest (c .2)) in
-      let s = sequence-rule (c .0 ++ E) (at + 3 + definitionsSize g) gs ws (o .1) in
-      (s .0, by-grammar (c .1) (o .0) (s .1), s .2)
+  sequence-rule before at [] each-none h = (before .env, no-grammar, rw (append-nil (before .blocks)) h)
+  sequence-rule before at (g ∷ gs) (each-more w ws) h =
+      let c = collect-rule (before .env) _ [] (at + 3) g (bind-passed P (collect (before .env) [] (at + 3) g) _ h) in
+      let G : Scope = scope keywords outsides (c .0 ++ before .env) in
+      let o = ok-rule G _ [] (at + 3) g w (bind-passed P (checkBodies G [] (at + 3) g) _ (c .2)) in
+      let s = sequence-rule (behindBlock before (c .0) g) (at + 3 + definitionsSize g) gs ws (o .1) in
+      (s .0, by-grammar (c .1) (o .0) (s .1), subst (λ blocks. Behind blocks (s .0)) (append-assoc (before .blocks) (g ∷ []) gs) (s .2))
 
   rule-sequence :
-      {E E′ : Env} (at : ℕ) {gs : List (List Definition)} → Sequence keywords outsides E gs E′ → P E′ → Accepts (checkBlocks keywords outsides E at gs) P
+      {E : Env} (before : Before) (at : ℕ) {gs : List (List Definition)} → Sequence keywords outsides (before .env) gs E → Behind (before .blocks ++ gs) E
+      → Accepts (checkBlocks keywords outsides before at gs) P
   unfolding checkBlocks
-  rule-sequence at no-grammar p = p
-  rule-sequence at (by-grammar {E = E} {own = own} {g = g} d o s) p =
-      bind-passes P (collect E [] (at + 3) g) _
-      (rule-collect E _ (at + 3) d
-      (then-passes P (checkBodies (scope keywords outsides (own ++ E)) (at + 3) g) _
-      (rule-ok (scope keywords outsides (own ++ E)) _ (at + 3) o (rule-sequence (at + 3 + definitionsSize g) s p))))
+  rule-sequence before at no-grammar p = subst (λ blocks. Behind blocks (before .env)) (append-nil (before .blocks)) p
+  rule-sequence {E} before at (by-grammar {own = own} {g = g} {gs = gs} d o s) p =
+      let G : Scope = scope keywords outsides (own ++ before .env) in
+      bind-passes P (collect (before .env) [] (at + 3) g) _
+      (rule-collect (before .env) _ (at + 3) d
+      (bind-passes P (checkBodies G [] (at + 3) g) _
+      (rule-ok G _ [] (at + 3) o
+      (rule-sequence (behindBlock before own g) (at + 3 + definitionsSize g) s
+      (subst⁻¹ (λ blocks. Behind blocks E) (append-assoc (before .blocks) (g ∷ []) gs) p)))))
 
 -- ------------------------------------------------------------------ the root
 
@@ -157,53 +173,64 @@ empty : (L : List ℕ) → length L ≡ 0 → L ≡ []
 empty [] h = refl
 empty (x ∷ L) h = absurd (omega arith)
 
-root-rule : (E : Env) (at root : ℕ) → Accepts (checkRoot E at root) (λ u. Unit {0}) → IsRoot E root
+root-rule : (P : Unit {0} → Type 0) (E : Env) (at root : ℕ) → Accepts (checkRoot E at root) P → IsRoot E root × P tt
 unfolding checkRoot
-root-rule E at root h =
+root-rule P E at root h =
     let S : Signature = signatureOf E root in
-    let q = needs-passed (isDefined E root) (eqb (length (S .params)) 0 && eqb (S .result) term) 9 11 at _ h in
-    let b = both (eqb (length (S .params)) 0) (eqb (S .result) term) (q .1) in
-    record {
-      signature = S;
-      defined = defined-newest E root (q .0);
-      without = empty (S .params) (eqb-true _ 0 (b .0));
-      of-term = eqb-true _ term (b .1);
-    }
+    let q = needs-passed (isDefined E root) (eqb (length (S .params)) 0 && eqb (S .result) term) 9 11 at P h in
+    let b = both (eqb (length (S .params)) 0) (eqb (S .result) term) (q .1) in (
+      record {
+        signature = S;
+        defined = defined-newest E root (q .0);
+        without = empty (S .params) (eqb-true _ 0 (b .0));
+        of-term = eqb-true _ term (b .1);
+      },
+      q .2,
+    )
 
-rule-root : (E : Env) (at root : ℕ) → IsRoot E root → Accepts (checkRoot E at root) (λ u. Unit {0})
+rule-root : (P : Unit {0} → Type 0) (E : Env) (at root : ℕ) → IsRoot E root → P tt → Accepts (checkRoot E at root) P
 unfolding checkRoot
-rule-root E at root r =
+rule-root P E at root r p =
     let S : Signature = signatureOf E root in
     let e : S ≡ r .signature = newest-signature (r .defined) in
-    needs-passes (isDefined E root) (eqb (length (S .params)) 0 && eqb (S .result) term) 9 11 at _ (newest-defined (r .defined))
+    needs-passes (isDefined E root) (eqb (length (S .params)) 0 && eqb (S .result) term) 9 11 at P (newest-defined (r .defined))
     (pair (eqb (length (S .params)) 0) (eqb (S .result) term)
     (eq-eqb (length (S .params)) 0 (cc (r .without)))
     (eq-eqb (S .result) term (cc (r .of-term))))
-    tt
+    p
 
 -- ------------------------------------------------------------------ the whole table
 
--- a table that the check accepts is well sorted
-pub table-rule : (table : Table) → Within table → Accepts (checkSorts table) (λ u. Unit {0}) → WellSorted table
-unfolding checkSorts
-table-rule table w h =
-    let s = sequence-rule (length (table .keywords)) (length (table .outsides)) _ [] _ (table .blocks) (w .blocks)
-    (bind-passed (λ u. Unit {0}) (checkBlocks _ _ [] _ (table .blocks)) _ h) in
-    let r = root-rule (s .0) _ (table .root) (s .2) in
-    record {
-      env = s .0;
-      sequence = s .1;
-      signature = r .signature;
-      defined = r .defined;
-      without = r .without;
-      of-term = r .of-term;
-    }
+module _ (P : Table → Type 0) (table : Table) where
+  -- the root is checked behind the blocks
+  abbrev root-place : ℕ
+  root-place = spellingsSize (table .keywords) + spellingsSize (table .outsides) + blocksSize (table .blocks)
 
--- a table that is well sorted is accepted
-pub rule-table : (table : Table) → WellSorted table → Accepts (checkSorts table) (λ u. Unit {0})
-unfolding checkSorts
-rule-table table w =
-    bind-passes (λ u. Unit {0}) (checkBlocks (length (table .keywords)) (length (table .outsides)) [] _ (table .blocks)) _
-    (rule-sequence _ _ _ _ (w .sequence)
-    (rule-root (w .env) _ (table .root)
-    (record { signature = w .signature; defined = w .defined; without = w .without; of-term = w .of-term })))
+  -- a table that the check accepts is well sorted, and answered as it is
+  pub table-rule : Within table → Accepts (checkSorts table) P → WellSorted table × P table
+  unfolding checkSorts
+  table-rule w h =
+      let s = sequence-rule (length (table .keywords)) (length (table .outsides)) _ atFirst _ (table .blocks) (w .blocks)
+      (bind-passed P (checkBlocks _ _ atFirst _ (table .blocks)) _ h) in
+      let (r, p) = root-rule _ (s .0) root-place (table .root) (then-passed P (checkRoot (s .0) root-place (table .root)) _ (s .2)) in (
+        record {
+          env = s .0;
+          sequence = s .1;
+          signature = r .signature;
+          defined = r .defined;
+          without = r .without;
+          of-term = r .of-term;
+        },
+        p,
+      )
+
+  -- a table that is well sorted is accepted
+  pub rule-table : WellSorted table → P table → Accepts (checkSorts table) P
+  unfolding checkSorts
+  rule-table w p =
+      bind-passes P (checkBlocks (length (table .keywords)) (length (table .outsides)) atFirst _ (table .blocks)) _
+      (rule-sequence _ _ _ atFirst _ (w .sequence)
+      (then-passes P (checkRoot (w .env) root-place (table .root)) _
+      (rule-root _ (w .env) root-place (table .root)
+      (record { signature = w .signature; defined = w .defined; without = w .without; of-term = w .of-term })
+      p)))

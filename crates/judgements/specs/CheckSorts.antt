@@ -10,10 +10,10 @@ use Rattle.spellings.specs.Bytes.{same}
 use Rattle.grammar.specs.Sorts.{Signature, gives, unit, var, binder, label, term, num, constructor}
 use Rattle.grammar.specs.SortTests.{fits}
 use Rattle.grammar.specs.Table.{Template, Templates, variable, outsideVar, outsideLabel, make, none, more, keyword, ide, number, Item, terminal, local, call}
-use Rattle.grammar.specs.Table.{Alternative, Mode, add, extend, update, Definition, Table}
+use Rattle.grammar.specs.Table.{Alternative, Mode, add, extend, update, DefinitionOf, Definition, Table}
 use Rattle.grammar.specs.Values.{itemValue, headValue}
 use Rattle.judgements.specs.Sizes.{fieldSize, spellingsSize, itemsSize, alternativeSize, definitionSize, definitionsSize}
-use Rattle.judgements.specs.Scopes.{Env, Scope, entryOf}
+use Rattle.judgements.specs.Scopes.{Env, Before, Scope, entryOf}
 
 -- ------------------------------------------------------------------ global environments E
 
@@ -33,17 +33,16 @@ sameSignature S S′ = same (S .result ∷ S .params) (S′ .result ∷ S′ .pa
 -- ------------------------------------------------------------------ E ⊢ g :: E', refusals 7 and 8
 
 -- an earlier block defined the nonterminal with the same signature, and this block, of which `own` has what stands before, did not
-abbrev pub isAsBefore : Env → Env → Definition → Bool
+abbrev pub isAsBefore : {R : Type 0} → Env → Env → DefinitionOf R → Bool
 isAsBefore E own d =
-    not (isDefined own (d .nonterminal))
-    && isDefined E (d .nonterminal)
+    not (isDefined own (d .nonterminal)) && isDefined E (d .nonterminal)
     && sameSignature (signatureOf E (d .nonterminal)) (d .signature)
 
 -- neither this block nor an earlier one defined it
-abbrev pub isUnused : Env → Env → Definition → Bool
+abbrev pub isUnused : {R : Type 0} → Env → Env → DefinitionOf R → Bool
 isUnused E own d = not (isDefined own (d .nonterminal)) && not (isDefined E (d .nonterminal))
 
-abbrev pub consistent : Mode → Env → Env → Definition → ℕ → Checked (Unit {0})
+abbrev pub consistent : {R : Type 0} → Mode → Env → Env → DefinitionOf R → ℕ → Checked (Unit {0})
 consistent add E own d at = need (isUnused E own d) 7 at
 consistent extend E own d at = need (isAsBefore E own d) 8 at
 consistent update E own d at = need (isAsBefore E own d) 8 at
@@ -51,9 +50,7 @@ consistent update E own d at = need (isAsBefore E own d) 8 at
 -- the signatures of a block
 unfoldable pub collect : Env → Env → ℕ → List Definition → Checked Env
 collect E own at [] = ok own
-collect E own at (d ∷ ds) = do
-  consistent (d .mode) E own d at
-  collect E (entryOf d ∷ own) (at + definitionSize d) ds
+collect E own at (d ∷ ds) = consistent (d .mode) E own d at >> collect E (entryOf d ∷ own) (at + definitionSize d) ds
 
 -- ------------------------------------------------------------------ E; L ⊢ p : B, refusals 9 and 11
 
@@ -99,44 +96,43 @@ checkItem G L at (terminal number) = ok num
 checkItem G L at local = ok binder
 checkItem G L at (call n ts) =
     need (isDefined (G .env) n && areClosed ts G (length L)) 9 at
-    >> need (fill ts L (signatureOf (G .env) n .params)) 11 at
-    >> ok (signatureOf (G .env) n .result)
+    >> need (fill ts L (signatureOf (G .env) n .params)) 11 at >> ok (signatureOf (G .env) n .result)
 
 -- the items of an alternative from the left, and the sorts of all its variables
 unfoldable pub checkItems : Scope → List ℕ → ℕ → List Item → Checked (List ℕ)
 checkItems G L at [] = ok L
-checkItems G L at (i ∷ is) =
-    checkItem G L at i >>= λ s. checkItems G (L ++ (s ∷ [])) (at + fieldSize (itemValue i)) is
+checkItems G L at (i ∷ is) = checkItem G L at i >>= λ s. checkItems G (L ++ (s ∷ [])) (at + fieldSize (itemValue i)) is
 
--- a template where the sort B is asked
-abbrev pub checkResult : Scope → List ℕ → ℕ → ℕ → Template → Checked (Unit {0})
-checkResult G L B at t = need (isClosed t G (length L)) 9 at >> need (isSorted t L && fits (sortOf t L) B) 11 at
+-- a template where the sort B is asked; a check answers what it checked, `done` has what it checked before
+abbrev pub checkResult : Scope → List ℕ → ℕ → ℕ → Template → Checked Template
+checkResult G L B at t = need (isClosed t G (length L)) 9 at >> need (isSorted t L && fits (sortOf t L) B) 11 at >> ok t
 
-unfoldable pub checkAlternative : Scope → Signature → ℕ → Alternative → Checked (Unit {0})
+unfoldable pub checkAlternative : Scope → Signature → ℕ → Alternative → Checked Alternative
 checkAlternative G S at a =
     checkItems G (S .params) (at + 3) (a .items)
-    >>= λ L. checkResult G L (S .result) (at + 3 + itemsSize (a .items)) (a .result)
+    >>= λ L. checkResult G L (S .result) (at + 3 + itemsSize (a .items)) (a .result) >>= λ t. ok (record { items = a .items; result = t })
 
-unfoldable pub checkAlternatives : Scope → Signature → ℕ → List Alternative → Checked (Unit {0})
-checkAlternatives G S at [] = ok tt
-checkAlternatives G S at (a ∷ rest) = checkAlternative G S at a >> checkAlternatives G S (at + alternativeSize a) rest
+unfoldable pub checkAlternatives : Scope → Signature → List Alternative → ℕ → List Alternative → Checked (List Alternative)
+checkAlternatives G S done at [] = ok done
+checkAlternatives G S done at (a ∷ rest) = checkAlternative G S at a >>= λ b. checkAlternatives G S (done ++ (b ∷ [])) (at + alternativeSize a) rest
 
 -- ------------------------------------------------------------------ E ⊢ g ok, and ⊢ gseq ⇒ E
 
-unfoldable pub checkBodies : Scope → ℕ → List Definition → Checked (Unit {0})
-checkBodies G at [] = ok tt
-checkBodies G at (d ∷ ds) =
-    checkAlternatives G (d .signature) (at + fieldSize (headValue d)) (d .alternatives)
-    >> checkBodies G (at + definitionSize d) ds
+unfoldable pub checkBodies : Scope → List Definition → ℕ → List Definition → Checked (List Definition)
+checkBodies G done at [] = ok done
+checkBodies G done at (d ∷ ds) =
+    checkAlternatives G (d .signature) [] (at + fieldSize (headValue d)) (d .alternatives)
+    >>= λ choices.
+    let e : Definition = record { nonterminal = d .nonterminal; mode = d .mode; signature = d .signature; alternatives = choices } in
+    checkBodies G (done ++ (e ∷ [])) (at + definitionSize d) ds
 
--- the environment after the blocks; K and N are the counts of keywords and outside names
-unfoldable pub checkBlocks : ℕ → ℕ → Env → ℕ → List (List Definition) → Checked Env
-checkBlocks K N E at [] = ok E
-checkBlocks K N E at (b ∷ bs) =
-    collect E [] (at + 3) b
-    >>= λ own.
-    checkBodies (record { keywords = K; outsides = N; env = own ++ E }) (at + 3) b
-    >> checkBlocks K N (own ++ E) (at + 3 + definitionsSize b) bs
+-- what stands behind the blocks; K and N are the counts of keywords and outside names
+unfoldable pub checkBlocks : ℕ → ℕ → Before → ℕ → List (List Definition) → Checked Before
+checkBlocks K N P at [] = ok P
+checkBlocks K N P at (b ∷ bs) =
+    collect (P .env) [] (at + 3) b
+    >>= λ own. checkBodies (record { keywords = K; outsides = N; env = own ++ P .env }) [] (at + 3) b
+    >>= λ ds. checkBlocks K N (record { env = own ++ P .env; blocks = P .blocks ++ (ds ∷ []) }) (at + 3 + definitionsSize b) bs
 
 unfoldable pub blocksSize : List (List Definition) → ℕ
 blocksSize [] = 0
@@ -145,12 +141,12 @@ blocksSize (b ∷ bs) = 3 + definitionsSize b + blocksSize bs
 -- the root is defined, has no parameters and gives a Term
 unfoldable pub checkRoot : Env → ℕ → ℕ → Checked (Unit {0})
 checkRoot E at n =
-    need (isDefined E n) 9 at
-    >> need (eqb (length (signatureOf E n .params)) 0 && eqb (signatureOf E n .result) term) 11 at
+    need (isDefined E n) 9 at >> need (eqb (length (signatureOf E n .params)) 0 && eqb (signatureOf E n .result) term) 11 at
 
 -- the whole table
-unfoldable pub checkSorts : Table → Checked (Unit {0})
+unfoldable pub checkSorts : Table → Checked Table
 checkSorts t =
     let first : ℕ = spellingsSize (t .keywords) + spellingsSize (t .outsides) in
-    checkBlocks (length (t .keywords)) (length (t .outsides)) [] first (t .blocks)
-    >>= λ E. checkRoot E (first + blocksSize (t .blocks)) (t .root)
+    checkBlocks (length (t .keywords)) (length (t .outsides)) (record { env = []; blocks = [] }) first (t .blocks)
+    >>= λ P. checkRoot (P .env) (first + blocksSize (t .blocks)) (t .root)
+    >> ok (record { keywords = t .keywords; outsides = t .outsides; blocks = P .blocks; root = t .root })

@@ -13,7 +13,7 @@ use mathlib.Core.List.{List, [], _∷_, _++_}
 use lib.ListN.{length}
 use Rattle.grammar.specs.Sorts.{Signature, unit, var, binder, label, term, num, constructor}
 use Rattle.grammar.specs.Table.{Template, Templates, variable, outsideVar, outsideLabel, make, none, more, keyword, ide, number, Item, terminal, local, call}
-use Rattle.grammar.specs.Table.{Alternative, add, extend, update, Definition, Table}
+use Rattle.grammar.specs.Table.{Alternative, add, extend, update, DefinitionOf, Definition, Table}
 use Rattle.judgements.specs.Scopes.{Declaration, Env, entryOf, Scope}
 
 -- ------------------------------------------------------------------ environments
@@ -108,22 +108,22 @@ pub data Bodies (G : Scope) (S : Signature) : List Alternative → Type 0 where
       → Bodies G S rest
       → Bodies G S (a ∷ rest)
 
--- E ⊢ g :: E': the signatures of g's definitions from the left, after those in `own`; 01: add needs a number that E lacks too
-pub data Defines (E : Env) : Env → List Definition → Env → Type 0 where
+-- E ⊢ g :: E': the signatures of g's definitions from the left, after those in `own`, whatever their results are; 01: add needs a number that E lacks too
+pub data Defines {R : Type 0} (E : Env) : Env → List (DefinitionOf R) → Env → Type 0 where
   no-definition : {own : Env} → Defines E own [] own
-  by-add : {own own′ : Env} {d : Definition} {ds : List Definition}
+  by-add : {own own′ : Env} {d : DefinitionOf R} {ds : List (DefinitionOf R)}
       → d .mode ≡ add
       → Undeclared own (d .nonterminal)
       → Undeclared E (d .nonterminal)
       → Defines E (entryOf d ∷ own) ds own′
       → Defines E own (d ∷ ds) own′
-  by-extend : {own own′ : Env} {d : Definition} {ds : List Definition}
+  by-extend : {own own′ : Env} {d : DefinitionOf R} {ds : List (DefinitionOf R)}
       → d .mode ≡ extend
       → Undeclared own (d .nonterminal)
       → Newest E (d .nonterminal) (d .signature)
       → Defines E (entryOf d ∷ own) ds own′
       → Defines E own (d ∷ ds) own′
-  by-update : {own own′ : Env} {d : Definition} {ds : List Definition}
+  by-update : {own own′ : Env} {d : DefinitionOf R} {ds : List (DefinitionOf R)}
       → d .mode ≡ update
       → Undeclared own (d .nonterminal)
       → Newest E (d .nonterminal) (d .signature)

@@ -7,6 +7,7 @@ use native.Mathlib.Omega.{arith}
 use Rattle.spellings.specs.Bytes.{oneIf}
 use Rattle.spellings.proofs.BytesLaws.{by-test, same-true, same-refl}
 use Rattle.decoding.specs.Within.{each-none, each-more}
+use Rattle.decoding.proofs.Spelled.{each-split}
 use Rattle.decoding.proofs.Values.{by-either}
 use Rattle.soundness.specs.Places.{Given, BinderPlace, binder-binder, binder-local, Placed, placed-variable, placed-function, placed-apply, placed-rcd}
 use Rattle.soundness.specs.Places.{placed-dot, placed-number, PlacedFields, placed-nil, placed-cons}
@@ -22,7 +23,6 @@ use Rattle.meaning.specs.Origins as origins
 use Rattle.meaning.specs.Naming.{Holds, here, in-body, in-first, in-second, in-record, in-dotted, HoldsFields, in-field, in-later, BinderShown}
 use Rattle.meaning.specs.Naming.{fresh-renamed, word-renamed, word-kept, Shown, VariableShown, as-binder, further-out, free-word, free-outside, Named}
 use Rattle.meaning.specs.Naming.{a-variable, a-function, an-application, a-record, a-dot, a-number, NamedFields, no-field, one-more}
-use Rattle.meaning.proofs.Owners.{each-split}
 
 -- ------------------------------------------------------------------ which binders are renamed
 

@@ -5,6 +5,7 @@ use mathlib.Core.Bool.{Bool, true, false, true≢false}
 use mathlib.Core.List.{List, [], _∷_, _++_}
 use Rattle.spellings.proofs.BytesLaws.{by-test}
 use Rattle.decoding.specs.Within.{Each, each-none, each-more}
+use Rattle.decoding.proofs.Spelled.{each-split}
 use Rattle.terms.specs.Term.{Name, word, fresh, outside, Term, Fields, variable, function, apply, rcd, dot, number, nil, cons, size}
 use Rattle.terms.specs.Rename.{belongs}
 use Rattle.terms.specs.Binding.{Owner, unbound, boundAt, RefersTo, sameSpelling, sameFresh, Binder, Occurrence}
@@ -171,11 +172,6 @@ owned place (outside s) h n = subst (Owned (outside s)) (sym (outside-owned h re
 each-append : {A : Type 0} {P : A → Type 0} {xs ys : List A} → Each P xs → Each P ys → Each P (xs ++ ys)
 each-append each-none k = k
 each-append (each-more h hs) k = each-more h (each-append hs k)
-
--- what holds of each member of two lists together holds of each member of both
-pub each-split : {A : Type 0} {P : A → Type 0} (xs : List A) {ys : List A} → Each P (xs ++ ys) → Each P xs × Each P ys
-each-split [] h = (each-none, h)
-each-split (x ∷ xs) (each-more h hs) = let q = each-split xs hs in (each-more h (q .0), q .1)
 
 one-owned : {around : List Binder} {place : ℕ} {name : Name} {owner : Owner} → Innermost name around owner → NoneLoose (at place name owner ∷ [])
     → Each IsOwned (at place name owner ∷ [])

@@ -5,18 +5,19 @@ use mathlib.Core.Bool.{false}
 use mathlib.Core.List.{List, [], _∷_, _++_, append-assoc, append-nil}
 use native.Mathlib.Omega.{arith}
 use lib.Dec.{eqb, ltb}
-use lib.ListN.{getD, List·getD-eq-default}
+use lib.ListN.{length, getD, take, List·getD-eq-default}
 use borrow.Author.Tests.{ne-eqb, ltb-true, ltb-false}
 use Rattle.spellings.proofs.BytesLaws.{by-test}
-use Rattle.grammar.specs.Table.{variable, Table}
-use Rattle.grammar.specs.Encode.{tableFields, encode}
+use Rattle.grammar.specs.Table.{variable, Definition, Table}
+use Rattle.grammar.specs.Encode.{fieldBytes, tableFields, encode}
 use Rattle.grammar.specs.Fields.{RawFields, end, cut, next, fieldsOf}
 use Rattle.decoding.specs.Decode.{Decoded, put, putNothing, putKeyword, putOutside, putBlock, putDefinition, putAlternative, putItem, putResult, putRoot}
 use Rattle.decoding.specs.Decode.{decodeFields, itemOf, definitionOf, modeOf}
-use Rattle.decoding.specs.Within.{Within}
+use Rattle.decoding.specs.Within.{Each, DefinitionWithin, Within}
 use Rattle.decoding.proofs.Split.{fields-of-bytes}
 use Rattle.decoding.proofs.Order.{up-to-eight}
-use Rattle.decoding.proofs.Rebuilt.{parts-built}
+use Rattle.decoding.proofs.Rebuilt.{parts-built, front-built}
+use Rattle.decoding.proofs.Fronts.{frontFields, front-bytes}
 use Rattle.productions.specs.Normal.{Production, productionsOf, kept, definedAll, normalizedFrom, normalized}
 use Rattle.productions.specs.Index.{itemsOf, resultOf, normalizedBy}
 
@@ -136,3 +137,13 @@ unfolding encode productionsOf definedAll
 normalized-by table w =
     agrees (fieldsOf (encode table)) .normal 0 []
     ∙ ap (λ b. behind b 0 []) (ap decodeFields (fields-of-bytes (tableFields table)) ∙ parts-built table 0 w)
+
+-- That of the blocks before a block is what the fields of the table's bytes up to that block give.
+pub normalized-before : (table : Table) (before others : List (List Definition)) → table .blocks ≡ before ++ others → Each (Each DefinitionWithin) before
+    → normalizedBy (fieldsOf (take (length (fieldBytes (frontFields table before))) (encode table))) 0 [] ≡ normalized before
+unfolding productionsOf definedAll
+normalized-before table before others whole w =
+    let front : List ℕ = fieldBytes (frontFields table before) in
+    ap (λ bs. normalizedBy (fieldsOf bs) 0 []) (front-bytes table before others whole)
+    ∙ agrees (fieldsOf front) .normal 0 []
+    ∙ ap (λ b. behind b 0 []) (ap decodeFields (fields-of-bytes (frontFields table before)) ∙ front-built (table .keywords) (table .outsides) w)

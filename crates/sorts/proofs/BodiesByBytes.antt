@@ -63,10 +63,11 @@ call-by at sort true true false = refl
 call-by at sort true false filled = refl
 call-by at sort false closed filled = refl
 
-result-by : (at : ℕ) (closed filled : Bool) → verdictOf at (faultBy closed filled) ≡ verdict (need closed 9 at >> need filled 11 at)
-result-by at true true = refl
-result-by at true false = refl
-result-by at false filled = refl
+result-by : (at : ℕ) (template : Template) (closed filled : Bool)
+    → verdictOf at (faultBy closed filled) ≡ verdict (need closed 9 at >> need filled 11 at >> ok template)
+result-by at template true true = refl
+result-by at template true false = refl
+result-by at template false filled = refl
 
 root-by : (at : ℕ) (defined fitting : Bool) → verdictOf at (choose (Faulty Undefined) (testedBy fitting WrongSort) (not defined))
     ≡ verdict (need defined 9 at >> need fitting 11 at)
@@ -125,7 +126,7 @@ module _ (bs : List ℕ) (scope : Scope) (heads : List ℕ) (knows : (nontermina
           and-true (isClosed template scope (length L)),
           fill-bytes L (templateThen template []) (more template none) (B ∷ []) one,
           and-true (isSorted template L && fits (sortOf template L) B),
-          result-by at (isClosed template scope (length L)) (isSorted template L && fits (sortOf template L) B),
+          result-by at template (isClosed template scope (length L)) (isSorted template L && fits (sortOf template L) B),
         )
 
   -- ------------------------------------------------------------------ the root

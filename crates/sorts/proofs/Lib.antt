@@ -4,3 +4,4 @@ pub mod HeadsByBytes
 pub mod CollectByBytes
 pub mod BodiesByBytes
 pub mod SortedBytes
+pub mod BlocksBefore

@@ -14,7 +14,7 @@ use Rattle.answers.specs.declared.Verdict.{Verdict}
 use Rattle.answers.specs.declared.Verdict.the-variants.{Passed, Refused}
 use Rattle.answers.specs.Checked.{Checked, ok, bad, _>>=_, _>>_, verdict}
 use Rattle.grammar.specs.Sorts.{Signature}
-use Rattle.grammar.specs.Table.{Item, Alternative, Definition, Table}
+use Rattle.grammar.specs.Table.{Template, Item, Alternative, Definition, Table}
 use Rattle.grammar.specs.Values.{Field, field, templateThen, itemValue, headValue}
 use Rattle.grammar.specs.Fields.{RawFields, fieldsOf}
 use Rattle.grammar.specs.Encode.{spellingsThen, itemsThen, alternativesThen, definitionsThen, blocksThen, tableFields, encode}
@@ -26,8 +26,10 @@ use Rattle.decoding.proofs.Inverse.{decoded-encoding}
 use Rattle.judgements.specs.Sizes.{fieldSize, spellingsSize, itemsSize, alternativeSize, alternativesSize, definitionSize, definitionsSize}
 use Rattle.judgements.specs.CheckSorts.{isDefined, collect, checkItem, checkItems, checkResult, checkAlternative, checkAlternatives, checkBodies}
 use Rattle.judgements.specs.CheckSorts.{checkBlocks, blocksSize, checkRoot, checkSorts}
-use Rattle.judgements.specs.Scopes.{Env, Scope}
+use Rattle.judgements.specs.Scopes.{Env, Before, Scope}
 use Rattle.judgements.specs.Judgements.{scope}
+use Rattle.judgements.proofs.BodySorts.{withAlternatives}
+use Rattle.judgements.proofs.SequenceSorts.{atFirst, behindBlock}
 use Rattle.bodies.specs.declared.Known.{Known}
 use Rattle.bodies.specs.declared.ItemSort.{ItemSort}
 use Rattle.bodies.specs.declared.ItemSort.the-variants.{As, Unsorted}
@@ -52,26 +54,27 @@ after-bind : {A B : Type 0} (first : Checked A) (second : A → Checked B) (last
 after-bind (ok a) second last = refl
 after-bind (bad r) second last = refl
 
-after-then : {A B : Type 0} (first : Checked A) (second : Checked B) (last : B → Verdict) → after first (λ a. after second last) ≡ after (first >> second) last
-after-then (ok a) second last = refl
-after-then (bad r) second last = refl
-
 after-same : {A : Type 0} (first : Checked A) (last last′ : A → Verdict) → ((a : A) → last a ≡ last′ a) → after first last ≡ after first last′
 after-same (ok a) last last′ e = e a
 after-same (bad r) last last′ e = refl
 
 -- a check of what is before, of what is beside it, and of the rest
-rest-goes : {A : Type 0} (first : Checked A) (second : A → Checked (Unit {0})) (third : A → Checked A) (last : A → Checked (Unit {0}))
-    → after first (λ a. after (second a) (λ u. verdict (third a >>= last))) ≡ verdict ((first >>= λ a. second a >> third a) >>= last)
-rest-goes (ok a) second third last = by (second a)
+rest-goes : {A B C D : Type 0} (first : Checked A) (second : A → Checked B) (third : A → B → Checked C) (last : C → Checked D)
+    → after first (λ a. after (second a) (λ b. verdict (third a b >>= last))) ≡ verdict ((first >>= λ a. second a >>= λ b. third a b) >>= last)
+rest-goes {B = B} (ok a) second third last = by (second a)
   where
-    by : (checked : Checked (Unit {0})) → after checked (λ u. verdict (third a >>= last)) ≡ verdict ((checked >> third a) >>= last)
-    by (ok u) = refl
+    by : (checked : Checked B) → after checked (λ b. verdict (third a b >>= last)) ≡ verdict ((checked >>= λ b. third a b) >>= last)
+    by (ok b) = refl
     by (bad r) = refl
 rest-goes (bad r) second third last = refl
 
+-- a value that is given at the end does not change a verdict
+value-given : {A B : Type 0} (checked : Checked A) (value : B) → verdict checked ≡ verdict (checked >> ok value)
+value-given (ok a) value = refl
+value-given (bad r) value = refl
+
 -- a verdict on the way
-verdict-goes : (checked : Checked (Unit {0})) (known : Known) (heads room : List ℕ) (f : Known → List ℕ → List ℕ → Verdict)
+verdict-goes : {A : Type 0} (checked : Checked A) (known : Known) (heads room : List ℕ) (f : Known → List ℕ → List ℕ → Verdict)
     → goOn (stepped (verdictStep known (verdict checked)) heads room) f ≡ after checked (λ u. f known heads room)
 verdict-goes (ok u) known heads room f = refl
 verdict-goes (bad r) known heads room f = refl
@@ -143,46 +146,51 @@ module _ (bs : List ℕ) (given-scope : Scope) (heads : List ℕ)
 
   module _ (head : ℕ) (S : Signature) (signed : signatureAt bs head ≡ bytesOf S) (few : length (S .params) ≤ 4) where
     alternatives-sorted : {rest : List Alternative} → Each AlternativeWithin rest → (follow : List Field) (at to : ℕ) → at + alternativesSize rest ≡ to
-        → (last : Verdict) → GoesAt head follow to last
-        → GoesAt head (alternativesThen rest follow) at (after (checkAlternatives given-scope S at rest) (λ u. last))
+        → (last : List Alternative → Verdict) → ((choices : List Alternative) → GoesAt head follow to (last choices))
+        → (done : List Alternative) → GoesAt head (alternativesThen rest follow) at (after (checkAlternatives given-scope S done at rest) last)
     unfolding spread alternativesThen alternativesSize alternativeSize sortsFrom stepAt checkAlternatives checkAlternative
-    alternatives-sorted each-none follow at to z last f count room r = let e : at ≡ to = omega arith in rw e (f count room r)
-    alternatives-sorted (each-more {x = a} {xs = rest} w ws) follow at to z last f count room r =
+    alternatives-sorted each-none follow at to z last f done count room r = let e : at ≡ to = omega arith in rw e (f done count room r)
+    alternatives-sorted (each-more {x = a} {xs = rest} w ws) follow at to z last f done count room r =
         let result : ℕ = at + 3 + itemsSize (a .items) in
         let behind : ℕ = at + alternativeSize a in
         let params : List ℕ = S .params in
+        let whole : Template → Alternative = λ t. record { items = a .items; result = t } in
+        let others : Alternative → Verdict = λ b. after (checkAlternatives given-scope S (done ++ (b ∷ [])) behind rest) last in
         let many : length (bytesOf S) - 1 ≡ length params = omega arith in
         rw (signed, many)
         (items-sorted (w .items) (field 7 (templateThen (a .result) []) ∷ alternativesThen rest follow) head (at + 3) result refl params
         (params ++ drop (length params) room) (carries-parameters params room r few) (omega (arith, w .itemCount))
-        (λ L. after (checkResult given-scope L (S .result) result (a .result)) (λ u. after (checkAlternatives given-scope S behind rest) (λ v. last)))
+        (λ L. after (checkResult given-scope L (S .result) result (a .result) >>= λ t. ok (whole t)) others)
         (λ L′ room′ c.
         let place : result + fieldSize (templateThen (a .result) []) ≡ behind = omega arith in
         rw (result-agrees bs given-scope heads knows head result c S signed (w .result), place)
         (verdict-goes (checkResult given-scope L′ (S .result) result (a .result)) _ heads room′ _
         ∙ after-same (checkResult given-scope L′ (S .result) result (a .result)) _ _
-        (λ u. alternatives-sorted ws follow behind to (omega arith) last f (length L′) room′ (c .size)))))
-        ∙ after-bind (checkItems given-scope params (at + 3) (a .items)) _ (λ u. after (checkAlternatives given-scope S behind rest) (λ v. last))
-        ∙ after-then (checkAlternative given-scope S at a) (checkAlternatives given-scope S behind rest) (λ u. last)
+        (λ t. alternatives-sorted ws follow behind to (omega arith) last f (done ++ (whole t ∷ [])) (length L′) room′ (c .size))
+        ∙ after-bind (checkResult given-scope L′ (S .result) result (a .result)) (λ t. ok (whole t)) others)))
+        ∙ after-bind (checkItems given-scope params (at + 3) (a .items)) _ others
+        ∙ after-bind (checkAlternative given-scope S at a) (λ b. checkAlternatives given-scope S (done ++ (b ∷ [])) behind rest) last
 
   definitions-sorted : {ds : List Definition} → Each DefinitionWithin ds → (follow : List Field) (at to : ℕ) → at + definitionsSize ds ≡ to
-      → Placed bs (spread at (definitionsThen ds follow)) → (last : Verdict) → (Placed bs (spread to follow) → Goes follow to last)
-      → Goes (definitionsThen ds follow) at (after (checkBodies given-scope at ds) (λ u. last))
+      → Placed bs (spread at (definitionsThen ds follow)) → (last : List Definition → Verdict)
+      → (Placed bs (spread to follow) → (ds : List Definition) → Goes follow to (last ds))
+      → (done : List Definition) → Goes (definitionsThen ds follow) at (after (checkBodies given-scope done at ds) last)
   unfolding spread definitionsThen definitionsSize definitionSize sortsFrom stepAt counting checkBodies
-  definitions-sorted each-none follow at to z p last f head count room r =
+  definitions-sorted each-none follow at to z p last f done head count room r =
       let e : at ≡ to = omega arith in
-      rw e (f (rw e at p) head count room r)
-  definitions-sorted (each-more {x = d} {xs = ds} w ws) follow at to z p last f head count room r =
+      rw e (f (rw e at p) done head count room r)
+  definitions-sorted (each-more {x = d} {xs = ds} w ws) follow at to z p last f done head count room r =
       let first : ℕ = at + fieldSize (headValue d) in
       let behind : ℕ = at + definitionSize d in
       let rest : List Field = definitionsThen ds follow in
-      let bodies : Verdict = after (checkBodies given-scope behind ds) (λ u. last) in
+      let more : List Alternative → List Definition = λ choices. done ++ (withAlternatives d choices ∷ []) in
       alternatives-sorted at (d .signature) (head-signature bs at d w (p .0)) (omega (arith, w .paramCount)) (w .alternatives) rest first behind (omega arith)
-      bodies
-      (λ count′ room′ r′. definitions-sorted ws follow behind to (omega arith)
-      (over-alternatives (Placed bs) (λ tag part at v fs q. q .1) (d .alternatives) rest first behind (omega arith) (p .1)) last f at count′ room′ r′)
-      count room r
-      ∙ after-then (checkAlternatives given-scope (d .signature) first (d .alternatives)) (checkBodies given-scope behind ds) (λ u. last)
+      (λ choices. after (checkBodies given-scope (more choices) behind ds) last)
+      (λ choices count′ room′ r′. definitions-sorted ws follow behind to (omega arith)
+      (over-alternatives (Placed bs) (λ tag part at v fs q. q .1) (d .alternatives) rest first behind (omega arith) (p .1)) last f (more choices) at count′
+      room′ r′)
+      [] count room r
+      ∙ after-bind (checkAlternatives given-scope (d .signature) [] first (d .alternatives)) (λ choices. checkBodies given-scope (more choices) behind ds) last
 
 -- ------------------------------------------------------------------ blocks
 
@@ -195,7 +203,7 @@ record Shows (bs : List ℕ) (E : Env) (heads : List ℕ) (at : ℕ) : Type 0 wh
   -- none lies behind the offset
   pub below : Below heads at
 
-module _ (bs : List ℕ) (keywords outsides root : ℕ) (low : root < 64) where
+module _ (bs : List ℕ) (keywords outsides root : ℕ) (low : root < 64) (whole : List (List Definition) → Table) where
   -- the field behind the blocks ends the last of them
   abbrev rootField : List Field
   rootField = field 8 (root ∷ []) ∷ []
@@ -217,34 +225,41 @@ module _ (bs : List ℕ) (keywords outsides root : ℕ) (low : root < 64) where
   block-goes E block limit known room rest (bad r) (collected Passed heads) a last f = absurd a
   block-goes E block limit known room rest (bad r) (collected (Refused q) heads) a last f = ap Refused (sym a)
 
-  -- what the blocks and the root give
-  abbrev checkRest : Env → ℕ → List (List Definition) → Checked (Unit {0})
-  checkRest E at blocks = checkBlocks keywords outsides E at blocks >>= λ E′. checkRoot E′ (at + blocksSize blocks) root
+  -- behind the blocks the root is checked
+  abbrev rootAfter : ℕ → Before → Checked Table
+  rootAfter at P = checkRoot (P .env) at root >> ok (whole (P .blocks))
 
-  blocks-sorted : {blocks : List (List Definition)} → Each (Each DefinitionWithin) blocks → (E : Env) (heads : List ℕ) (at : ℕ) → Shows bs E heads at
-      → Placed bs (spread at (blocksThen blocks rootField)) → (head count : ℕ) (room : List ℕ) → length room ≡ 16
-      → sortsFrom (spread at (blocksThen blocks rootField)) bs (knownOf (scope keywords outsides E) head count) heads room ≡ verdict (checkRest E at blocks)
+  -- what the blocks and the root give
+  abbrev checkRest : Before → ℕ → List (List Definition) → Checked Table
+  checkRest P at blocks = checkBlocks keywords outsides P at blocks >>= rootAfter (at + blocksSize blocks)
+
+  blocks-sorted : {blocks : List (List Definition)} → Each (Each DefinitionWithin) blocks → (P : Before) (heads : List ℕ) (at : ℕ)
+      → Shows bs (P .env) heads at → Placed bs (spread at (blocksThen blocks rootField)) → (head count : ℕ) (room : List ℕ) → length room ≡ 16
+      → sortsFrom (spread at (blocksThen blocks rootField)) bs (knownOf (scope keywords outsides (P .env)) head count) heads room
+      ≡ verdict (checkRest P at blocks)
   unfolding spread blocksThen sortsFrom stepAt checkBlocks blocksSize isDefined
-  blocks-sorted each-none E heads at s p head count room r =
-      rw (add-zero at) (root-agrees bs (scope keywords outsides E) heads (s .knows) at root low)
-  blocks-sorted (each-more {x = b} {xs = blocks} w ws) E heads at s p head count room r =
+  blocks-sorted each-none P heads at s p head count room r =
+      rw (add-zero at)
+      (root-agrees bs (scope keywords outsides (P .env)) heads (s .knows) at root low ∙ value-given (checkRoot (P .env) at root) (whole (P .blocks)))
+  blocks-sorted (each-more {x = b} {xs = blocks} w ws) P heads at s p head count room r =
+      let E : Env = P .env in
       let behind : ℕ = at + 3 + definitionsSize b in
       let place : behind + blocksSize blocks ≡ at + blocksSize (b ∷ blocks) = omega arith in
       let follow : List Field = blocksThen blocks rootField in
       let before : Collects bs E [] at heads =
       record { size = s .size; knows = s .knows; here = λ n l. le-leb (getD heads n 0) at (s .below n) } in
-      let bodies : Env → Checked (Unit {0}) = λ own. checkBodies (scope keywords outsides (own ++ E)) (at + 3) b in
-      let rest : Env → Checked Env = λ own. checkBlocks keywords outsides (own ++ E) behind blocks in
+      let bodies : Env → Checked (List Definition) = λ own. checkBodies (scope keywords outsides (own ++ E)) [] (at + 3) b in
+      let rest : Env → List Definition → Checked Before = λ own ds. checkBlocks keywords outsides (behindBlock P own ds) behind blocks in
       block-goes E at behind _ room (spread (at + 3) (definitionsThen b follow)) (collect E [] (at + 3) b)
       (collectFrom (spread (at + 3) (definitionsThen b follow)) bs at heads)
       (collect-agrees bs E at follow (collect-ends blocks at) w (at + 3) behind refl [] heads (p .1) (omega arith) before (λ n. omega (arith, s .below n)))
-      (λ own. after (bodies own) (λ u. verdict (checkRest (own ++ E) behind blocks)))
+      (λ own. after (bodies own) (λ ds. verdict (checkRest (behindBlock P own ds) behind blocks)))
       (λ own heads′ c l.
       definitions-sorted bs (scope keywords outsides (own ++ E)) heads′ (c .knows) w follow (at + 3) behind refl (p .1)
-      (verdict (checkRest (own ++ E) behind blocks))
-      (λ q. blocks-sorted ws (own ++ E) heads′ behind (record { size = c .size; knows = c .knows; below = l }) q)
-      head count room r)
-      ∙ rest-goes (collect E [] (at + 3) b) bodies rest (λ E′. checkRoot E′ (behind + blocksSize blocks) root)
+      (λ ds. verdict (checkRest (behindBlock P own ds) behind blocks))
+      (λ q ds. blocks-sorted ws (behindBlock P own ds) heads′ behind (record { size = c .size; knows = c .knows; below = l }) q)
+      [] head count room r)
+      ∙ rest-goes (collect E [] (at + 3) b) bodies rest (rootAfter (behind + blocksSize blocks))
       ∙ rw place refl
 
 -- ------------------------------------------------------------------ spellings
@@ -305,6 +320,7 @@ table-sorted table w =
     let first : ℕ = spellingsSize ks + spellingsSize os in
     let heads : List ℕ = replicate 64 0 in
     let room : List ℕ = replicate 16 0 in
+    let whole : List (List Definition) → Table = λ checked. record { keywords = ks; outsides = os; blocks = checked; root = table .root } in
     let split : fieldsOf bs ≡ spread 0 (spellingsThen 1 ks names) = fields-of-bytes (tableFields table) in
     let placed : Placed bs (spread 0 (spellingsThen 1 ks names)) = rw split at (placed-fields bs) in
     sym (sorts-short bs (w .size))
@@ -312,7 +328,8 @@ table-sorted table w =
     (keywords-sorted bs heads room names ks 0 second (zero-add second) [] 0 0 0 0
     ∙ outsides-sorted bs heads room blocks os second first refl [] (0 + length ks) 0 0 0
     ∙ rw (zero-add (length ks), zero-add (length os))
-    (blocks-sorted bs (length ks) (length os) (table .root) (omega (arith, w .root)) (w .blocks) [] heads first (nothing-shown bs first)
+    (blocks-sorted bs (length ks) (length os) (table .root) (omega (arith, w .root)) whole (w .blocks) atFirst heads first
+    (nothing-shown bs first)
     (placed-spellings bs 2 os blocks second first refl (placed-spellings bs 1 ks names 0 second (zero-add second) placed)) 0 0 room
     (length-replicate {A = ℕ} 16 0)))
 

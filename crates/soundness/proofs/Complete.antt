@@ -32,7 +32,8 @@ use Rattle.expansion.specs.Costs.{rowsOf, rowsOfAll, openIn, callsIn, rowsIn, A
 use Rattle.expansion.proofs.Shows.{Grown, grown-not, grown-trans, Shows, shows-unit, shows-var, shows-binder, shows-label, shows-num, ShowAll}
 use Rattle.expansion.proofs.Shows.{show-none, show-more, all-later, all-and, word-named, fresh-named}
 use Rattle.soundness.proofs.Setting.{Setting, Provides, provides-whole, provides-inner, choice-is, take-is, root-body}
-use Rattle.soundness.proofs.Building.{Ends, ends-after, ends-map, Full, Built, BuiltAll, build-ends, build-all-ends}
+use Rattle.expansion.proofs.Endings.{Ends, ends-after, ends-map, Full}
+use Rattle.soundness.proofs.Building.{Built, BuiltAll, build-ends, build-all-ends}
 use Rattle.soundness.proofs.Typing.{FitAll, taken-of, result-sorted}
 use Rattle.expansion.proofs.CallLaws.{inner, Ran, call-full, call-chosen}
 use Rattle.expansion.proofs.Choosing.{nextKind, Picks, picks, picks-none, choice-picks, rule, taken-one}

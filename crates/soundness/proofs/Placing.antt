@@ -9,6 +9,7 @@ use Rattle.grammar.specs.Sorts as Sorts
 use Rattle.grammar.specs.Table.{Template, Templates, none, more, Item}
 use Rattle.grammar.specs.Table as Table
 use Rattle.decoding.specs.Within.{Each, each-none, each-more, Among, among-first, among-later}
+use Rattle.decoding.proofs.Spelled.{each-split}
 use Rattle.judgements.specs.Judgements.{Sorted, Fill, fill-none, fill-more, Body, by-binding}
 use Rattle.judgements.specs.Judgements as Judgements
 use Rattle.tokens.specs.declared.Token.{Token}
@@ -31,10 +32,6 @@ use Rattle.soundness.proofs.Setting.{Setting, root-body}
 each-and : {A : Type 0} {P : A → Type 0} {xs : List A} {item : A} → Each P xs → P item → Each P (xs ++ (item ∷ []))
 each-and each-none k = each-more k each-none
 each-and (each-more h hs) k = each-more h (each-and hs k)
-
-each-split : {A : Type 0} {P : A → Type 0} (xs : List A) {ys : List A} → Each P (xs ++ ys) → Each P xs × Each P ys
-each-split [] h = (each-none, h)
-each-split (x ∷ xs) (each-more h hs) = let q = each-split xs hs in (each-more h (q .0), q .1)
 
 -- all of a list is in it
 each-later : {A : Type 0} {item : A} {given xs : List A} → Each (Among given) xs → Each (Among (item ∷ given)) xs

@@ -22,7 +22,7 @@ use Rattle.expansion.specs.Parsing.{input}
 use Rattle.expansion.specs.ValueSorts.{Typed, typed-term}
 use Rattle.expansion.proofs.Shows.{IsCode, Shows, shows-term}
 use Rattle.soundness.proofs.Setting.{Setting, no-arguments}
-use Rattle.soundness.proofs.Building.{Ends, ends-after}
+use Rattle.expansion.proofs.Endings.{Ends, ends-after}
 use Rattle.soundness.proofs.Typing.{items-typed, body-of, taken-of}
 use Rattle.soundness.proofs.Sound.{Any, Root, root-called}
 

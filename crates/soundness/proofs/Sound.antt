@@ -35,7 +35,8 @@ use Rattle.expansion.specs.Costs.{rowsOf, rowsOfAll}
 use Rattle.expansion.proofs.Shows.{Grown, grown-not, grown-trans, Shows, shows-unit, shows-var, shows-binder, shows-label, shows-num, shows-term, ShowAll}
 use Rattle.expansion.proofs.Shows.{show-none, all-later, all-and, word-named, fresh-named}
 use Rattle.soundness.proofs.Setting.{Setting, Provides, provides-whole, provides-inner, choice-is, take-is, no-arguments}
-use Rattle.soundness.proofs.Building.{Ends, ends-after, ends-map, Made, Full, Built, BuiltAll, build-ends, build-all-ends}
+use Rattle.expansion.proofs.Endings.{Ends, ends-after, ends-map, Made, Full}
+use Rattle.soundness.proofs.Building.{Built, BuiltAll, build-ends, build-all-ends}
 use Rattle.expansion.specs.ValueSorts.{Typed, typed-unit, typed-var, typed-binder, typed-label, typed-num, typed-term, Matches}
 use Rattle.soundness.proofs.Typing.{matches-and, gives-exists, give-all-exist, items-typed, FitAll, body-of, taken-of}
 use Rattle.expansion.proofs.CallLaws.{inner, Ran, call-full, call-unfit, call-chosen}

@@ -29,7 +29,8 @@ use Rattle.expansion.specs.Costs.{rowsOf, rowsOfAll, openIn, callsIn, rowsIn, A
 use Rattle.expansion.specs.Parsing.{input}
 use Rattle.expansion.proofs.Shows.{ShowAll, show-none}
 use Rattle.soundness.proofs.Setting.{Setting, Provides, provides-whole, provides-inner, choice-is, item-body, root-body, root-within}
-use Rattle.soundness.proofs.Building.{Ends, ends-both, Full, Built, BuiltAll, build-ends, build-all-ends}
+use Rattle.expansion.proofs.Endings.{Ends, ends-both, Full}
+use Rattle.soundness.proofs.Building.{Built, BuiltAll, build-ends, build-all-ends}
 use Rattle.soundness.proofs.Typing.{FitAll, taken-of, result-sorted}
 use Rattle.expansion.proofs.CallLaws.{inner, Ran, call-full, call-unfit, call-chosen}
 use Rattle.expansion.proofs.Choosing.{nextKind, Picks, picks, picks-none, choice-picks, rule, taken-one}

@@ -29,7 +29,7 @@ use Rattle.expansion.specs.Limits.{mostCalls}
 use Rattle.expansion.specs.Figure3.{Next, next}
 use Rattle.expansion.specs.Parsing.{input}
 use Rattle.soundness.proofs.Setting.{Setting, Provides, provides-inner, choice-is, take-is}
-use Rattle.soundness.proofs.Building.{Ends}
+use Rattle.expansion.proofs.Endings.{Ends}
 use Rattle.soundness.proofs.Typing.{FitAll, sorted-kind, taken-of}
 use Rattle.expansion.proofs.CellLaws.{cell-by}
 use Rattle.expansion.proofs.CallLaws.{inner, call-full, call-unfit, call-chosen}

@@ -31,7 +31,8 @@ use Rattle.expansion.specs.Costs.{rowsOf, rowsOfAll, openIn, callsIn, rowsIn, A
 use Rattle.expansion.specs.Parsing.{input}
 use Rattle.expansion.proofs.Shows.{ShowAll, show-none, all-later, all-and}
 use Rattle.soundness.proofs.Setting.{Setting, Provides, provides-whole, provides-inner, choice-is, take-is, no-arguments, item-body}
-use Rattle.soundness.proofs.Building.{Ends, after-by, ends-both, ends-after, ends-map, Made, Full, Built, BuiltAll, build-ends, build-all-ends}
+use Rattle.expansion.proofs.Endings.{Ends, after-by, ends-both, ends-after, ends-map, Made, Full}
+use Rattle.soundness.proofs.Building.{Built, BuiltAll, build-ends, build-all-ends}
 use Rattle.soundness.proofs.Typing.{matches-and, give-all-exist, gives-exists, FitAll, sorted-kind, body-of, taken-of}
 use Rattle.expansion.proofs.CallLaws.{inner, Ran, call-full, call-unfit, call-chosen}
 use Rattle.expansion.proofs.Choosing.{nextKind, Picks, picks, picks-none, choice-picks, rule}
