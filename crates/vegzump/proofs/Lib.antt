@@ -5,3 +5,5 @@ pub mod Demands
 pub mod ManyFormulas
 pub mod PortionsLaws
 pub mod PortionTheorems
+pub mod KeywordLaws
+pub mod KeywordTheorems
