@@ -1,0 +1,151 @@
+-- The keywords that count under a passed table, by rules; and tables of which every keyword counts.
+use Prim.Native.Nat.{ℕ, zero, suc, _+_, _<_, _≤_}
+use mathlib.Core.Path.{_≡_, refl, sym, ap, _∙_}
+use mathlib.Core.Bool.{Bool, true, false, false≢true}
+use mathlib.Core.Logic.{_↔_}
+use mathlib.Core.List.{List, [], _∷_}
+use native.Mathlib.Decide.{decLt}
+use native.Mathlib.Omega.{arith}
+use lib.ListN.{length, getD, List·getD-eq-default}
+use Rattle.kinds.specs.Kinds.{keywordKind, hasKind}
+use Rattle.answers.specs.Checked.{Checked, ok, bad, _>>=_, _>>_}
+use Rattle.answers.specs.Refusals.{refusal}
+use Rattle.grammar.specs.Table.{Table}
+use Rattle.grammar.specs.Encode.{encode}
+use Rattle.decoding.specs.Decode.{decode}
+use Rattle.decoding.specs.Within.{Within}
+use Rattle.decoding.proofs.Split.{Bytes}
+use Rattle.decoding.proofs.LayoutTheorems.{decode-exactly}
+use Rattle.keywords.specs.KeptSpellings.{spellingsKept}
+use Rattle.keywords.proofs.KeptLaws.{kept-many, all-kept}
+use Rattle.judgements.specs.CheckSorts.{checkSorts}
+use Rattle.productions.specs.Normal.{Production, normalized}
+use Rattle.firsts.specs.Reach.{kindsReached}
+use Rattle.reach.specs.Reached.{KeywordReached}
+use Rattle.reach.proofs.Exactly.{keywords-exactly}
+use Rattle.clashes.specs.CheckFirsts.{checkFirsts}
+use Rattle.checker.specs.Keywords.{lexiconOfTable}
+use Rattle.checker.specs.Syntax.{Syntax, syntaxOf}
+use Rattle.checker.specs.Check.{passedTable}
+use Rattle.tokens.specs.Tiling.{FirstAt, NotIn}
+use Rattle.terms.specs.Term.{Name, Term}
+use Rattle.portions.specs.Portions.{portionsOf, areCounts}
+use Rattle.meaning.specs.Expand.{Expanded, refused, checkedFirst, expandBy}
+use Rattle.handover.proofs.Naming.{different-once}
+use Rattle.vegzump.specs.Portions.{portions}
+use Rattle.vegzump.specs.EveryKeyword.{syntaxEvery, passedEvery, expandEvery, portionsEvery}
+
+-- ------------------------------------------------------------------ spellings that are kept
+
+-- the spelling of keyword k, by whether it counts
+kept-by : (kinds first : ℕ) (spellings : List (List ℕ)) (k : ℕ) (counts : Bool) → hasKind kinds (keywordKind (first + k)) ≡ counts
+    → getD (spellingsKept kinds first spellings) k [] ≡ elim counts as (λ b. List ℕ) [ true ↦ getD spellings k [] | false ↦ [] ]
+unfolding spellingsKept
+kept-by kinds first [] k true t = refl
+kept-by kinds first [] k false t = refl
+kept-by kinds first (s ∷ ss) zero counts t =
+    let z : first + 0 ≡ first = omega arith in
+    ap (λ (b : Bool). elim b as (λ x. List ℕ) [ true ↦ s | false ↦ [] ]) (rw z at t)
+kept-by kinds first (s ∷ ss) (suc k) counts t =
+    let z : first + suc k ≡ suc first + k = omega arith in
+    kept-by kinds (suc first) ss k counts (rw z at t)
+
+-- ------------------------------------------------------------------ a table
+
+module _ (table : Table) where
+  abbrev g : List Production
+  g = normalized (table .blocks)
+
+  abbrev kinds : ℕ
+  kinds = kindsReached g (table .root)
+
+  -- each keyword keeps its number
+  pub numbers-kept : length (lexiconOfTable table .keywords) ≡ length (table .keywords)
+  numbers-kept = kept-many kinds 0 (table .keywords)
+
+  spelled-at : (k : ℕ) (counts : Bool) → hasKind kinds (keywordKind k) ≡ counts
+      → getD (lexiconOfTable table .keywords) k [] ≡ elim counts as (λ b. List ℕ) [ true ↦ getD (table .keywords) k [] | false ↦ [] ]
+  spelled-at k counts t = let z : 0 + k ≡ k = omega arith in kept-by kinds 0 (table .keywords) k counts (rw z t)
+
+  -- one that is reached has its spelling
+  reached-spelled : (k : ℕ) → KeywordReached g (table .root) k → getD (lexiconOfTable table .keywords) k [] ≡ getD (table .keywords) k []
+  reached-spelled k r = spelled-at k true (keywords-exactly g (table .root) k .1 r)
+
+  -- one that has a spelling is reached
+  spelled-reached : {s : List ℕ} → 0 < length s → (k : ℕ) → getD (lexiconOfTable table .keywords) k [] ≡ s
+      → KeywordReached g (table .root) k × (getD (table .keywords) k [] ≡ s)
+  spelled-reached {s} some k e = by (hasKind kinds (keywordKind k)) refl
+    where
+      by : (test : Bool) → hasKind kinds (keywordKind k) ≡ test → KeywordReached g (table .root) k × (getD (table .keywords) k [] ≡ s)
+      by true t =
+          let same : getD (table .keywords) k [] ≡ s = sym (spelled-at k true t) ∙ e in
+          (keywords-exactly g (table .root) k .0 t, same)
+      by false t = let none : [] ≡ s = sym (spelled-at k false t) ∙ e in absurd (omega (arith, ap length none))
+
+  -- a spelling of one byte or more is that of keyword k exactly if keyword k is reached and spelled so
+  pub keyword-exactly : Within table → (s : List ℕ) → 0 < length s → (k : ℕ)
+      → FirstAt s (lexiconOfTable table .keywords) k ↔ (KeywordReached g (table .root) k × (getD (table .keywords) k [] ≡ s))
+  keyword-exactly within s some k = (λ f. spelled-reached some k (f .equal), λ r. first (r .0) (r .1))
+    where
+      inside : (j : ℕ) → getD (table .keywords) j [] ≡ s → j < length (table .keywords)
+      inside j e = by (decLt j (length (table .keywords)))
+        where
+          by : Dec (j < length (table .keywords)) → j < length (table .keywords)
+          by (yes l) = l
+          by (no l) = let none : [] ≡ s = sym (List·getD-eq-default (table .keywords) [] {n = j} (omega arith)) ∙ e in absurd (omega (arith, ap length none))
+
+      first : KeywordReached g (table .root) k → getD (table .keywords) k [] ≡ s → FirstAt s (lexiconOfTable table .keywords) k
+      first r e =
+          record {
+            there = omega (arith, inside k e, numbers-kept);
+            equal = reached-spelled k r ∙ e;
+            none-before =
+                λ j l q.
+                let other = spelled-reached some j q .1 in
+                omega (arith, l, different-once (within .keywordsDiffer) j k (inside j other) (inside k e) (other ∙ sym e));
+          }
+
+  -- a spelling that no keyword has that is reached is no keyword's
+  pub given-back : (s : List ℕ) → 0 < length s → ((k : ℕ) → KeywordReached g (table .root) k → getD (table .keywords) k [] ≡ s → ⊥)
+      → NotIn s (lexiconOfTable table .keywords)
+  given-back s some none = record { none = λ j l e. let r = spelled-reached some j e in none j (r .0) (r .1) }
+
+  -- every keyword is reached
+  abbrev pub AllReached : Type 0
+  AllReached = (k : ℕ) → k < length (table .keywords) → KeywordReached g (table .root) k
+
+  every-kept : AllReached → syntaxOf table ≡ syntaxEvery table
+  every-kept all = rw (all-kept kinds 0 (table .keywords) (λ k l. keywords-exactly g (table .root) k .1 (all k (omega arith)))) refl
+
+-- ------------------------------------------------------------------ from bytes to bytes
+
+module _ (bs : List ℕ) (bytes : Bytes bs) (all : (table : Table) → bs ≡ encode table → AllReached table) where
+  passed-same : passedTable bs ≡ passedEvery bs
+  unfolding passedTable passedEvery
+  passed-same = by (decode bs) refl
+    where
+      checks : (t : Table) → Syntax → Checked Syntax
+      checks t syntax = checkSorts t >> checkFirsts (normalized (t .blocks)) >> ok syntax
+
+      by : (checked : Checked Table) → decode bs ≡ checked
+          → (checked >>= λ t. checkSorts t >> checkFirsts (normalized (t .blocks)) >> ok (syntaxOf t))
+          ≡ (checked >>= λ t. checkSorts t >> checkFirsts (normalized (t .blocks)) >> ok (syntaxEvery t))
+      by (bad r) e = refl
+      by (ok t) e = ap (checks t) (every-kept t (all t (decode-exactly bs bytes t .0 e .0)))
+
+  -- an expansion of any writing
+  pub expands-same : (write : Term Name → List ℕ) (formula cells text : List ℕ) → expandBy write bs formula cells text ≡ expandEvery write bs formula cells text
+  unfolding expandBy expandEvery
+  expands-same write formula cells text = ap (λ (checked : Checked Syntax). checkedFirst write checked formula cells text) passed-same
+
+  -- the list of portions
+  pub portions-same : (written wanted : ℕ) (formula cells list : List ℕ)
+      → portions written wanted bs formula cells list ≡ portionsEvery written wanted bs formula cells list
+  unfolding portions portionsEvery
+  portions-same written wanted formula cells list = by (areCounts written wanted)
+    where
+      by : (test : Bool)
+          → _≡_ {A = Expanded} (elim test as (λ b. Expanded) [ false ↦ refused (refusal 25 0 0 0) cells list | true ↦ expandBy (portionsOf written wanted) bs formula cells list ])
+          (elim test as (λ b. Expanded) [ false ↦ refused (refusal 25 0 0 0) cells list | true ↦ expandEvery (portionsOf written wanted) bs formula cells list ])
+      by true = expands-same (portionsOf written wanted) formula cells list
+      by false = refl
