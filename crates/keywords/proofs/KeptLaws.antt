@@ -3,7 +3,6 @@ use Prim.Native.Nat.{ℕ, zero, suc, _+_, _<_, _≤_}
 use mathlib.Core.Path.{_≡_, refl, sym, ap, _∙_}
 use mathlib.Core.Bool.{Bool, true, false}
 use mathlib.Core.List.{List, [], _∷_}
-use native.Mathlib.Nat.{add-zero}
 use native.Mathlib.Omega.{arith}
 use lib.ListN.{length, getD, take}
 use Rattle.kinds.specs.Kinds.{keywordKind, hasKind}
@@ -60,28 +59,18 @@ module _ (kinds number size : ℕ) {every : Bool} (not-every : every ≡ false) 
   pub kept-no : test ≡ false → 0 ≡ keptSize every kinds number size
   kept-no f = kept-by f
 
--- the spelling of a keyword is kept if its kind is among some
-pub keptWhere : Bool → List ℕ → List ℕ
-keptWhere true s = s
-keptWhere false s = []
-
--- the spelling of keyword k
-pub kept-at : (kinds first : ℕ) (spellings : List (List ℕ)) (k : ℕ)
-    → getD (spellingsKept kinds first spellings) k [] ≡ keptWhere (hasKind kinds (keywordKind (first + k))) (getD spellings k [])
-unfolding spellingsKept keptWhere
-kept-at kinds first [] k = by (hasKind kinds (keywordKind (first + k)))
-  where
-    by : (test : Bool) → [] ≡ keptWhere test []
-    by true = refl
-    by false = refl
-kept-at kinds first (s ∷ ss) zero = rw (add-zero first) (by (hasKind kinds (keywordKind first)))
-  where
-    by : (test : Bool) → _≡_ {A = List ℕ} (elim test as (λ b. List ℕ) [ true ↦ s | false ↦ [] ]) (keptWhere test s)
-    by true = refl
-    by false = refl
-kept-at kinds first (s ∷ ss) (suc k) =
-    let z : suc first + k ≡ first + suc k = omega arith in
-    kept-at kinds (suc first) ss k ∙ rw z refl
+-- the spelling of keyword k, by whether it counts
+pub kept-at : (kinds first : ℕ) (spellings : List (List ℕ)) (k : ℕ) (counts : Bool) → hasKind kinds (keywordKind (first + k)) ≡ counts
+    → getD (spellingsKept kinds first spellings) k [] ≡ elim counts as (λ b. List ℕ) [ true ↦ getD spellings k [] | false ↦ [] ]
+unfolding spellingsKept
+kept-at kinds first [] k true t = refl
+kept-at kinds first [] k false t = refl
+kept-at kinds first (s ∷ ss) zero counts t =
+    let z : first + 0 ≡ first = omega arith in
+    ap (λ (b : Bool). elim b as (λ x. List ℕ) [ true ↦ s | false ↦ [] ]) (rw z at t)
+kept-at kinds first (s ∷ ss) (suc k) counts t =
+    let z : first + suc k ≡ suc first + k = omega arith in
+    kept-at kinds (suc first) ss k counts (rw z at t)
 
 -- where each keyword is among the kinds, all spellings are kept
 pub all-kept : (kinds first : ℕ) (spellings : List (List ℕ)) → ((k : ℕ) → k < first + length spellings → hasKind kinds (keywordKind k) ≡ true)

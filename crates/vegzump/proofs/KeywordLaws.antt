@@ -16,8 +16,7 @@ use Rattle.decoding.specs.Decode.{decode}
 use Rattle.decoding.specs.Within.{Within}
 use Rattle.decoding.proofs.Split.{Bytes}
 use Rattle.decoding.proofs.LayoutTheorems.{decode-exactly}
-use Rattle.keywords.specs.KeptSpellings.{spellingsKept}
-use Rattle.keywords.proofs.KeptLaws.{kept-many, all-kept}
+use Rattle.keywords.proofs.KeptLaws.{kept-many, kept-at, all-kept}
 use Rattle.judgements.specs.CheckSorts.{checkSorts}
 use Rattle.productions.specs.Normal.{Production, normalized}
 use Rattle.firsts.specs.Reach.{kindsReached}
@@ -35,21 +34,6 @@ use Rattle.handover.proofs.Naming.{different-once}
 use Rattle.vegzump.specs.Portions.{portions}
 use Rattle.vegzump.specs.EveryKeyword.{syntaxEvery, passedEvery, expandEvery, portionsEvery}
 
--- ------------------------------------------------------------------ spellings that are kept
-
--- the spelling of keyword k, by whether it counts
-kept-by : (kinds first : ℕ) (spellings : List (List ℕ)) (k : ℕ) (counts : Bool) → hasKind kinds (keywordKind (first + k)) ≡ counts
-    → getD (spellingsKept kinds first spellings) k [] ≡ elim counts as (λ b. List ℕ) [ true ↦ getD spellings k [] | false ↦ [] ]
-unfolding spellingsKept
-kept-by kinds first [] k true t = refl
-kept-by kinds first [] k false t = refl
-kept-by kinds first (s ∷ ss) zero counts t =
-    let z : first + 0 ≡ first = omega arith in
-    ap (λ (b : Bool). elim b as (λ x. List ℕ) [ true ↦ s | false ↦ [] ]) (rw z at t)
-kept-by kinds first (s ∷ ss) (suc k) counts t =
-    let z : first + suc k ≡ suc first + k = omega arith in
-    kept-by kinds (suc first) ss k counts (rw z at t)
-
 -- ------------------------------------------------------------------ a table
 
 module _ (table : Table) where
@@ -65,7 +49,7 @@ module _ (table : Table) where
 
   spelled-at : (k : ℕ) (counts : Bool) → hasKind kinds (keywordKind k) ≡ counts
       → getD (lexiconOfTable table .keywords) k [] ≡ elim counts as (λ b. List ℕ) [ true ↦ getD (table .keywords) k [] | false ↦ [] ]
-  spelled-at k counts t = let z : 0 + k ≡ k = omega arith in kept-by kinds 0 (table .keywords) k counts (rw z t)
+  spelled-at k counts t = let z : 0 + k ≡ k = omega arith in kept-at kinds 0 (table .keywords) k counts (rw z t)
 
   -- one that is reached has its spelling
   reached-spelled : (k : ℕ) → KeywordReached g (table .root) k → getD (lexiconOfTable table .keywords) k [] ≡ getD (table .keywords) k []
