@@ -128,8 +128,9 @@ module _ (bs : List ℕ) (bytes : Bytes bs) (all : (table : Table) → bs ≡ en
   unfolding portions portionsEvery
   portions-same written wanted formula cells list = by (areCounts written wanted)
     where
-      by : (test : Bool)
-          → _≡_ {A = Expanded} (elim test as (λ b. Expanded) [ false ↦ refused (refusal 25 0 0 0) cells list | true ↦ expandBy (portionsOf written wanted) bs formula cells list ])
-          (elim test as (λ b. Expanded) [ false ↦ refused (refusal 25 0 0 0) cells list | true ↦ expandEvery (portionsOf written wanted) bs formula cells list ])
-      by true = expands-same (portionsOf written wanted) formula cells list
-      by false = refl
+      told : Bool → Expanded → Expanded
+      told counts expansion = elim counts as (λ b. Expanded) [ false ↦ refused (refusal 25 0 0 0) cells list | true ↦ expansion ]
+
+      by : (counts : Bool) → told counts (expandBy (portionsOf written wanted) bs formula cells list)
+          ≡ told counts (expandEvery (portionsOf written wanted) bs formula cells list)
+      by counts = ap (told counts) (expands-same (portionsOf written wanted) formula cells list)

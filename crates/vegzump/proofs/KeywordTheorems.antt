@@ -51,7 +51,8 @@ module _ {table : List ℕ} (passes : Passes table) (s : List ℕ) (some : 0 < l
 -- Every table of bytes whose keywords are all reached, if it is the encoding of one.
 module _ (table : List ℕ) (bytes : (at : ℕ) → getD table at 0 < 256) (all : (t : Table) → table ≡ encode t → laws.AllReached t) where
   -- It expands as it would if every keyword counted, whatever is written of the term,
-  pub as-before : (write : Term Name → List ℕ) (formula cells text : List ℕ) → expandBy write table formula cells text ≡ expandEvery write table formula cells text
+  pub as-before : (write : Term Name → List ℕ) (formula cells text : List ℕ)
+      → expandBy write table formula cells text ≡ expandEvery write table formula cells text
   as-before = laws.expands-same table bytes all
 
   -- and lists the same portions.
