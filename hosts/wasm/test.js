@@ -1,9 +1,11 @@
-// The library in WebAssembly under node:  node hosts/wasm/test.js DIR CASES      DIR has vegzump.wasm and vegzump.js (hosts/wasm/build)
-// The conformance cases (cases.bin) one by one and, by table, many in one call; lengths round every limit; the deepest term; nothing at all; calls that the
-// engine breaks off. All but these run on a thread with 16 MB of the engine's stack, for the deepest terms. The last line is `N cases, M failures`.
+// The library in WebAssembly under node:  node hosts/wasm/test.js DIR CASES LEVEL LINES..
+// DIR has vegzump.wasm and vegzump.js (hosts/wasm/build), CASES is cases.bin, LINES are files of tests/cases with the requests' calls, of which those are run
+// that hold at LEVEL. The conformance cases one by one and, by table, many in one call; the requests' lines, every byte and number compared; lengths round
+// every limit; the deepest term; nothing at all; calls that the engine breaks off. All but these run on a thread with 16 MB of the engine's stack, for the
+// deepest terms. The last line is `N cases, L lines of requests, M failures`.
 "use strict";
 const fs = require("fs"), path = require("path"), {Worker, isMainThread} = require("worker_threads");
-const [folder, casesFile] = process.argv.slice(2);
+const [folder, casesFile, level, ...lineFiles] = process.argv.slice(2);
 const Vegzump = require(path.resolve(folder, "vegzump.js"));
 const library = Vegzump.loadNow(fs.readFileSync(path.join(folder, "vegzump.wasm")));
 let failures = 0;
@@ -75,6 +77,52 @@ function manyAtOnce() {
   }
 }
 
+// What is lent as a line of cases tells it: all up to the last number that is not as it was set, in digits or as a count and a hash.
+function shown(room, unset, wanted) {
+  let size = room.length;
+  while (size > 0 && BigInt(room[size - 1]) === BigInt(unset)) size--;
+  const left = room.subarray(0, size), digits = 2 * room.BYTES_PER_ELEMENT;
+  if (!wanted.includes("/")) return Array.from(left, value => value.toString(16).padStart(digits, "0")).join("") || "-";
+  let hash = 0xcbf29ce484222325n;
+  for (const byte of asBuffer(left)) hash = BigInt.asUintN(64, (hash ^ BigInt(byte)) * 0x100000001b3n);
+  return `${size}/${hash.toString(16).padStart(16, "0")}`;
+}
+
+// The calls of the requests' lines: inputs and wanted outputs to outputs.
+const calls = {
+  portions([table, formula, written, wanted, cellsLent, listLent], owed) {
+    const cells = new Uint32Array(+cellsLent).fill(0xaaaaaaaa), list = new BigUint64Array(+listLent).fill(0xeeeeeeeeeeeeeeeen);
+    const answer = numbers(library.portions(octets(table), octets(formula), BigInt(written), BigInt(wanted), cells, list));
+    return [answer, shown(list, 0xeeeeeeeeeeeeeeeen, owed[4]), shown(cells, 0xaaaaaaaa, owed[5])].join(" ");
+  },
+  compare([a, b]) {
+    const {equal, count} = library.compare(octets(a), octets(b));
+    return `${equal ? 1 : 0} ${count}`;
+  },
+};
+const octets = word => Uint8Array.from(word === "-" ? [] : Buffer.from(word, "hex"));
+
+function byLines() {
+  let n = 0;
+  for (const line of lineFiles.flatMap(file => fs.readFileSync(file, "utf8").split("\n")).filter(line => line)) {
+    const [given, owed] = line.split(" = "), [label, call, range, ...inputs] = given.split(" "), [from, to] = range.split("-");
+    if (+level < +from || +level > +to || !calls[call]) continue;
+    expect(label, calls[call](inputs, owed.split(" ")), owed);
+    n++;
+  }
+  return n;
+}
+
+// Counts of portions that no 64 bits hold are refused as others over the limit are.
+function counts() {
+  const cells = new Uint32Array(4), list = new BigUint64Array(3);
+  for (const count of [0, 10001, -1, 2n ** 64n + 1n]) {
+    expect(`portions ${count}`, numbers(library.portions(words, "", count, 1, cells, list)), "25 0 0 0");
+    expect(`portions 1 to ${count}`, numbers(library.portions(words, "", 1, count, cells, list)), "25 0 0 0");
+  }
+  expect("no numbers", library.portionsWhole(words, "", 2, 3).portions, []);
+}
+
 const field = (tag, ...value) => [tag, value.length >> 8, value.length & 255, ...value];
 
 // A table of so many bytes: a word gives applications nested to the left with a variable at every end.
@@ -140,13 +188,14 @@ function brokenOff() {
 }
 
 function all() {
-  const count = oneByOne();
+  const lines = byLines(), count = oneByOne();
+  counts();
   manyAtOnce();
   limits();
   deepest();
   nothingAtAll();
-  console.log(`${count} cases, ${failures} failures`);
-  process.exitCode = failures || !count ? 1 : 0;
+  console.log(`${count} cases, ${lines} lines of requests, ${failures} failures`);
+  process.exitCode = failures || !count || !lines ? 1 : 0;
 }
 
 if (isMainThread) {

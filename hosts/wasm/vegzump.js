@@ -13,7 +13,7 @@ const Vegzump = (() => {
   const TABLE_BYTES = 16384, FORMULA_BYTES = 65535, ROWS = 16384, ROW_CELLS = 4;
   const PAGE = 65536, ANSWER_BYTES = 32;
   // What an ordinary formula makes: all that is lent is copied, so that all rows at once would cost more than the call.
-  const FEW_ROWS = 256;
+  const FEW_ROWS = 256, FEW_NUMBERS = 192;
 
   const bytesOf = given => typeof given === "string" ? new TextEncoder().encode(given) : given;
   const asBytes = view => new Uint8Array(view.buffer, view.byteOffset, view.byteLength);
@@ -21,13 +21,14 @@ const Vegzump = (() => {
   const tableOf = given => given.subarray(0, TABLE_BYTES + 1);
   const formulaOf = given => bytesOf(given).subarray(0, FORMULA_BYTES + 1);
 
+  // The answer of a call; a comparison lies likewise, with `equal` for the number and the count for a.
   function answerAt(memory, place) {
     const view = new DataView(memory.buffer, place, ANSWER_BYTES);
     return {number: view.getUint8(0), a: view.getBigUint64(8, true), b: view.getBigUint64(16, true), c: view.getBigUint64(24, true)};
   }
 
   // The calls of one instance. It is not for several workers at once: each makes its own of the same module.
-  function faceOf({memory, __heap_base, __stack_pointer, vegzump_check, vegzump_expand, vegzump_expand_each}) {
+  function faceOf({memory, __heap_base, __stack_pointer, vegzump_check, vegzump_expand, vegzump_expand_each, vegzump_portions, vegzump_compare}) {
     const free = Number(__heap_base.value), top = __stack_pointer.value;
 
     // Runs a call on copies of views behind the library's own memory, with a place and a length (in elements) for each, and copies those lent back.
@@ -82,7 +83,35 @@ const Vegzump = (() => {
       const rows = Array.from({length: Number(answer.a)}, (_, i) => cells.subarray(ROW_CELLS * i, ROW_CELLS * (i + 1)));
       return {...answer, rows, text: new TextDecoder().decode(text.subarray(0, Number(answer.c)))};
     }
-    return {check, expand, expandEach, expandWhole};
+
+    // Expands as `expand` does and writes, in place of a text, the term's numbers for another count of portions into `list`, a BigUint64Array: three for each
+    // number, itself, the whole grams and the remainder. A count is a number or a BigInt; 25 refuses one that is 0 or over 10,000.
+    function portions(table, formula, written, wanted, cells, list) {
+      // A count that is no number of 64 bits is refused as 0 is.
+      const counts = [written, wanted].map(count => BigInt(count) === BigInt.asUintN(64, BigInt(count)) ? BigInt(count) : 0n);
+      const call = (answer, t, tSize, f, fSize, ...lent) => vegzump_portions(answer, t, tSize, f, fSize, ...counts, ...lent);
+      return answered(call, [tableOf(table), formulaOf(formula)], [cells, list]);
+    }
+
+    // The same with as much room as the formula needs: an answer with `portions`, each of a number, grams and a remainder, if it is accepted.
+    function portionsWhole(table, formula, written, wanted) {
+      const cells = new Uint32Array(ROWS * ROW_CELLS);
+      let list = new BigUint64Array(FEW_NUMBERS), answer = portions(table, formula, written, wanted, cells, list);
+      if (answer.number === 24) {
+        list = new BigUint64Array(Number(answer.a));
+        answer = portions(table, formula, written, wanted, cells, list);
+      }
+      if (answer.number !== 0) return answer;
+      const entry = (_, i) => ({number: list[3 * i], grams: list[3 * i + 1], remainder: list[3 * i + 2]});
+      return {...answer, portions: Array.from({length: Number(answer.c) / 3}, entry)};
+    }
+
+    // Compares two runs of bytes, eight at a time and then the tail byte by byte: whether they are equal, and how many comparisons it took, a BigInt.
+    function compare(a, b) {
+      const {number, a: count} = answered(vegzump_compare, [bytesOf(a), bytesOf(b)], []);
+      return {equal: number === 1, count};
+    }
+    return {check, expand, expandEach, expandWhole, portions, portionsWhole, compare};
   }
 
   const load = async bytes => faceOf((await WebAssembly.instantiate(bytes)).instance.exports);

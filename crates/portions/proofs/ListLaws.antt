@@ -244,7 +244,8 @@ module _ {written wanted : ℕ} {cells : List ℕ} {depth row at : ℕ} (m : Fie
           record { counts = m .counts; room = first-room at first-entries last-entries cons-entries (m .room) }
 
       -- then the others, from where these end, or before,
-      pub cons-rest : {place : ℕ} → place ≤ at + length (entriesAt written wanted cells (depth - 1) part) → FieldsFit written wanted cells (depth - 1) others place
+      pub cons-rest : {place : ℕ} → place ≤ at + length (entriesAt written wanted cells (depth - 1) part)
+          → FieldsFit written wanted cells (depth - 1) others place
       cons-rest l =
           let first-entries = entriesAt written wanted cells (depth - 1) part in
           let last-entries = fieldEntriesAt written wanted cells (depth - 1) others in

@@ -160,6 +160,7 @@ pub record Comparing (left right : List ℕ) (place : ℕ) : Type 0 where
   pub within : place ≤ length left
   -- before the tail an eight begins there
   pub eights : place < length left / 8 * 8 → place ≡ place / 8 * 8
+  -- all before it is found equal
   pub alike : Alike left right place
 
 -- nothing is compared yet
@@ -208,3 +209,30 @@ module _ {left right : List ℕ} {place : ℕ} (comparing : Comparing left right
       let end : place ≡ length left = omega (arith, comparing .within) in
       answer-is (alike-same (comparing .alike) (comparing .long) h)
       (rw (← alike-end (comparing .alike) (comparing .long) h, end) (sym (whole-compared left)))
+
+-- ------------------------------------------------------------------ fewer than eight bytes, which are a tail alone
+
+-- the same of two runs that have no eight
+pub record Short (left right : List ℕ) (place : ℕ) : Type 0 where
+  -- there are fewer than eight bytes
+  pub few : length left < 8
+  -- and those before `place` agree
+  pub comparing : Comparing left right place
+
+-- nothing is compared yet
+pub short-start : {left right : List ℕ} → length right < 8 → length left ≡ length right → Short left right 0
+short-start few long = record { few = omega arith; comparing = comparing-start long }
+
+module _ {left right : List ℕ} {place : ℕ} (short : Short left right place) where
+  module _ (more : place < length left) where
+    -- one more byte agrees
+    pub short-next : getD left place 0 ≡ getD right place 0 → Short left right (place + 1)
+    short-next e = record { few = short .few; comparing = tail-next (short .comparing) (omega (arith, short .few)) more e }
+
+    -- a byte that differs is the last that is compared
+    pub short-stop : (getD left place 0 ≡ getD right place 0 → ⊥) → _≡_ {A = Comparison} (record { equal = false; count = place + 1 }) (compared left right)
+    short-stop d = answer-is refl (omega (arith, short .few)) ∙ tail-stop (short .comparing) (omega (arith, short .few)) more d
+
+  -- where nothing is left, all agree
+  pub short-end : length left ≤ place → _≡_ {A = Comparison} (record { equal = true; count = place }) (compared left right)
+  short-end h = answer-is refl (omega (arith, short .few, short .comparing .within)) ∙ comparing-end (short .comparing) h

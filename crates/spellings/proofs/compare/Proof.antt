@@ -1,6 +1,5 @@
--- `compare`: the bytes passed agree.
+-- `compare`: the bytes passed agree, and there are fewer than eight.
 use Prim.Native.Nat.{_-_}
-use native.Mathlib.Omega.{arith}
 use lib.ListN.{length}
 use borrow.Author.Needs.{needs}
 use Rattle.spellings.proofs.Comparing as laws
@@ -8,47 +7,28 @@ use Rattle.spellings.proofs.compare.Statement.{statement}
 use Rattle.spellings.proofs.compare.Tie as tie
 
 abbrev Inv-loop : tie.InvT-loop
-Inv-loop a b tail i₀ i = laws.Comparing a b i
+Inv-loop a b i₀ i = laws.Short a b i
 
 abbrev μ-loop : tie.MeasureT-loop
-μ-loop a b tail i₀ i = length a - i
+μ-loop a b i₀ i = length a - i
 
 returns : tie.Need-returns Inv-loop μ-loop
-returns c = search laws.lengths-differ
-
-loop-holds : tie.Need-loop-holds Inv-loop μ-loop
-loop-holds c = search laws.comparing-start
-
-eight-requires : tie.Need-eight-requires Inv-loop μ-loop
-eight-requires c κs = laws.eight-within (c .before .before .loop .inv) (c .if2 .taken)
-
-eight-requires-2 : tie.Need-eight-requires-2 Inv-loop μ-loop
-eight-requires-2 c κs =
-    let turn = c .before .before .before in
-    omega (arith, turn .loop .inv .long, laws.eight-within (turn .loop .inv) (c .before .if2 .taken))
+returns c = search needs
 
 returns-2 : tie.Need-returns-2 Inv-loop μ-loop
-returns-2 c =
-    let turn = c .before .before .before in
-    laws.eight-stop (turn .before .before .loop .inv) (turn .if2 .taken) (c .before .before .eight .ensures) (c .before .eight2 .ensures) (c .if3 .taken)
+returns-2 c = search laws.lengths-differ
 
-loop-again : tie.Need-loop-again Inv-loop μ-loop
-loop-again c =
-    let turn = c .before .before .before in
-    let loop = turn .before .before in
-    let known = loop .before .before in
-    laws.eight-next (loop .loop .inv) (turn .if2 .taken) (c .before .before .eight .ensures) (c .before .eight2 .ensures)
-    (λ i. omega (arith, known .before .shared-slice-known .given i))
-    (λ i. omega (arith, known .shared-slice-known2 .given i)) (c .if3 .left)
+loop-holds : tie.Need-loop-holds Inv-loop μ-loop
+loop-holds c = search laws.short-start
 
 returns-3 : tie.Need-returns-3 Inv-loop μ-loop
-returns-3 c = search laws.tail-stop
+returns-3 c = search laws.short-stop
 
-loop-again-2 : tie.Need-loop-again-2 Inv-loop μ-loop
-loop-again-2 c = search laws.tail-next
+loop-again : tie.Need-loop-again Inv-loop μ-loop
+loop-again c = search laws.short-next
 
 returns-4 : tie.Need-returns-4 Inv-loop μ-loop
-returns-4 c = search laws.comparing-end
+returns-4 c = search laws.short-end
 
 -- the function meets its contract
 pub compare-spec : {M : Type 1} → statement M
@@ -57,23 +37,15 @@ compare-spec =
     (tie.spec
     Inv-loop
     μ-loop
+    (λ c κs. search needs)
     returns
-    (λ c. search needs)
-    loop-holds
-    eight-requires
-    eight-requires-2
-    (λ c. search needs)
     returns-2
-    (λ c. search needs)
-    (λ c. search needs)
-    loop-again
-    (λ c. search needs)
+    loop-holds
     (λ c. search needs)
     (λ c. search needs)
     (λ c. search needs)
     returns-3
     (λ c. search needs)
     (λ c. search needs)
-    loop-again-2
-    (λ c. search needs)
+    loop-again
     returns-4)
