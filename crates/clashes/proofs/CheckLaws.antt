@@ -52,11 +52,12 @@ module _ {nulls : ℕ} {g : List Production} {kinds calls : List ℕ} (both-sets
   pub calls-size : 64 ≡ length calls
   calls-size = sym (ap length (both-sets .calls-are) ∙ length-sets callOf nulls g)
 
--- as many sets are noted as there are nonterminals
 module _ {g : List Production} {nulls : ℕ} {reading calling : List ℕ} (noted : NullablesNoted g nulls reading calling) where
+  -- as many sets of what is read are noted as there are nonterminals
   pub reading-size : 64 ≡ length reading
   reading-size = sym (ap length (noted .noted .kinds-are) ∙ notes-many openingOf g)
 
+  -- and as many of what is called
   pub calling-size : 64 ≡ length calling
   calling-size = sym (ap length (noted .noted .calls-are) ∙ notes-many callOf g)
 

@@ -27,8 +27,11 @@ use Rattle.reach.proofs.ReachLaws.{Small, start-in, calls-in, reached-l
 
 -- some item gives b by itself
 pub record Gives (own : Item → ℕ) (is : List Item) (b : ℕ) : Type 0 where
+  -- the item
   pub item : Item
+  -- it is one of them
   pub among : Among is item
+  -- it gives b
   pub gives : hasKind (own item) b ≡ true
 
 -- as many sets as before
@@ -70,8 +73,11 @@ module _ (own : Item → ℕ) (b : ℕ) where
 
   -- an alternative of n mentions b
   pub record Mentions (g : List Production) (n : ℕ) : Type 0 where
+    -- the alternative
     pub production : Production
+    -- it is one of n
     pub of : Of g n production
+    -- an item of it gives b
     pub gives : Gives own (production .items) b
 
   -- the set of n has b where the set was there before, or from a production

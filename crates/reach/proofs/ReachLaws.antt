@@ -37,8 +37,11 @@ union-seen whose from sets = fun-ext (λ b. at b from sets)
 
 -- one of the sets, and that it counts
 pub record InOne (whose : Numbers) (from : ℕ) (sets : List ℕ) (b : ℕ) : Type 0 where
+  -- which one
   pub index : ℕ
+  -- it counts
   pub counts : whose (from + index) ≡ true
+  -- it has b
   pub has : hasKind (getD sets index 0) b ≡ true
 
 one-of : (whose : Numbers) (from : ℕ) (sets : List ℕ) (b : ℕ) → together whose from sets b ≡ true → InOne whose from sets b
@@ -79,6 +82,7 @@ one-union whose sets b n c h =
 
 -- no set has a number from 64 on
 pub record Small (sets : List ℕ) : Type 0 where
+  -- of each set
   pub none-above : (n b : ℕ) → 64 ≤ b → hasKind (getD sets n 0) b ≡ false
 
 module _ {calls : List ℕ} (small : Small calls) (start : ℕ) where
@@ -143,6 +147,7 @@ module _ {calls : List ℕ} (small : Small calls) (start : ℕ) where
     rounds-each zero s hs = hs
     rounds-each (suc times) s hs = rounds-each times (round s) (round-each s hs)
 
+    -- so of each that is reached
     pub reached-least : (n : ℕ) → hasKind (reachedBy calls start) n ≡ true → P n
     reached-least n e =
         rounds-each 64 (hasKind (only start))

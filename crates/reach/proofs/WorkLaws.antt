@@ -56,8 +56,9 @@ small-sets sets h = record { none-above = λ n b l. has-above 64 (getD sets n 0)
 
 -- what is reached and done by now, and the kinds found
 pub record Working (kinds calls : List ℕ) (start now done found : ℕ) : Type 0 where
-  -- what is reached by now is reached, the start among it
+  -- what is reached by now is reached
   pub sound : (n : ℕ) → hasKind now n ≡ true → hasKind (reachedBy calls start) n ≡ true
+  -- the start is among it
   pub begins : start < 64 → hasKind now start ≡ true
   -- what is done is reached
   pub inside : (n : ℕ) → hasKind done n ≡ true → hasKind now n ≡ true
@@ -65,8 +66,9 @@ pub record Working (kinds calls : List ℕ) (start now done found : ℕ) : Type 
   pub closed : (n m : ℕ) → hasKind done n ≡ true → hasKind (getD calls n 0) m ≡ true → hasKind now m ≡ true
   -- what it reads is found
   pub reads : found ≡ unionOver done 0 kinds
-  -- both sets are of 64 bits
+  -- what is reached by now is a set of 64 bits
   pub now-small : now < 2 ^ 64
+  -- and so is what is done
   pub done-small : done < 2 ^ 64
 
 module _ {kinds calls : List ℕ} (small : Small calls) {start : ℕ} where
@@ -87,8 +89,11 @@ module _ {kinds calls : List ℕ} (small : Small calls) {start : ℕ} where
   module _ {now done found : ℕ} (work : Working kinds calls start now done found) (differ : done ≡ now → ⊥) where
     -- the next nonterminal is one that is reached and not yet done
     pub record Next (n : ℕ) : Type 0 where
+      -- it is a nonterminal
       pub below : n < 64
+      -- it is reached
       pub in-now : hasKind now n ≡ true
+      -- it is not done
       pub not-done : hasKind done n ≡ false
 
     left-some : bitXor now done ≡ 0 → ⊥
