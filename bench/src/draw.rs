@@ -60,6 +60,25 @@ pub fn draw(draws: &mut Draws, passing: &[Vec<u8>]) -> Drawn {
     Drawn { table, formula }
 }
 
+/// Whether a table passes and has keywords that are given back, and whether the formula has one of their spellings.
+pub fn given_back(drawn: &Drawn) -> (bool, bool) {
+    let Some(grammar) = grammar(&drawn.table) else { return (false, false) };
+    let is_given_back = |token: &[u8]| grammar.given_back.iter().any(|keyword| keyword == token);
+    (!grammar.given_back.is_empty(), split(&drawn.formula).any(is_given_back))
+}
+
+/// The words of a formula, and its other bytes one by one.
+fn split(formula: &[u8]) -> impl Iterator<Item = &[u8]> {
+    let mut rest = formula;
+    std::iter::from_fn(move || {
+        let goes_on = |byte: &u8| byte.is_ascii_alphanumeric() || *byte == b'_';
+        let length = if rest.first()?.is_ascii_alphabetic() { rest.iter().position(|byte| !goes_on(byte)).unwrap_or(rest.len()) } else { 1 };
+        let (token, behind) = rest.split_at(length);
+        rest = behind;
+        Some(token)
+    })
+}
+
 /// Some formulas: a formula, parts of it, and ends that are past the bytes or before the end of another.
 pub fn many(draws: &mut Draws, formula: &[u8]) -> Many {
     let formulas = formula.repeat(1 + draws.below(3));
@@ -151,7 +170,8 @@ struct Maker<'a> {
     variables: Vec<u8>,
 }
 
-/// A table of a few nonterminals whose sorts are right and whose openings are often disjoint.
+/// A table of a few nonterminals whose sorts are right and whose openings are often disjoint. Often some of its keywords are used nowhere, only in alternatives
+/// that a later block replaces, or only by nonterminals that the root does not call.
 fn made_up(draws: &mut Draws) -> Vec<u8> {
     let mut keywords = some(draws, &SYMBOLS, 8);
     keywords.extend(some(draws, &WORDS, 5));
@@ -172,7 +192,7 @@ fn made_up(draws: &mut Draws) -> Vec<u8> {
         table = table.add(n, signature.result, &signature.parameters);
         table = maker.alternatives(table, n, keywords.len(), &mut used[n]);
     }
-    while maker.draws.percent(25) {
+    while maker.draws.percent(35) {
         table = table.block();
         let n = maker.draws.below(count);
         let mode = if maker.draws.percent(4) { 0 } else { 1 + maker.draws.below(2) as u8 };
@@ -437,6 +457,8 @@ struct Grammar {
     root: usize,
     /// How deep the calls of the shallowest derivation are.
     heights: Vec<usize>,
+    /// The keywords that the root does not reach.
+    given_back: Vec<Vec<u8>>,
 }
 
 /// The grammar of a table that passes; none of another one.
@@ -444,8 +466,14 @@ fn grammar(table: &[u8]) -> Option<Grammar> {
     if plain::check(table).number != 0 {
         return None;
     }
-    let mut grammar =
-        Grammar { keywords: Vec::new(), names: Vec::new(), alternatives: (0..64).map(|_| Vec::new()).collect(), root: 0, heights: vec![usize::MAX; 64] };
+    let mut grammar = Grammar {
+        keywords: Vec::new(),
+        names: Vec::new(),
+        alternatives: (0..64).map(|_| Vec::new()).collect(),
+        root: 0,
+        heights: vec![usize::MAX; 64],
+        given_back: Vec::new(),
+    };
     let mut nonterminal = 0;
     for (from, to) in places(table) {
         let value = &table[from + 3..to];
@@ -475,10 +503,28 @@ fn grammar(table: &[u8]) -> Option<Grammar> {
             grammar.heights[n] = least.unwrap_or(usize::MAX);
         }
     }
+    grammar.given_back = grammar.unreached();
     Some(grammar)
 }
 
 impl Grammar {
+    /// The keywords that no alternative reached from the root has.
+    fn unreached(&self) -> Vec<Vec<u8>> {
+        let (mut reached, mut counts) = (vec![self.root], vec![false; self.keywords.len()]);
+        let mut at = 0;
+        while let Some(&nonterminal) = reached.get(at) {
+            at += 1;
+            for item in self.alternatives[nonterminal].iter().flatten() {
+                match *item {
+                    Item::Keyword(number) => counts[number] = true,
+                    Item::Call(called) if !reached.contains(&called) => reached.push(called),
+                    _ => {}
+                }
+            }
+        }
+        self.keywords.iter().zip(counts).filter(|(_, counts)| !counts).map(|(keyword, _)| keyword.clone()).collect()
+    }
+
     fn height(&self, alternative: &[Item]) -> usize {
         let calls = alternative.iter().map(|item| if let Item::Call(called) = item { self.heights[*called].saturating_add(1) } else { 0 });
         calls.max().unwrap_or(0)
@@ -509,6 +555,10 @@ impl Grammar {
     fn word(&self, draws: &mut Draws) -> Vec<u8> {
         if draws.percent(25) && !self.names.is_empty() {
             return self.names[draws.below(self.names.len())].clone();
+        }
+        let words: Vec<&Vec<u8>> = self.given_back.iter().filter(|keyword| keyword[0].is_ascii_alphabetic()).collect();
+        if draws.percent(30) && !words.is_empty() {
+            return words[draws.below(words.len())].clone();
         }
         word(draws)
     }

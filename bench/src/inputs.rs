@@ -61,6 +61,8 @@ pub fn list(multiplier: u32) -> Vec<Input> {
     let long_spellings = tables::words(&tables::long_spellings("k", 62), &tables::long_spellings("k", 126)[62..]);
     let long_names = tables::long_spellings("n", 64);
     let of_long_names: String = (0..2_035).map(|n| format!("{} ", long_names[n % 64])).collect();
+    let given_back = tables::long_spellings("k", 62);
+    let of_given_back: String = (0..2_035).map(|n| format!("{} ", given_back[n % 62])).collect();
     vec![
         Input::new("`peter`, house table", house.clone(), "peter"),
         Input::new("`(T(fun(T)T(true)))*x`", tables::house(&[Extra::Compose, Extra::True]), "(T(fun(T)T(true)))*x"),
@@ -74,6 +76,7 @@ pub fn list(multiplier: u32) -> Vec<Input> {
         Input::new("4,092 different words, 126 keywords and names in the table", all_spellings, different(WORDS)),
         Input::new("126 keywords and names of 31 bytes, one beginning", long_spellings, ""),
         Input::new("64 outside names of 31 bytes, one beginning, 2,035 times", tables::words(&[], &long_names), of_long_names),
+        Input::new("62 keywords of 31 bytes given back, 2,035 times", tables::words(&given_back, &[]), of_given_back),
         Input::new(format!("4,092 words of one hash, h·{multiplier} + b"), words.clone(), colliding(Hash::Polynomial { multiplier })),
         Input::new("4,092 words of one tree of the scanner", words, colliding(Hash::Folded)),
         Input::new("65,535 calls, 256 productions", tables::levels(16, 240, 0), ""),

@@ -150,8 +150,11 @@ fn compare(options: &Options, list: &[Input]) -> bool {
     passing.dedup();
     let mut draws = Draws::new(options.seed);
     let mut room = Room::new();
+    let (mut with_given_back, mut written) = (0, 0);
     for number in 0..options.draws {
         let drawn = draw::draw(&mut draws, &passing);
+        let (has_some, has_written) = draw::given_back(&drawn);
+        (with_given_back, written) = (with_given_back + usize::from(has_some), written + usize::from(has_written));
         let (cells, text) = lent(&mut draws, &drawn, &mut room);
         let label = format!("drawn-{}-{number}", options.seed);
         of_draws.input(&label, &drawn.table, &drawn.formula, cells, text);
@@ -165,6 +168,7 @@ fn compare(options: &Options, list: &[Input]) -> bool {
     }
     println!("drawn inputs, seed {}: {} compared, {} differ", options.seed, of_draws.inputs, of_draws.differ);
     println!("  answers by number: {}", of_draws.answered());
+    println!("  tables with keywords given back: {with_given_back}, formulas that have one of them: {written}");
     println!("drawn lists of formulas, seed {}: {} compared, {} differ", options.seed, of_many.inputs, of_many.differ);
     println!("drawn portions, seed {}: {} compared, {} differ", options.seed, of_portions.inputs, of_portions.differ);
     println!("  answers by number: {}", of_portions.answered());

@@ -90,6 +90,14 @@ function shown(room, unset, wanted) {
 
 // The calls of the requests' lines: inputs and wanted outputs to outputs.
 const calls = {
+  check([table]) {
+    return numbers(library.check(octets(table)));
+  },
+  expand([table, formula, cellsLent, textLent], owed) {
+    const cells = new Uint32Array(+cellsLent).fill(0xaaaaaaaa), text = new Uint8Array(+textLent).fill(0xee);
+    const answer = numbers(library.expand(octets(table), octets(formula), cells, text));
+    return [answer, shown(text, 0xee, owed[4]), shown(cells, 0xaaaaaaaa, owed[5])].join(" ");
+  },
   portions([table, formula, written, wanted, cellsLent, listLent], owed) {
     const cells = new Uint32Array(+cellsLent).fill(0xaaaaaaaa), list = new BigUint64Array(+listLent).fill(0xeeeeeeeeeeeeeeeen);
     const answer = numbers(library.portions(octets(table), octets(formula), BigInt(written), BigInt(wanted), cells, list));

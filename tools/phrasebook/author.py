@@ -9,7 +9,9 @@ import tempfile
 from typing import List, NamedTuple, Optional
 
 from . import notation, pack
+from .case import as_what
 from .explain import Refusal, explain
+from .grammar import Grammar
 from .source import Trouble, counted, read_file
 
 ROOT = os.path.dirname(os.path.dirname(os.path.dirname(os.path.abspath(__file__))))
@@ -57,14 +59,21 @@ def refused(packed: pack.Packed) -> str:
 
 
 def check(path: str) -> str:
-    """One line if a grammar passes; else what is wrong, all that can be told at once."""
+    """One line if a grammar passes, and one on keywords that are given back; else what is wrong, all that can be told at once."""
     packed = packed_or_troubles(path)
     said = refused(packed)
     if said:
         raise Trouble(said)
     kinds = [(len(packed.nonterminals), "nonterminal"), (sum(1 for _ in phrases(notation.read(path))), "alternative")]
     warned = "".join("%s\n" % w for w in packed.warnings)
-    return "%s%s: passes, with %s; %d bytes" % (warned, path, " and ".join(counted(n, what) for n, what in kinds), len(packed.data))
+    passes = "%s: passes, with %s; %d bytes" % (path, " and ".join(counted(n, what) for n, what in kinds), len(packed.data))
+    return "\n".join([warned + passes] + given_back(Grammar(packed.data)))
+
+
+def given_back(grammar: Grammar) -> List[str]:
+    """A line on the keywords that are given back, if there are any."""
+    each = ", ".join("`%s` is %s" % (k, as_what(k)) for k in grammar.given_back().values())
+    return ["no phrase that the root reaches has these keywords, and they are given back: %s" % each] if each else []
 
 
 class Phrase(NamedTuple):
@@ -86,10 +95,23 @@ def phrases(read: notation.Notation):
             yield Phrase(d.name.text, " ".join(map(form_of, a.items)) or "(nothing)", str(a.spot))
 
 
+def standing(grammar: Grammar) -> List[str]:
+    """For each alternative, in the order of the table, why no formula can use it; nothing of one that can be used."""
+    reached = grammar.reached()
+    left = {a.field.place: n for n, a in grammar.all_productions()}
+    return ["replaced" if a.field.place not in left else "" if left[a.field.place] in reached or not reached else "not reached by the root"
+            for a in grammar.alternatives]
+
+
 def listing(path: str) -> str:
-    rows = list(phrases(notation.read(path)))
+    """Each phrase in a line, and a line on keywords that are given back; of a grammar that cannot be packed the phrases alone."""
+    read = notation.read(path)
+    rows = list(phrases(read))
+    grammar = None if pack.troubles(read) else Grammar(pack.pack(read).data)
+    remarks = standing(grammar) if grammar else [""] * len(rows)
     wide, long = max(len(r.nonterminal) for r in rows), min(60, max(len(r.form) for r in rows))
-    return "\n".join("%-*s  %-*s  %s" % (wide, r.nonterminal, long, r.form, r.where) for r in rows)
+    out = ["%-*s  %-*s  %s%s" % (wide, r.nonterminal, long, r.form, r.where, remark and "  (%s)" % remark) for r, remark in zip(rows, remarks)]
+    return "\n".join(out + (given_back(grammar) if grammar else []))
 
 
 def files(path: str) -> List[str]:

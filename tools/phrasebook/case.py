@@ -30,6 +30,11 @@ def part(text: str, said: str, field: Optional[int] = None, stretch: Optional[Tu
     return out
 
 
+def as_what(keyword: str) -> str:
+    """What a keyword that is given back is in formulas."""
+    return "an ordinary word" if keyword[:1].isalpha() else "a symbol that no phrase reads"
+
+
 class Case:
     """A refusal with what it is about."""
 
@@ -39,6 +44,7 @@ class Case:
         self.grammar = Grammar(packed.data)
         self.fields = {f.place: f for f in read_fields(packed.data)}
         self.keywords = spellings(list(self.fields.values()), KEYWORD)
+        self.given_back = self.grammar.given_back()
         self.tokens: List[Token] = reading.scan(formula, self.grammar) if formula is not None else []
 
     def field(self) -> Optional[Field]:

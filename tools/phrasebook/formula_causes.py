@@ -3,7 +3,7 @@ import unicodedata
 from typing import Any, List, Optional, Union
 
 from . import reading
-from .case import Case
+from .case import Case, as_what
 from .reading import Fresh, Reading, Stop
 from .source import counted, listed
 from .table import TemplateFault
@@ -88,18 +88,21 @@ def misfit(case: Case) -> List[str]:
 
 
 def habits(case: Case) -> List[str]:
-    """Hints at what is often meant otherwise: a number written into a word, a keyword in other letters, a symbol that no phrase has."""
+    """Hints at what is often meant otherwise: a number written into a word, a keyword in other letters or given back, a symbol that no phrase has."""
     out = []
     shown = [t.text.decode("ascii") for t in case.tokens[:case.a + 1]]
     for before, token in zip(case.tokens[:case.a], case.tokens[1:case.a + 1]):
         if before.text.isdigit() and token.text[:1].isalpha() and before.start + len(before.text) == token.start:
             pair = (before.text.decode("ascii"), token.text.decode("ascii"))
             out.append("`%s%s` is the number %s and the word `%s`" % (pair + pair))
-    keywords = {k.lower(): k for k in case.keywords}
+    given_back = case.given_back.values()
+    keywords = {k.lower(): k for i, k in enumerate(case.keywords) if i not in case.given_back}
     for token, text in zip(case.tokens, shown):
-        if token.bit == reading.WORD_BIT and text.lower() in keywords:
+        if text in given_back:
+            out.append("`%s` is %s here: it is a keyword that is given back, for no phrase that the root reaches has it" % (text, as_what(text)))
+        elif token.bit == reading.WORD_BIT and text.lower() in keywords:
             out.append("`%s` is a word; the keyword is `%s`" % (text, keywords[text.lower()]))
-    if case.a < len(case.tokens) and case.tokens[case.a].bit == reading.NO_BIT:
+    if case.a < len(case.tokens) and case.tokens[case.a].bit == reading.NO_BIT and shown[case.a] not in given_back:
         out.append("`%s` is no keyword of this grammar: no phrase reads it" % shown[case.a])
     return list(dict.fromkeys(out))
 

@@ -1,11 +1,11 @@
-"""A table that passed its layout, as a grammar: blocks, definitions, alternatives; its normal form, first sets and left recursion.
+"""A table that passed its layout, as a grammar: blocks, definitions, alternatives; its normal form, what the root reaches, first sets and left recursion.
 
 This serves explanations. The verdict on a table is that of the proved check; here it is only looked up where its cause lies.
 """
 from typing import Dict, Iterator, List, NamedTuple, Optional, Tuple
 
-from .table import (ADD, ALTERNATIVE, BINDER, BLOCK, DEFINITION, IS_CALL, IS_IDE, IS_KEYWORD, IS_LOCAL, IS_NUMBER, ITEM, NUM, RESULT, ROOT, UNIT,
-                    UPDATE, Field, read_fields)
+from .table import (ADD, ALTERNATIVE, BINDER, BLOCK, DEFINITION, IS_CALL, IS_IDE, IS_KEYWORD, IS_LOCAL, IS_NUMBER, ITEM, KEYWORD, NUM, RESULT, ROOT,
+                    UNIT, UPDATE, Field, read_fields, spellings)
 
 WORD_BIT, NUMBER_BIT = 0, 1
 
@@ -101,6 +101,21 @@ class Grammar:
 
     def all_productions(self) -> Iterator[Tuple[int, Alternative]]:
         return ((n, a) for n, own in self.productions.items() for a in own)
+
+    def reached(self) -> List[int]:
+        """The nonterminals that the root reaches by calls, itself the first; none if it is not defined."""
+        out = [self.root] if self.root in self.productions else []
+        for n in out:
+            called = [f.value[1] for a in self.productions.get(n, []) for f in a.items if f.value[0] == IS_CALL]
+            out += [m for m in dict.fromkeys(called) if m not in out]
+        return out
+
+    def given_back(self) -> Dict[int, str]:
+        """The keywords that no alternative reached has, by their numbers: in formulas they are ordinary words, or symbols that no phrase reads. None if the
+        root is not defined: then there are no formulas."""
+        reached = self.reached()
+        had = {f.value[1] for n in reached for a in self.productions.get(n, []) for f in a.items if f.value[0] == IS_KEYWORD}
+        return {k: spelled for k, spelled in enumerate(spellings(self.fields, KEYWORD)) if reached and k not in had}
 
     def nullable_nonterminals(self) -> set:
         found: set = set()

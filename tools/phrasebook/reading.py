@@ -38,8 +38,9 @@ def token_at(formula: bytes, start: int) -> bytes:
 
 
 def scan(formula: bytes, grammar: Grammar) -> List[Token]:
-    """The tokens up to the first that is none."""
-    keywords = {k: keyword_bit(i) for i, k in reversed(list(enumerate(spellings(grammar.fields, KEYWORD))))}
+    """The tokens up to the first that is none. Keywords that are given back are words or symbols like others."""
+    given_back = grammar.given_back()
+    keywords = {k: keyword_bit(i) for i, k in reversed(list(enumerate(spellings(grammar.fields, KEYWORD)))) if i not in given_back}
     out = []
     for m in TOKEN.finditer(formula):
         text = m.group()

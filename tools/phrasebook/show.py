@@ -1,6 +1,8 @@
-"""From the bytes of a table to its notation, in which nonterminal K is nK and variable K of an alternative vK. Packing it gives the same bytes."""
+"""From the bytes of a table to its notation, in which nonterminal K is nK and variable K of an alternative vK. Packing it gives the same bytes. A remark tells
+which keywords are given back."""
 from typing import List, Set, Tuple
 
+from .grammar import Grammar
 from .source import Trouble
 from .table import (ALTERNATIVE, BLOCK, BY_CODE, DEFINITION, GLOBAL, IS_CALL, IS_IDE, IS_KEYWORD, IS_LOCAL, ITEM, KEYWORD, MODES, NAME, RESULT,
                     ROOT, SORTS, VARIABLES, Field, Template, TemplateFault, read_fields, read_result, read_templates, size_at, spellings)
@@ -34,6 +36,7 @@ class Shower:
     def __init__(self, data: bytes):
         self.fields = read_fields(data)
         self.keywords, self.names = spellings(self.fields, KEYWORD), spellings(self.fields, NAME)
+        self.given_back = Grammar(data).given_back()
         self.out: List[str] = []
         self.open = self.first = False
         self.parameters = 0
@@ -41,6 +44,7 @@ class Shower:
 
     def show(self) -> str:
         self.words("keywords", ['"%s"' % k if k in '#"' else k for k in self.keywords])
+        self.words("# given back, for no phrase that the root reaches has them:", list(self.given_back.values()))
         self.words("names", self.names)
         parts = {BLOCK: self.block, DEFINITION: self.definition, ALTERNATIVE: self.alternative, ITEM: self.item, RESULT: self.result, ROOT: self.root}
         for f in self.fields:

@@ -32,7 +32,8 @@ struct Waiting {
     calls: u32,
 }
 
-fn bits(mut set: u64) -> impl Iterator<Item = u8> {
+/// The bits of a set, the lowest first.
+pub fn bits(mut set: u64) -> impl Iterator<Item = u8> {
     std::iter::from_fn(move || {
         let bit = (set != 0).then(|| set.trailing_zeros() as u8);
         set &= set.wrapping_sub(1);

@@ -1,12 +1,13 @@
-//! The phrase expander of document 01, and C-11 and C-12 of document 02, in plain safe Rust, written from the documents alone and for speed. It is what the
+//! The phrase expander of document 01, and C-11 to C-13 of document 02, in plain safe Rust, written from the documents alone and for speed. It is what the
 //! proved archive is compared with, answer by answer, cell by cell and byte by byte, and measured against. Nothing here is shared with the proved code.
 //!
-//! A call goes `table` (1 to 6, 10), `sorts` (7, 8, 9, 11), `firsts` (12, 13), `scan` (14 to 16), `run` (17 to 21), `print` (22 to 24). What a call
-//! needs is kept for the next one on the same thread, so that a call allocates only where its input is larger than all before it.
+//! A call goes `table` (1 to 6, 10), `sorts` (7, 8, 9, 11), `firsts` (12, 13), `reach` (which keywords count), `scan` (14 to 16), `run` (17 to 21), `print`
+//! (22 to 24). What a call needs is kept for the next one on the same thread, so that a call allocates only where its input is larger than all before it.
 #![forbid(unsafe_code)]
 
 mod firsts;
 mod print;
+mod reach;
 mod run;
 mod scan;
 mod sorts;
@@ -66,7 +67,7 @@ pub fn expand(table: &[u8], formula: &[u8], cells: &mut [u32], text: &mut [u8]) 
 /// are lent `cells`, and each the text behind the texts before it. An answer for each end.
 pub fn expand_each(table: &[u8], formulas: &[u8], ends: &[usize], cells: &mut [u32], text: &mut [u8], answers: &mut [Answer]) {
     WORKSPACE.with_borrow_mut(|space| {
-        let checked = space.check(table).map(|()| space.firsts.choose(&space.grammar));
+        let checked = space.prepare(table);
         let (mut from, mut used) = (0, 0);
         for (&end, answer) in ends.iter().zip(answers) {
             let formula = formulas.get(from..end.min(formulas.len())).unwrap_or(&[]);
@@ -117,8 +118,7 @@ pub fn compare(a: &[u8], b: &[u8]) -> Comparison {
 
 impl Workspace {
     fn portions(&mut self, table: &[u8], formula: &[u8], written: u64, wanted: u64, cells: &mut [u32], list: &mut [u64]) -> Result<Answer, Refusal> {
-        self.check(table)?;
-        self.firsts.choose(&self.grammar);
+        self.prepare(table)?;
         self.tokens.scan(table, formula, &mut self.table)?;
         let ran = run::run(&self.grammar, &self.firsts, &self.tokens.all, cells, &mut self.machine)?;
         let spelled = print::Spelled { table, formula, words: &self.table.words };
@@ -137,9 +137,16 @@ impl Workspace {
         self.firsts.check(&self.grammar)
     }
 
-    fn expand(&mut self, table: &[u8], formula: &[u8], cells: &mut [u32], text: &mut [u8]) -> Result<Answer, Refusal> {
+    /// Checks a table and makes it ready for formulas: the choices of alternatives, and the words and symbols that are keywords.
+    fn prepare(&mut self, table: &[u8]) -> Result<(), Refusal> {
         self.check(table)?;
         self.firsts.choose(&self.grammar);
+        self.table.give_back(table, self.grammar.reached_keywords());
+        Ok(())
+    }
+
+    fn expand(&mut self, table: &[u8], formula: &[u8], cells: &mut [u32], text: &mut [u8]) -> Result<Answer, Refusal> {
+        self.prepare(table)?;
         self.expand_checked(table, formula, cells, text)
     }
 

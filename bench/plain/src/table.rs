@@ -233,6 +233,24 @@ impl Table {
         counted(&mut self.keywords, 62, field.place)
     }
 
+    /// Gives back the keywords whose kinds are not among those reached: their words are ordinary ones, their symbols have no kind.
+    pub fn give_back(&mut self, table: &[u8], reached: u64) {
+        let all = (1u64 << self.keywords) - 1;
+        let mut given_back = all & !(reached >> FIRST_KEYWORD);
+        let mut place = 0;
+        while given_back != 0 {
+            let Some(field) = field_at(table, place) else { return };
+            if given_back & 1 != 0 {
+                match field.value {
+                    &[byte] if class(byte) == Class::Symbol => self.symbols.0[usize::from(byte)] = NO_KIND,
+                    _ => self.words.give_back(table, spelled_at(&field), WORD),
+                }
+            }
+            given_back >>= 1;
+            place = field.end();
+        }
+    }
+
     fn name(&mut self, table: &[u8], field: &Field) -> Result<(), Refusal> {
         if !is_word(field.value) || !self.words.name(table, spelled_at(field), WORD) {
             return Err(refusal(5, field.place));

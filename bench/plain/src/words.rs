@@ -139,6 +139,18 @@ impl Words {
         true
     }
 
+    /// Gives back a keyword: its slot is the outside name's so spelled, or no word's any more, and what stands behind it is found as before.
+    pub fn give_back(&mut self, table: &[u8], place: Place, kind: u8) {
+        let word = place.of(table, &[]);
+        let at = self.slot(word, self.hash(word), table, &[]);
+        let slot = &mut self.slots[at];
+        if slot.spelling == u32::MAX {
+            slot.place = Place::default();
+        } else {
+            slot.kind = kind;
+        }
+    }
+
     /// The meaning of a word of the formula; a new one gets the next spelling number.
     pub fn meaning(&mut self, table: &[u8], formula: &[u8], place: Place, kind: u8) -> Meaning {
         let word = place.of(table, formula);

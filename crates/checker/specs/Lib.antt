@@ -1,3 +1,4 @@
+pub mod Keywords
 pub mod Syntax
 pub mod Check
 pub mod Passes

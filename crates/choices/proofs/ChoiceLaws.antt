@@ -346,7 +346,7 @@ module _ {bs room : List ℕ} (held : Held bs room) where
   pub entries-held : HoldsEntries (firstSetsOf bs) (entriesOf bs) room
   unfolding tableRoom entriesOf firstSetsOf
   entries-held =
-      record { rest = held .grammar .rest; held = held .grammar .held; few = entries-few; near = entries-near }
+      record { kinds = _; rest = held .grammar .rest; held = held .grammar .held; few = entries-few; near = entries-near }
 
   -- the walk over the places of one of the 64 nonterminals
   module _ {nonterminal : ℕ} (small : nonterminal < 64) (kind : ℕ) where

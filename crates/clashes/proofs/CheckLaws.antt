@@ -16,7 +16,7 @@ use Rattle.answers.specs.declared.Refusal.{Refusal}
 use Rattle.answers.specs.declared.Verdict.the-variants.{Passed, Refused}
 use Rattle.decoding.specs.Within.{Each, each-none, each-more}
 use Rattle.productions.specs.Normal.{Production}
-use Rattle.productions.specs.Index.{Place, placesFrom, placesIn, productionsAt, Whole}
+use Rattle.productions.specs.Index.{Place, placesFrom, placesIn, productionsAt, Whole, rootIn}
 use Rattle.productions.specs.Room.{Entry, noEntry, overwritten, placeFrom, isOf, firstPlaceIn, HoldsEntries}
 use Rattle.productions.proofs.RoomLaws.{first-place-in}
 use Rattle.kinds.specs.Kinds.{hasKind}
@@ -25,6 +25,9 @@ use Rattle.clashes.specs.CheckFirsts.{leftRecursive, anyPair, noLeftRecu
 use Rattle.firsts.specs.FirstSets.{openingOf, callOf, nullables, firstSets, leftCalls}
 use Rattle.clashes.specs.Pairs.{linked, clashIn, PlacesBelow, clashingBelow, clashingIn, recursiveBelow, allSharedIn, noClashIn}
 use Rattle.firsts.specs.SetCalls.{OwnersBelow, BothSets}
+use Rattle.reach.proofs.Exactly.{notes-many}
+use Rattle.firsts.specs.Needs.{NullablesNoted}
+use Rattle.firsts.specs.Reach.{kindsBy, kindsReached}
 use Rattle.firsts.specs.Room.{entryAt, roomBy, WholeIndex}
 use Rattle.clashes.specs.CheckCalls.{OwnersSmall, BoundIndex, Prepared}
 use Rattle.clashes.proofs.FillLaws.{length-entries, owner-small}
@@ -49,18 +52,29 @@ module _ {nulls : ℕ} {g : List Production} {kinds calls : List ℕ} (both-sets
   pub calls-size : 64 ≡ length calls
   calls-size = sym (ap length (both-sets .calls-are) ∙ length-sets callOf nulls g)
 
+module _ {g : List Production} {nulls : ℕ} {reading calling : List ℕ} (noted : NullablesNoted g nulls reading calling) where
+  -- as many sets of what is read are noted as there are nonterminals
+  pub reading-size : 64 ≡ length reading
+  reading-size = sym (ap length (noted .noted .kinds-are) ∙ notes-many openingOf g)
+
+  -- and as many of what is called
+  pub calling-size : 64 ≡ length calling
+  calling-size = sym (ap length (noted .noted .calls-are) ∙ notes-many callOf g)
+
 abbrev refusedIf : Bool → Refusal → Checked (Unit {0})
 refusedIf b r = elim b [ true ↦ bad r | false ↦ ok tt ]
 
 -- left recursion and the room, from what was computed
-pub prepared : (bs : List ℕ) (places : List Place) {below : ℕ} {room₀ room : List ℕ} {nulls : ℕ} {sets calls : List ℕ}
-    → nulls ≡ nullables (productionsAt bs places) → BothSets nulls (productionsAt bs places) sets calls
-    → room ≡ overwritten (roomBy bs places nulls sets) room₀ → {nonterminal : ℕ} → nonterminal ≡ recursiveBelow below calls
+pub prepared : (bs : List ℕ) (places : List Place) {below : ℕ} {room₀ room : List ℕ} {nulls : ℕ} {reading calling : List ℕ}
+    → NullablesNoted (productionsAt bs places) nulls reading calling → {root kinds : ℕ} → root ≡ rootIn bs → kinds ≡ kindsBy reading calling root
+    → {sets calls : List ℕ} → BothSets nulls (productionsAt bs places) sets calls
+    → room ≡ overwritten (roomBy bs places kinds nulls sets) room₀ → {nonterminal : ℕ} → nonterminal ≡ recursiveBelow below calls
     → Prepared below bs places room₀ room nonterminal
-prepared bs places {room₀ = room₀} {nulls = nulls} en e er el =
+unfolding kindsReached
+prepared bs places en et ek e er el =
     record {
-      recursive = el ∙ rw (e .calls-are, en) refl;
-      held = er ∙ rw (e .kinds-are, en) refl;
+      recursive = el ∙ rw (e .calls-are, en .nullables-are) refl;
+      held = er ∙ rw (ek, et, en .noted .kinds-are, en .noted .calls-are, e .kinds-are, en .nullables-are) refl;
     }
 
 -- an offset in a table that is not too long
@@ -128,6 +142,7 @@ module _ {bs : List ℕ} {below many : ℕ} {owners starts : List ℕ} (bound-in
     holds-entries : HoldsEntries (firstSets (nullables g) g) (map entry places) room
     holds-entries =
         record {
+          kinds = _;
           rest = _;
           held = given-prepared .held;
           few = omega (arith, bound-index .index .few, length-entries entry many owners starts);

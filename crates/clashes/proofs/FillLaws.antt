@@ -49,7 +49,7 @@ owner-small {bs} {all} {owners} {starts} w place h =
 
 -- ------------------------------------------------------------------ the loop
 
-module _ {bs : List ℕ} {all : ℕ} {owners starts sets room₀ : List ℕ} (pre : FillRoom bs all owners starts sets room₀) (nulls : ℕ) where
+module _ {bs : List ℕ} {all : ℕ} {owners starts sets room₀ : List ℕ} (pre : FillRoom bs all owners starts sets room₀) (kinds nulls : ℕ) where
   abbrev entries : List Entry
   entries = map (entryAt bs nulls sets) (placesIn all owners starts)
 
@@ -57,13 +57,13 @@ module _ {bs : List ℕ} {all : ℕ} {owners starts sets room₀ : List ℕ} (pr
   many = length-entries (entryAt bs nulls sets) all owners starts
 
   -- a room that is begun has no entry yet
-  pub fill-start : {room : List ℕ} → room ≡ begun all sets room₀ → Filling sets entries room all room
+  pub fill-start : {room : List ℕ} → room ≡ begun kinds sets room₀ → Filling kinds sets entries room all room
   fill-start {room} e =
-      let f : Filling sets entries (begun all sets room₀) (length entries) (begun all sets room₀) =
-      filling-start sets entries room₀ (omega (arith, many, pre .index .few)) (pre .lent .size) (sym many) in
+      let f : Filling kinds sets entries (begun kinds sets room₀) (length entries) (begun kinds sets room₀) =
+      filling-start kinds sets entries room₀ (omega (arith, many, pre .index .few)) (pre .lent .size) in
       rw e (rw many at f)
 
-  module _ {room₁ : List ℕ} {place : ℕ} {room : List ℕ} (filling : Filling sets entries room₁ place room) (positive : 0 < place) where
+  module _ {room₁ : List ℕ} {place : ℕ} {room : List ℕ} (filling : Filling kinds sets entries room₁ place room) (positive : 0 < place) where
     -- the next entry has room
     pub fill-at : RoomAt (place - 1) (getD owners (place - 1) 0) room
     fill-at =
@@ -78,18 +78,18 @@ module _ {bs : List ℕ} {all : ℕ} {owners starts sets room₀ : List ℕ} (pr
         → {room′ : List ℕ}
         → room′
         ≡ laid (record { nonterminal = getD owners (place - 1) 0; start = getD starts (place - 1) 0; first = found .kinds; nullable = found .nullable })
-        (place - 1) room → Filling sets entries room₁ (place - 1) room′
+        (place - 1) room → Filling kinds sets entries room₁ (place - 1) room′
     fill-next {start} es ef {room′} er =
         let z : 0 + (place - 1) ≡ place - 1 = omega arith in
         let here : entryAt bs nulls sets (placeAt owners starts (place - 1)) ≡ getD entries (place - 1) noEntry =
         sym (map-at (entryAt bs nulls sets) all owners starts 0 (place - 1) (omega (arith, filling .low, many)) ∙ rw z refl) in
-        let f : Filling sets entries room₁ (place - 1) (laid (entryAt bs nulls sets (placeAt owners starts (place - 1))) (place - 1) room) =
+        let f : Filling kinds sets entries room₁ (place - 1) (laid (entryAt bs nulls sets (placeAt owners starts (place - 1))) (place - 1) room) =
         filling-next filling positive here (owner-small (pre .index) (place - 1) (omega (arith, filling .low, many))) in
-        subst (Filling sets entries room₁ (place - 1)) (sym (er ∙ rw (ef, es) refl)) f
+        subst (Filling kinds sets entries room₁ (place - 1)) (sym (er ∙ rw (ef, es) refl)) f
 
   -- with all entries the room is that of the index
-  pub fill-end : {room₁ : List ℕ} → room₁ ≡ begun all sets room₀ → {place : ℕ} {room : List ℕ} → Filling sets entries room₁ place room → place ≤ 0
-      → room ≡ overwritten (roomBy bs (placesIn all owners starts) nulls sets) room₀
+  pub fill-end : {room₁ : List ℕ} → room₁ ≡ begun kinds sets room₀ → {place : ℕ} {room : List ℕ} → Filling kinds sets entries room₁ place room → place ≤ 0
+      → room ≡ overwritten (roomBy bs (placesIn all owners starts) kinds nulls sets) room₀
   fill-end e {place} {room} c h =
-      let f : Filling sets entries (begun all sets room₀) place room = rw e at c in
-      filling-end room₀ all f (omega arith)
+      let f : Filling kinds sets entries (begun kinds sets room₀) place room = rw e at c in
+      filling-end room₀ f (omega arith)

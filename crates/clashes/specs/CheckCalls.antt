@@ -29,9 +29,9 @@ pub record BoundIndex (many : ℕ) (bs : List ℕ) (m : ℕ) (owners starts : Li
   pub index : WholeIndex bs m owners starts
   pub owned : OwnersBelow many m owners
 
--- the room of an index, with given sets, over what was there
-abbrev pub roomFilled : List ℕ → ℕ → List ℕ → List ℕ → ℕ → List ℕ → List ℕ → List ℕ
-roomFilled bs m owners starts nulls sets room = overwritten (roomBy bs (placesIn m owners starts) nulls sets) room
+-- the room of an index, with given kinds and sets, over what was there
+abbrev pub roomFilled : List ℕ → ℕ → List ℕ → List ℕ → ℕ → ℕ → List ℕ → List ℕ → List ℕ
+roomFilled bs m owners starts kinds nulls sets room = overwritten (roomBy bs (placesIn m owners starts) kinds nulls sets) room
 
 -- the lowest left recursive nonterminal, and the room over what was there
 pub record Prepared (many : ℕ) (bs : List ℕ) (places : List Place) (room₀ room : List ℕ) (n : ℕ) : Type 0 where

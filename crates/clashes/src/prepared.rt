@@ -13,9 +13,11 @@ use grammar::limits::EACH_ALTERNATIVE;
 use grammar::limits::EACH_NONTERMINAL;
 use kinds::lowest;
 use productions::index::offset;
+use productions::index::root_of;
 use productions::room::ROOM;
 use productions::room::begin;
 use productions::room::lay;
+use reach::reached_kinds;
 ghost use mathlib.Core.Path.{_≡_};
 ghost use Rattle.answers.specs.Checked.{verdict};
 ghost use Rattle.productions.specs.Index.{placesIn};
@@ -24,22 +26,23 @@ ghost use Rattle.firsts.specs.SetCalls.{OwnersBelow};
 ghost use Rattle.firsts.specs.Room.{WholeIndex};
 ghost use Rattle.clashes.specs.CheckCalls.{roomFilled, FillRoom, OwnersSmall, BoundIndex, Prepared, FirstsChecked};
 
-// Writes the room of a grammar with these nullable nonterminals and first sets. The productions are laid from the last to the first, so
+// Writes the room of a grammar with these reached kinds, nullable nonterminals and first sets. The productions are laid from the last to the first, so
 // that each finds the next one of its nonterminal.
 fn fill(
     table: &[u8],
     owners: &[u8; EACH_ALTERNATIVE],
     starts: &[u16; EACH_ALTERNATIVE],
     m: usize,
+    kinds: u64,
     nulls: u64,
     sets: &[u64],
     room: &mut [u64],
 )
     requires { ⌜ FillRoom (now table) m (now owners) (now starts) (now sets) (now room) ⌝ }
     ensures { λ r. ⌜ now (room .exit)
-        ≡ roomFilled (now (table .entry)) m (now (owners .entry)) (now (starts .entry)) nulls (now (sets .entry)) (now (room .entry)) ⌝ }
+        ≡ roomFilled (now (table .entry)) m (now (owners .entry)) (now (starts .entry)) kinds nulls (now (sets .entry)) (now (room .entry)) ⌝ }
 {
-    begin(room, m, sets);
+    begin(room, kinds, sets);
     let mut j = m;
     while 0 < j {
         j -= 1;
@@ -82,11 +85,12 @@ fn prepare(
     requires { ⌜ BoundIndex many (now table) m (now owners) (now starts) ⌝ }
     ensures { λ r. ⌜ Prepared many (now (table .entry)) (placesIn m (now (owners .entry)) (now (starts .entry))) (now (room .entry)) (now (room .exit)) r ⌝ }
 {
-    let nulls = nullables(table, owners, starts, m);
     let mut sets = [0u64; EACH_NONTERMINAL];
     let mut calls = [0u64; EACH_NONTERMINAL];
+    let nulls = nullables(table, owners, starts, m, &mut sets, &mut calls);
+    let kinds = reached_kinds(&sets, &calls, root_of(table));
     sets_of(table, owners, starts, m, many, nulls, &mut sets, &mut calls);
-    fill(table, owners, starts, m, nulls, &sets, room);
+    fill(table, owners, starts, m, kinds, nulls, &sets, room);
     left_recursive(&calls, many)
 }
 

@@ -6,7 +6,8 @@
 -- (⟨s, i⟩ p ⇒ ⟨s', i'⟩ v), or items in sequence, calls among them (M ⊢ ⟨s, i⟩ x1 = p1 .. xk = pk ⇒ ⟨s', i'⟩ M').
 --
 -- Document 01 changes: of two alternatives only the one taken derives (`Taken`); a number is read; an outside name may be a Label; a Binder
--- may stand where Var is asked; global(x) gives an outside name, told apart from a formula's x_Var; K is all keywords of the table.
+-- may stand where Var is asked; global(x) gives an outside name, told apart from a formula's x_Var. K(g), as document 02, C-13, has it, is the keywords
+-- that occur in alternatives that the root reaches by calls (`lexiconOfTable`, checker/specs/Keywords).
 -- `wrong`, the paper's result for an unbound variable or an undefined nonterminal, is no value here: nothing is derived in its place. That
 -- a well sorted production never meets it is a theorem (`never-wrong`, `call-never-wrong`, `productions-sorted` on the page of the demands).
 use Prim.Native.Nat.{ℕ, suc, _+_}

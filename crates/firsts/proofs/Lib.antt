@@ -4,6 +4,7 @@ pub mod EqualSets
 pub mod FirstSetsExactly
 pub mod FirstsTheorems
 pub mod ItemsLaws
+pub mod MentionLaws
 pub mod NeedsLaws
 pub mod NullablesExactly
 pub mod Rounds

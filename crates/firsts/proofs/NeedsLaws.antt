@@ -6,7 +6,7 @@ use mathlib.Core.Logic.{⊎-elim, dite}
 use mathlib.Core.List.{List, [], _∷_}
 use native.Mathlib.Decide.{decLt}
 use native.Mathlib.Omega.{arith}
-use lib.Bits.{bitOr}
+use lib.Bits.{bitOr, or-zero-r}
 use lib.Dec.{eqb}
 use lib.ListN.{length, getD, set, replicate, length-set, length-replicate}
 use lib.Seq.{getD-set-same, getD-set-other}
@@ -19,8 +19,9 @@ use Rattle.productions.specs.Normal.{Production}
 use Rattle.productions.specs.Index.{itemsOf, productionAt, productionsBy}
 use Rattle.firsts.specs.declared.Gathered.{Gathered}
 use Rattle.firsts.specs.FirstSets.{callOf, rounds, overAll, isNullable, allNullable, nullStep, nullables, gather}
-use Rattle.firsts.specs.SetCalls.{joinedIf, gathered}
-use Rattle.firsts.specs.Needs.{everyOne, Nonterminals, needStep, needPass, needRound, stepPlace, NeedsLent, NeedsHeld}
+use Rattle.firsts.specs.SetCalls.{joinedIf}
+use Rattle.firsts.specs.Mentions.{mentioned}
+use Rattle.firsts.specs.Needs.{everyOne, mentionedAll, Nonterminals, needStep, needPass, needRound, stepPlace, NeedsLent, NeedsHeld}
 use Rattle.firsts.proofs.Rounds.{nothing, count, count-le, grows, or-left, or-right, or-split}
 use Rattle.firsts.proofs.NullablesExactly.{nullable-exactly, nullables-settled}
 use Rattle.firsts.proofs.FirstSetsExactly.{firstIn, given, items-seen, only-has}
@@ -163,7 +164,17 @@ by-cases : (owner nulls : ℕ) (test : Bool) → joinedIf test nulls (only owner
 by-cases owner nulls true = refl
 by-cases owner nulls false = refl
 
-module _ (bs : List ℕ) (owner start : ℕ) {found : Gathered} (ef : found ≡ gathered everyOne [] [] (itemsOf (fieldsAt bs start))) where
+-- where all items are locals and calls, what they mention is what they need
+mentioned-needs : (is : List Item) (found : ℕ) → allNullable everyOne is ≡ true → mentioned callOf is found ≡ gather callOf everyOne [] is found
+unfolding mentioned gather allNullable
+mentioned-needs [] found e = refl
+mentioned-needs (terminal t ∷ is) found e = absurd (false≢true e)
+mentioned-needs (local ∷ is) found e = rw (or-zero-r (bitOr found 0)) (mentioned-needs is (bitOr found 0) e)
+mentioned-needs (call n ts ∷ is) found e =
+    let p = and-eq-true-iff (hasKind everyOne n) (allNullable everyOne is) .0 e in
+    rw (p .0, gather, or-zero-r (bitOr found (only n))) (mentioned-needs is (bitOr found (only n)) (p .1))
+
+module _ (bs : List ℕ) (owner start : ℕ) {found : Gathered} (ef : found ≡ mentionedAll (itemsOf (fieldsAt bs start))) where
   abbrev items : List Item
   items = itemsOf (fieldsAt bs start)
 
@@ -171,7 +182,7 @@ module _ (bs : List ℕ) (owner start : ℕ) {found : Gathered} (ef : found ≡ 
   pub held-step : found .nullable ≡ true → (nulls : ℕ) → needStep owner (found .calls) nulls ≡ nullStep (productionAt bs owner start) nulls
   unfolding nullStep productionAt
   held-step e nulls =
-      rw (ef, test-is items (rw ef at e) nulls) (by-cases owner nulls (allNullable nulls items))
+      rw (ef, mentioned-needs items 0 (rw ef at e), test-is items (rw ef at e) nulls) (by-cases owner nulls (allNullable nulls items))
 
   -- one that is not held never is
   pub other-step : found .nullable ≡ false → {nulls : ℕ} → Nonterminals nulls → nulls ≡ nullStep (productionAt bs owner start) nulls
@@ -243,7 +254,7 @@ module _ {bs owners starts : List ℕ} {many : ℕ} {whose₀ needs₀ : List �
   holding-needs h = omega (arith, holding .few, holding .lent .needs-many)
 
   module _ (below : turn < many) {owner start : ℕ} (eo : owner ≡ getD owners turn 0) (es : start ≡ getD starts turn 0) {found : Gathered}
-      (ef : found ≡ gathered everyOne [] [] (itemsOf (fieldsAt bs start))) where
+      (ef : found ≡ mentionedAll (itemsOf (fieldsAt bs start))) where
     -- a production that is held
     pub holding-held : found .nullable ≡ true → Holding bs owners starts many whose₀ needs₀ (total + 1) (turn + 1) (set whose total owner)
         (set needs total (found .calls))

@@ -1,4 +1,6 @@
 pub mod FirstSets
+pub mod Mentions
+pub mod Reach
 pub mod Rules
 pub mod Patterns
 pub mod Room

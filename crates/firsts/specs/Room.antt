@@ -1,5 +1,5 @@
--- What the room of a table holds, for any bytes: the productions in it, with their first sets and nullability. The room mirrors code:
--- nobody needs it to believe `expand`.
+-- What the room of a table holds, for any bytes: the productions in it, with their first sets and nullability, and the kinds that are reached. The
+-- room mirrors code: nobody needs it to believe `expand`.
 use Prim.Native.Nat.{ℕ, _≤_}
 use mathlib.Core.Path.{_≡_}
 use mathlib.Core.Bool.{true}
@@ -9,9 +9,10 @@ use Rattle.grammar.specs.Limits.{most}
 use Rattle.grammar.specs.Lookup.{fieldsAt}
 use Rattle.decoding.specs.Within.{Each}
 use Rattle.productions.specs.Normal.{Production}
-use Rattle.productions.specs.Index.{itemsOf, Place, placesOf, productionsAt, wholeBody, placesIn, Whole}
+use Rattle.productions.specs.Index.{itemsOf, Place, placesOf, productionsAt, rootIn, wholeBody, placesIn, Whole}
 use Rattle.productions.specs.Room.{Entry, roomOf}
 use Rattle.firsts.specs.FirstSets.{nullables, firstSets, allNullable, openingOf, gather}
+use Rattle.firsts.specs.Reach.{kindsReached}
 
 -- a production at a place, with the sets of its grammar
 abbrev pub entryAt : List ℕ → ℕ → List ℕ → Place → Entry
@@ -23,17 +24,18 @@ entryAt bs nulls sets p =
       nullable = allNullable nulls (itemsOf (fieldsAt bs (p .start)));
     }
 
-abbrev pub roomBy : List ℕ → List Place → ℕ → List ℕ → List ℕ
-roomBy bs places nulls sets = roomOf sets (map (entryAt bs nulls sets) places)
+abbrev pub roomBy : List ℕ → List Place → ℕ → ℕ → List ℕ → List ℕ
+roomBy bs places kinds nulls sets = roomOf kinds sets (map (entryAt bs nulls sets) places)
 
 -- the productions of a table's bytes
 abbrev pub productionsIn : List ℕ → List Production
 productionsIn bs = productionsAt bs (placesOf bs)
 
--- the room of the productions at places
+-- the room of the productions at places, with the kinds that are reached from the table's root
 abbrev pub grammarRoom : List ℕ → List Place → List ℕ
 grammarRoom bs places =
-    roomBy bs places (nullables (productionsAt bs places)) (firstSets (nullables (productionsAt bs places)) (productionsAt bs places))
+    roomBy bs places (kindsReached (productionsAt bs places) (rootIn bs)) (nullables (productionsAt bs places))
+    (firstSets (nullables (productionsAt bs places)) (productionsAt bs places))
 
 -- the room of a table's bytes
 unfoldable pub tableRoom : List ℕ → List ℕ

@@ -18,7 +18,7 @@ ghost use Rattle.firsts.specs.SetCalls.{StepTaken, RoundTaken, BothSets,
 ghost use Rattle.productions.specs.Index.{productionAt, productionsBy};
 
 // Joins what was found to the set of nonterminal n.
-fn join_at(sets: &mut [u64], n: u8, found: u64)
+pub(crate) fn join_at(sets: &mut [u64], n: u8, found: u64)
     ensures { λ r. ⌜ now (sets .exit) ≡ set (now (sets .entry)) n (bitOr (getD (now (sets .entry)) n 0) found) ⌝ }
 {
     let i = n as usize;

@@ -7,7 +7,6 @@ use native.Mathlib.Omega.{arith}
 use lib.ListN.{length, getD}
 use Rattle.grammar.specs.Limits.{most}
 use Rattle.spellings.specs.Bytes.{isWord}
-use Rattle.grammar.specs.Table.{Lexicon}
 use Rattle.grammar.specs.Lookup.{lexiconOf}
 use Rattle.decoding.specs.Within.{Each, each-none, each-more, Different, different-none, different-more, Among}
 use Rattle.decoding.proofs.Split.{Bytes}
@@ -31,7 +30,7 @@ use Rattle.soundness.specs.Places.{Supplied, supplied-word, supplied-outside}
 use Rattle.soundness.proofs.Normalizing as normalizing
 use Rattle.checker.specs.Syntax.{syntaxOf}
 use Rattle.checker.specs.Passes.{Passes}
-use Rattle.parser.proofs.Joining.{lexicon-passed}
+use Rattle.parser.proofs.Joining.{outsides-passed}
 
 -- ------------------------------------------------------------------ lists
 
@@ -40,8 +39,8 @@ each-at each-none index default l = absurd (omega arith)
 each-at (each-more h hs) zero default l = h
 each-at (each-more h hs) (suc index) default l = each-at hs index default (omega arith)
 
--- different spellings stand once each
-different-once : {words : List (List ℕ)} → Different words → Once words
+-- Different spellings stand once each.
+pub different-once : {words : List (List ℕ)} → Different words → Once words
 different-once different-none i j a b e = absurd (omega arith)
 different-once (different-more h d) zero zero a b e = refl
 different-once (different-more h d) zero (suc j) a b e = absurd (each-at h j [] (omega arith) e)
@@ -102,7 +101,7 @@ module _ (bs : List ℕ) (bytes : Bytes bs) (passes : Passes bs) where
   -- An outside name fits the room of a spelling.
   pub outsides-fit : (number : ℕ) → length (oneOf (lexiconOf bs .outsides) number) < spellingRoom
   outsides-fit number =
-      rw (lexicon-passed bytes passes) (short-words (passes .table .outsides) (λ i l. each-at (passes .within .outsides) i [] l) number)
+      rw (outsides-passed bytes passes) (short-words (passes .table .outsides) (λ i l. each-at (passes .within .outsides) i [] l) number)
 
   module _ (formula words : List ℕ) {many count : ℕ} (answered : scan (syntaxOf (passes .table) .lexicon) formula .answer ≡ Tokens many count)
       (words-are : wordsIn formula words count ≡ scan (syntaxOf (passes .table) .lexicon) formula .words) where
@@ -120,7 +119,8 @@ module _ (bs : List ℕ) (bytes : Bytes bs) (passes : Passes bs) where
     pub spelled-by : spelledBy bs formula words count ≡ spelled (syntaxOf (passes .table) .lexicon) (scan (syntaxOf (passes .table) .lexicon) formula .words)
     spelled-by =
         spelled-lists bs formula words (scan (syntaxOf (passes .table) .lexicon) formula .words) words-list
-        ∙ ap (λ (l : Lexicon). spelled l (scan (syntaxOf (passes .table) .lexicon) formula .words)) (lexicon-passed bytes passes)
+        ∙ ap (λ (names : List (List ℕ)). spelled (record { keywords = []; outsides = names }) (scan (syntaxOf (passes .table) .lexicon) formula .words))
+        (outsides-passed bytes passes)
 
     -- So has a word of the formula.
     pub words-fit : (index : ℕ) → index < count → length (spanned formula words index) < spellingRoom

@@ -1,6 +1,6 @@
 -- Laws of entering a table's keywords and outside names.
 use Prim.Native.Nat.{ℕ, suc, _+_, _-_, _*_, _^_, _<_, _≤_}
-use mathlib.Core.Path.{_≡_, refl, sym, ap, _∙_}
+use mathlib.Core.Path.{_≡_, refl, sym, ap, ap₂, _∙_}
 use mathlib.Core.List.{List, [], _∷_, _++_, append-assoc, append-nil}
 use native.Mathlib.Nat.{add-zero}
 use native.Mathlib.Omega.{arith}
@@ -16,8 +16,13 @@ use Rattle.grammar.specs.Lookup.{leading, afterLeading, lexiconOf, frontOf, fie
 use Rattle.grammar.specs.declared.Found.{Found}
 use Rattle.grammar.specs.declared.Found.the-variants.{At, Absent}
 use Rattle.grammar.specs.Found.{foundIn}
-use Rattle.kinds.specs.Kinds.{keywordKind, noKind}
-use Rattle.grammar.proofs.LookupLaws.{Stops, front-inside, fields-at, found-nil, found-here, found-later, keywords-at, outsides-at, few-keywords}
+use Rattle.kinds.specs.Kinds.{keywordKind, noKind, hasKind}
+use mathlib.Core.Bool.{Bool, true, false}
+use Rattle.keywords.specs.KeptSpellings.{spellingsKept}
+use Rattle.keywords.specs.KeptSizes.{keptIf, keptSize}
+use Rattle.keywords.proofs.KeptLaws.{kept-none, kept-one, kept-many}
+use Rattle.lexicon.specs.LexiconRoom.{lexiconBy}
+use Rattle.grammar.proofs.LookupLaws.{Stops, front-inside, fields-at, found-nil, found-here, found-later, keywords-at, outsides-at, few-keywords, few-outsides}
 use Rattle.grammar.specs.Limits.{most}
 use Rattle.lexicon.specs.Places.{wordsFrom, wordsIn}
 use Rattle.lexicon.specs.Trees.{Planted, Searched, Linkable, linksWith}
@@ -83,7 +88,7 @@ module _ (table : List ℕ) (at tag : ℕ) where
   leading-goes found size e h = ap (leading tag) (fields-at table at e) ∙ rw (eq-eqb found tag h, leading) refl
 
 -- the fields before the offset `at` are entered, spelling `first` to `entries`
-pub record Entering (table room₀ : List ℕ) (start tag most first : ℕ) (room links : List ℕ) (at entries : ℕ) : Type 0 where
+pub record Entering (every : Bool) (kinds : ℕ) (table room₀ : List ℕ) (start tag most first : ℕ) (room links : List ℕ) (at entries : ℕ) : Type 0 where
   -- offsets of the table are 32-bit numbers
   pub short : length table < 2 ^ 32
   -- the rooms hold the most that may be entered
@@ -98,14 +103,15 @@ pub record Entering (table room₀ : List ℕ) (start tag most first : ℕ) (roo
   pub behind : SameBehind room₀ room
   -- the spellings entered and those of the fields left are those asked for
   pub rest :
-      wordsIn table room entries ++ take (first + most - entries) (leading tag (fieldsAt table at))
-      ≡ wordsIn table room₀ first ++ take most (leading tag (fieldsAt table start))
+      wordsIn table room entries ++ keptIf every kinds (entries - first) (take (first + most - entries) (leading tag (fieldsAt table at)))
+      ≡ wordsIn table room₀ first ++ keptIf every kinds 0 (take most (leading tag (fieldsAt table start)))
 
 -- no field is entered yet
-pub entering-start : {table room links : List ℕ} {start tag most first : ℕ} → Enters table room links first most
-    → Entering table room start tag most first room links start first
-entering-start {table} {room} {start = start} {tag = tag} {most = most} {first = first} c =
+pub entering-start : (every : Bool) (kinds : ℕ) {table room links : List ℕ} {start tag most first : ℕ} → Enters table room links first most
+    → Entering every kinds table room start tag most first room links start first
+entering-start every kinds {table} {room} {start = start} {tag = tag} {most = most} {first = first} c =
     let z : first + most - first ≡ most = omega arith in
+    let y : first - first ≡ 0 = omega arith in
     record {
       short = c .short;
       enough = c .enough;
@@ -116,11 +122,13 @@ entering-start {table} {room} {start = start} {tag = tag} {most = most} {first =
       rest = cc;
     }
 
-module _ {table room₀ : List ℕ} {start tag most first : ℕ} {room links : List ℕ} {at entries : ℕ}
-    (entering : Entering table room₀ start tag most first room links at entries) where
+module _ {every : Bool} {kinds : ℕ} {table room₀ : List ℕ} {start tag most first : ℕ} {room links : List ℕ} {at entries : ℕ}
+    (entering : Entering every kinds table room₀ start tag most first room links at entries) where
   entered : take (first + most - entries) (leading tag (fieldsAt table at)) ≡ []
-      → SpellingsEntered table room₀ room links entries (wordsIn table room₀ first ++ take most (leading tag (fieldsAt table start)))
+      → SpellingsEntered table room₀ room links entries (wordsIn table room₀ first ++ keptIf every kinds 0 (take most (leading tag (fieldsAt table start))))
   entered z =
+      let left : keptIf every kinds (entries - first) (take (first + most - entries) (leading tag (fieldsAt table at))) ≡ []
+      = ap (keptIf every kinds (entries - first)) z ∙ kept-none every kinds (entries - first) in
       record {
         few = omega (arith, entering .upto, entering .enough);
         listed = cc (append-nil (wordsIn table room entries), entering .rest);
@@ -130,29 +138,35 @@ module _ {table room₀ : List ℕ} {start tag most first : ℕ} {room links : L
 
   -- at a field of another tag, a cut one or none, all are entered
   pub entering-stop : (front : Front) → front ≡ frontOf (drop at table) → Stops tag front
-      → SpellingsEntered table room₀ room links entries (wordsIn table room₀ first ++ take most (leading tag (fieldsAt table start)))
+      → SpellingsEntered table room₀ room links entries (wordsIn table room₀ first ++ keptIf every kinds 0 (take most (leading tag (fieldsAt table start))))
   entering-stop front f h =
       entered (ap (take (first + most - entries)) (leading-stop table at tag front f h) ∙ take-nil (first + most - entries))
 
   -- where no more may be entered, all that count are
   pub entering-end : first + most ≤ entries
-      → SpellingsEntered table room₀ room links entries (wordsIn table room₀ first ++ take most (leading tag (fieldsAt table start)))
+      → SpellingsEntered table room₀ room links entries (wordsIn table room₀ first ++ keptIf every kinds 0 (take most (leading tag (fieldsAt table start))))
   entering-end h =
       let z : first + most - entries ≡ 0 = omega arith in
       entered (cc)
 
   -- one more field's spelling is entered
   pub entering-next : entries < first + most → {found size : ℕ} → Field found size ≡ frontOf (drop at table) → found ≡ tag → {room′ links′ : List ℕ}
-      → room′ ≡ placedAt room entries (at + 3) size
+      → {kept : ℕ} → kept ≡ keptSize every kinds (entries - first) size
+      → room′ ≡ placedAt room entries (at + 3) kept
       → Spelled table room′ links′ (entries + 1)
-      → Entering table room₀ start tag most first room′ links′ (at + 3 + size) (entries + 1)
-  entering-next h {found} {size} f tagged {room′} er k =
-      let w : wordsIn table room′ (entries + 1) ≡ wordsIn table room entries ++ (take size (drop (at + 3) table) ∷ [])
-      = cc (words-added table room entries (at + 3) size (omega (arith, entering .enough, entering .spelled .long))) in
+      → Entering every kinds table room₀ start tag most first room′ links′ (at + 3 + size) (entries + 1)
+  entering-next h {found} {size} f tagged {room′} {kept = kept} ek er k =
+      let w : wordsIn table room′ (entries + 1) ≡ wordsIn table room entries ++ (take kept (drop (at + 3) table) ∷ [])
+      = cc (words-added table room entries (at + 3) kept (omega (arith, entering .enough, entering .spelled .long))) in
       let z : first + most - entries ≡ suc (first + most - (entries + 1)) = omega arith in
       let rest : List (List ℕ) = take (first + most - (entries + 1)) (leading tag (fieldsAt table (at + 3 + size))) in
       let one : take (first + most - entries) (leading tag (fieldsAt table at)) ≡ take size (drop (at + 3) table) ∷ rest
       = cc (leading-goes table at tag found size f tagged) in
+      let y : entries + 1 - first ≡ suc (entries - first) = omega (arith, entering .from) in
+      let both : keptIf every kinds (entries - first) (take (first + most - entries) (leading tag (fieldsAt table at)))
+      ≡ take kept (drop (at + 3) table) ∷ keptIf every kinds (entries + 1 - first) rest
+      = ap (keptIf every kinds (entries - first)) one ∙ kept-one every kinds (entries - first) size (drop (at + 3) table) rest
+      ∙ ap₂ (λ (a b : ℕ). take a (drop (at + 3) table) ∷ keptIf every kinds b rest) (sym ek) (sym y) in
       record {
         short = entering .short;
         enough = entering .enough;
@@ -162,13 +176,15 @@ module _ {table room₀ : List ℕ} {start tag most first : ℕ} {room links : L
         behind =
             λ i l.
             cc (
-              place-stored room (entries * 2) (at + 3) size,
-              getD-set-other (set room (entries * 2) (at + 3)) (entries * 2 + 1) i size 0 (λ q. omega (arith, q, entering .enough)),
+              place-stored room (entries * 2) (at + 3) kept,
+              getD-set-other (set room (entries * 2) (at + 3)) (entries * 2 + 1) i kept 0 (λ q. omega (arith, q, entering .enough)),
               getD-set-other room (entries * 2) i (at + 3) 0 (λ q. omega (arith, q, entering .enough)),
               entering .behind i l,
             );
         rest =
-            cc (append-assoc (wordsIn table room entries) (take size (drop (at + 3) table) ∷ []) rest, entering .rest);
+            ap (λ (vs : List (List ℕ)). vs ++ keptIf every kinds (entries + 1 - first) rest) w
+            ∙ append-assoc (wordsIn table room entries) (take kept (drop (at + 3) table) ∷ []) (keptIf every kinds (entries + 1 - first) rest)
+            ∙ ap (λ (vs : List (List ℕ)). wordsIn table room entries ++ vs) (sym both) ∙ entering .rest;
       }
 
   -- what it asks to enter one more
@@ -322,7 +338,7 @@ blank =
       unlinked = zeros treeSize;
     }
 
-module _ {table room₀ links₀ : List ℕ} (given-blank : Blank room₀ links₀) (short : length table < 2 ^ 32) where
+module _ (kinds : ℕ) {table room₀ links₀ : List ℕ} (given-blank : Blank room₀ links₀) (short : length table < 2 ^ 32) where
   -- blank rooms have room for all keywords
   pub first-enters : Enters table room₀ links₀ 0 (most .keywords)
   unfolding wordsFrom
@@ -335,17 +351,20 @@ module _ {table room₀ links₀ : List ℕ} (given-blank : Blank room₀ links�
 
   module _ {room₁ links₁ : List ℕ} {number : ℕ}
       (spellings-entered₁ : SpellingsEntered table room₀ room₁ links₁ number
-      (wordsIn table room₀ 0 ++ take (most .keywords) (leading 1 (fieldsAt table 0)))) where
-    keywords-listed : wordsIn table room₁ number ≡ lexiconOf table .keywords
+      (wordsIn table room₀ 0 ++ keptIf false kinds 0 (take (most .keywords) (leading 1 (fieldsAt table 0))))) where
+    keywords-listed : wordsIn table room₁ number ≡ lexiconBy kinds table .keywords
     unfolding wordsFrom
-    keywords-listed = spellings-entered₁ .listed ∙ sym (keywords-at table)
+    keywords-listed = spellings-entered₁ .listed ∙ ap (spellingsKept kinds 0) (sym (keywords-at table))
 
-    keywords-counted : number ≡ length (lexiconOf table .keywords)
+    keywords-few : length (lexiconBy kinds table .keywords) ≤ most .keywords
+    keywords-few = omega (arith, kept-many kinds 0 (lexiconOf table .keywords), few-keywords table)
+
+    keywords-counted : number ≡ length (lexiconBy kinds table .keywords)
     keywords-counted = sym (words-length number table room₁ 0) ∙ ap length keywords-listed
 
     -- the keywords entered are no more than there may be
     pub few-marks : number ≤ most .keywords
-    few-marks = omega (arith, keywords-counted, few-keywords table)
+    few-marks = omega (arith, keywords-counted, keywords-few)
 
     -- after the keywords are entered no symbol has a kind yet
     pub still-unmarked : Unmarked room₁
@@ -367,7 +386,7 @@ module _ {table room₀ links₀ : List ℕ} (given-blank : Blank room₀ links�
 
       module _ (names : ℕ) (equal : fieldsAt table names ≡ afterLeading 1 (fieldsAt table 0)) {room₃ links₃ : List ℕ} {total : ℕ}
           (spellings-entered₂ : SpellingsEntered table room₂ room₃ links₃ total
-          (wordsIn table room₂ number ++ take (most .outsides) (leading 2 (fieldsAt table names))))
+          (wordsIn table room₂ number ++ keptIf true 0 0 (take (most .outsides) (leading 2 (fieldsAt table names)))))
         where
           room₄ : List ℕ
           room₄ = set (set room₃ keywordCountAt number) spellingCountAt total
@@ -392,24 +411,26 @@ module _ {table room₀ links₀ : List ℕ} (given-blank : Blank room₀ links�
           spelling-count = getD-set-same (set room₃ keywordCountAt number) spellingCountAt total 0
               (omega (arith, long₃, length-set room₃ keywordCountAt number))
 
-          listed₃ : wordsIn table room₃ total ≡ lexiconOf table .keywords ++ lexiconOf table .outsides
+          listed₃ : wordsIn table room₃ total ≡ lexiconBy kinds table .keywords ++ lexiconBy kinds table .outsides
           listed₃ =
               cc (spellings-entered₂ .listed, same-keywords, keywords-listed, outsides-at table names equal)
 
           listed₄ : wordsIn table room₄ total ≡ wordsIn table room₃ total
           listed₄ = words-alike total table room₃ room₄ 0 (λ j l. before₄ j (omega (arith, spellings-entered₂ .few)))
 
-          symbols₄ : (byte : ℕ) → byte < symbolEnd → getD room₄ (symbolsAt + byte) 0 ≡ kindFrom 0 (lexiconOf table .keywords) (byte ∷ [])
+          symbols₄ : (byte : ℕ) → byte < symbolEnd → getD room₄ (symbolsAt + byte) 0 ≡ kindFrom 0 (lexiconBy kinds table .keywords) (byte ∷ [])
           symbols₄ byte l =
               cc (before₄ (symbolsAt + byte) (omega arith), spellings-entered₂ .behind (symbolsAt + byte) (omega arith), marked .0 byte l, keywords-listed)
 
-          lexical₄ : Lexical table room₄ links₃
+          lexical₄ : Lexical (lexiconBy kinds table) table room₄ links₃
           unfolding room₄
           lexical₄ =
-              let lex : Lexicon = lexiconOf table in
+              let lex : Lexicon = lexiconBy kinds table in
               record {
                 long = length-set (set room₃ keywordCountAt number) spellingCountAt total ∙ length-set room₃ keywordCountAt number ∙ long₃;
                 wide = spellings-entered₂ .spelled .wide;
+                few-keywords = keywords-few;
+                few-outsides = few-outsides table;
                 keywords = keyword-count ∙ keywords-counted;
                 spellings =
                     spelling-count ∙ sym (words-length total table room₃ 0) ∙ ap length listed₃ ∙ length-append (lex .keywords) (lex .outsides);
@@ -419,6 +440,6 @@ module _ {table room₀ links₀ : List ℕ} (given-blank : Blank room₀ links�
               }
 
           -- with both counts stored, the rooms hold the table's lexicon
-          pub lexical : Lexical table (set (set room₃ keywordCountAt number) spellingCountAt total) links₃
+          pub lexical : Lexical (lexiconBy kinds table) table (set (set room₃ keywordCountAt number) spellingCountAt total) links₃
           unfolding room₄
           lexical = lexical₄

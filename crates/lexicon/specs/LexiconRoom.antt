@@ -3,11 +3,13 @@
 use Prim.Native.Nat.{ℕ, _+_, _*_, _^_, _<_, _≤_}
 use mathlib.Core.Path.{_≡_}
 use mathlib.Core.List.{List, [], _∷_, _++_}
-use lib.ListN.{length, getD, drop}
+use lib.ListN.{length, getD, take, drop}
 use Rattle.grammar.specs.declared.Found.the-variants.{At, Absent}
 use Rattle.grammar.specs.Limits.{most}
+use Rattle.grammar.specs.Table.{Lexicon}
 use Rattle.grammar.specs.Lookup.{lexiconOf}
 use Rattle.grammar.specs.Found.{foundIn}
+use Rattle.keywords.specs.KeptSpellings.{spellingsKept}
 use Rattle.kinds.specs.Kinds.{keywordKind, noKind}
 use Rattle.lexicon.specs.Places.{wordsIn}
 use Rattle.lexicon.specs.Trees.{SearchTree}
@@ -93,12 +95,30 @@ pub record Blank (room links : List ℕ) : Type 0 where
   pub unmarked : Unmarked room
   pub unlinked : (i : ℕ) → getD links i 0 ≡ 0
 
--- the rooms hold the lexicon of a table
-pub record Lexical (table room links : List ℕ) : Type 0 where
+-- the keywords and outside names that any bytes begin with, where only keywords among some kinds count
+abbrev pub lexiconBy : ℕ → List ℕ → Lexicon
+lexiconBy kinds bs = record { keywords = spellingsKept kinds 0 (lexiconOf bs .keywords); outsides = lexiconOf bs .outsides }
+
+-- the rooms hold a lexicon whose spellings stand in a table
+pub record Lexical (lex : Lexicon) (table room links : List ℕ) : Type 0 where
   pub long : length room ≡ lexiconSize
   pub wide : length links ≡ treeSize
-  pub keywords : getD room keywordCountAt 0 ≡ length (lexiconOf table .keywords)
-  pub spellings : getD room spellingCountAt 0 ≡ length (lexiconOf table .keywords) + length (lexiconOf table .outsides)
-  pub spelled : wordsIn table room (getD room spellingCountAt 0) ≡ lexiconOf table .keywords ++ lexiconOf table .outsides
-  pub symbols : (b : ℕ) → b < symbolEnd → getD room (symbolsAt + b) 0 ≡ kindFrom 0 (lexiconOf table .keywords) (b ∷ [])
-  pub tree : SearchTree treeMask (lexiconOf table .keywords ++ lexiconOf table .outsides) links
+  pub few-keywords : length (lex .keywords) ≤ most .keywords
+  pub few-outsides : length (lex .outsides) ≤ most .outsides
+  pub keywords : getD room keywordCountAt 0 ≡ length (lex .keywords)
+  pub spellings : getD room spellingCountAt 0 ≡ length (lex .keywords) + length (lex .outsides)
+  pub spelled : wordsIn table room (getD room spellingCountAt 0) ≡ lex .keywords ++ lex .outsides
+  pub symbols : (b : ℕ) → b < symbolEnd → getD room (symbolsAt + b) 0 ≡ kindFrom 0 (lex .keywords) (b ∷ [])
+  pub tree : SearchTree treeMask (lex .keywords ++ lex .outsides) links
+
+-- the lexicon that rooms hold: what a scan by these rooms goes by
+abbrev pub lexiconIn : List ℕ → List ℕ → Lexicon
+lexiconIn table room =
+    record {
+      keywords = take (getD room keywordCountAt 0) (wordsIn table room (getD room spellingCountAt 0));
+      outsides = drop (getD room keywordCountAt 0) (wordsIn table room (getD room spellingCountAt 0));
+    }
+
+-- so the rooms hold the lexicon that they have
+abbrev pub LexicalIn : List ℕ → List ℕ → List ℕ → Type 0
+LexicalIn table room links = Lexical (lexiconIn table room) table room links

@@ -1,6 +1,6 @@
 -- What the promises of check, scan and run come to, joined.
 use Prim.Native.Nat.{ℕ, _*_, _≤_}
-use mathlib.Core.Path.{_≡_, sym, _∙_}
+use mathlib.Core.Path.{_≡_, refl, sym, ap, _∙_}
 use mathlib.Core.List.{List}
 use lib.ListN.{length, take}
 use Rattle.grammar.specs.Limits.{most}
@@ -14,7 +14,11 @@ use Rattle.decoding.proofs.LayoutTheorems.{decode-exactly}
 use Rattle.decoding.proofs.DecodedLexicon.{lexicon-decoded}
 use Rattle.decoding.proofs.Inverse.{decoded-layout}
 use Rattle.decoding.specs.Within.{Each}
-use Rattle.productions.specs.Index.{Place, placesOf}
+use Rattle.lexicon.specs.LexiconRoom.{lexiconBy}
+use Rattle.productions.specs.Index.{Place, placesOf, rootIn}
+use Rattle.productions.specs.Room.{roomOf, kindsIn}
+use Rattle.firsts.specs.Reach.{kindsReached}
+use Rattle.firsts.specs.Room.{productionsIn, tableRoom, HoldsGrammar}
 use Rattle.tokens.specs.declared.Scanned.{Scanned}
 use Rattle.tokens.specs.declared.Scanned.the-variants.{Tokens, Unscanned}
 use Rattle.scanner.specs.Rooms.{Filled, filled, scanInto, RoomFor}
@@ -64,37 +68,52 @@ module _ {bs : List ℕ} (bytes : Bytes bs) where
     abbrev few : length (lex .outsides) ≤ most .outsides
     few = passes .within .outsideCount
 
-    -- The scanner finds the keywords and outside names of a passed table in its bytes.
-    pub lexicon-passed : lexiconOf bs ≡ lex
-    lexicon-passed = lexicon-decoded bs (passes .table) (decode-exactly bs bytes (passes .table) .1 (passes .encoded, passes .within))
+    spellings : lexiconOf bs ≡ record { keywords = passes .table .keywords; outsides = passes .table .outsides }
+    spellings = lexicon-decoded bs (passes .table) (decode-exactly bs bytes (passes .table) .1 (passes .encoded, passes .within))
+
+    -- The outside names of a passed table stand in its bytes.
+    pub outsides-passed : lexiconOf bs .outsides ≡ lex .outsides
+    outsides-passed = ap (λ (l : Lexicon). l .outsides) spellings
+
+    module _ {room : List ℕ} (holds : HoldsGrammar bs room) where
+      -- the kinds that the room has are those that the root reaches
+      kinds-held : kindsIn room ≡ kindsReached (productionsIn bs) (rootIn bs)
+      unfolding tableRoom roomOf
+      kinds-held = ap kindsIn (holds .held)
+
+      -- The scanner finds the keywords and outside names of a passed table in its bytes, and in its room which keywords count.
+      pub lexicon-passed : lexiconBy (kindsIn room) bs ≡ lex
+      lexicon-passed = rw (spellings, kinds-held, passed-grammar bytes passes, root-last (passes .table) (passes .encoded)) refl
 
     -- ------------------------------------------------------------------ the scan
 
-    module _ (formula tokens words : List ℕ) where
-      in-lexicon : {given-filled : Filled} → given-filled ≡ scanInto (lexiconOf bs) formula tokens words → given-filled ≡ scanInto lex formula tokens words
-      in-lexicon e = rw lexicon-passed at e
+    module _ {room : List ℕ} (holds : HoldsGrammar bs room) {kinds : ℕ} (reached : kinds ≡ kindsIn room) (formula tokens words : List ℕ) where
+      in-lexicon : {given-filled : Filled} → given-filled ≡ scanInto (lexiconBy kinds bs) formula tokens words
+          → given-filled ≡ scanInto lex formula tokens words
+      in-lexicon e = rw (reached, lexicon-passed holds) at e
 
-      module _ {scanned : Scanned} {tokens′ words′ : List ℕ} (fills : filled scanned tokens′ words′ ≡ scanInto (lexiconOf bs) formula tokens words) where
-        -- A scan that refuses is the end of the parse.
-        pub stops-whole : (cells : List ℕ) {refusal : Refusal} {parsed : Parsed} → scanned ≡ Unscanned refusal → parsed ≡ haltedParse refusal
-            → parsedInto parsed tokens′ words′ cells ≡ parseInto syntax formula tokens words cells
-        stops-whole cells h = parsing.into-unscanned syntax formula tokens words cells (rw h at (in-lexicon fills))
+      module _ {scanned : Scanned} {tokens′ words′ : List ℕ} (fills : filled scanned tokens′ words′ ≡ scanInto (lexiconBy kinds bs) formula tokens words)
+        where
+          -- A scan that refuses is the end of the parse.
+          pub stops-whole : (cells : List ℕ) {refusal : Refusal} {parsed : Parsed} → scanned ≡ Unscanned refusal → parsed ≡ haltedParse refusal
+              → parsedInto parsed tokens′ words′ cells ≡ parseInto syntax formula tokens words cells
+          stops-whole cells h = parsing.into-unscanned syntax formula tokens words cells (rw h at (in-lexicon fills))
 
-        module _ {many count : ℕ} (room : RoomFor formula tokens words) (accepts : scanned ≡ Tokens many count) where
-          -- One that does not leaves its tokens and words in the rooms.
-          pub scan-fills : Holds lex few formula tokens′ words′ many count
-          scan-fills = scan-holds lex few formula room (rw accepts at (in-lexicon fills))
+          module _ {many count : ℕ} (rooms : RoomFor formula tokens words) (accepts : scanned ≡ Tokens many count) where
+            -- One that does not leaves its tokens and words in the rooms.
+            pub scan-fills : Holds lex few formula tokens′ words′ many count
+            scan-fills = scan-holds lex few formula rooms (rw accepts at (in-lexicon fills))
 
-          -- ------------------------------------------------------------------ the run
+            -- ------------------------------------------------------------------ the run
 
-          -- The run of the tokens, cut behind the last, ends the parse.
-          pub runs-whole : (cells : List ℕ) {outcome : Outcome} {cells′ : List ℕ}
-              → ran outcome cells′ ≡ runIn bs (take (many * 4) tokens′) cells
-              → parsedInto (record { outcome = outcome; words = count }) tokens′ words′ cells′ ≡ parseInto syntax formula tokens words cells
-          runs-whole cells {outcome} e =
-              parsing.into-run syntax formula tokens words cells outcome (rw accepts at (in-lexicon fills))
-              (rw (
-                productions-from (source bs) ∙ passed-grammar bytes passes,
-                cut-tokens (scan-fills .tokens-fit) ∙ scan-fills .tokens-are,
-                root-last (passes .table) (passes .encoded),
-              ) at e)
+            -- The run of the tokens, cut behind the last, ends the parse.
+            pub runs-whole : (cells : List ℕ) {outcome : Outcome} {cells′ : List ℕ}
+                → ran outcome cells′ ≡ runIn bs (take (many * 4) tokens′) cells
+                → parsedInto (record { outcome = outcome; words = count }) tokens′ words′ cells′ ≡ parseInto syntax formula tokens words cells
+            runs-whole cells {outcome} e =
+                parsing.into-run syntax formula tokens words cells outcome (rw accepts at (in-lexicon fills))
+                (rw (
+                  productions-from (source bs) ∙ passed-grammar bytes passes,
+                  cut-tokens (scan-fills .tokens-fit) ∙ scan-fills .tokens-are,
+                  root-last (passes .table) (passes .encoded),
+                ) at e)

@@ -1,12 +1,13 @@
 -- Scan and run in one, under a table that passed the check, with the rooms that are lent: refusals 14 to 21, or the value of the root's call. This
 -- is what an expansion does before its last step. It mirrors code: nobody needs this file to believe `expand`.
-use Prim.Native.Nat.{ℕ, _-_, _<_, _≤_}
+use Prim.Native.Nat.{ℕ, _<_, _≤_}
 use mathlib.Core.Path.{_≡_}
 use mathlib.Core.List.{List}
-use lib.ListN.{length, getD}
+use lib.ListN.{length}
 use Rattle.answers.specs.declared.Refusal.{Refusal}
 use Rattle.answers.specs.declared.Verdict.{Verdict}
 use Rattle.answers.specs.declared.Verdict.the-variants.{Passed}
+use Rattle.productions.specs.Index.{rootIn}
 use Rattle.tokens.specs.declared.Scanned.the-variants.{Tokens, Unscanned}
 use Rattle.tokens.specs.Scan.{Lexed, scan}
 use Rattle.scanner.specs.Rooms.{RoomFor, Filled, filled, scanInto}
@@ -83,4 +84,4 @@ pub record RunnableWithin (most : ℕ) (bs room tokens : List ℕ) : Type 0 wher
 
 -- the run of tokens under a table, from the nonterminal that its last byte names
 abbrev pub runIn : List ℕ → List ℕ → List ℕ → Result ℕ
-runIn bs tokens cells = run (reading (source bs) tokens cells) (getD bs (length bs - 1) 0) cells
+runIn bs tokens cells = run (reading (source bs) tokens cells) (rootIn bs) cells

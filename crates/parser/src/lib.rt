@@ -5,12 +5,12 @@ use expansion::Outcome;
 use grammar::limits::LONGEST_TABLE;
 use grammar::limits::MIDDLE_TABLE;
 use grammar::limits::SMALL_TABLE;
+use productions::index::root_of;
 use productions::room::ROOM;
+use productions::room::reached;
 use scanner::room::TOKEN;
 use tokens::Scanned;
-ghost use Prim.Native.Nat.{_-_};
 ghost use mathlib.Core.Path.{_≡_};
-ghost use lib.ListN.{length, getD};
 ghost use Rattle.grammar.specs.Limits.{most};
 ghost use Rattle.checker.specs.Syntax.{syntaxOf};
 ghost use Rattle.checker.specs.Passes.{Passes};
@@ -33,16 +33,6 @@ fn halted(r: Refusal) -> Parsed
     }
 }
 
-// The last byte of some bytes, 0 if there are none.
-fn last_byte(bytes: &[u8]) -> u8
-    ensures { λ r. ⌜ r ≡ getD (now (bytes .entry)) (length (now (bytes .entry)) - 1) 0 ⌝ }
-{
-    if bytes.len() == 0 {
-        return 0;
-    }
-    bytes[bytes.len() - 1]
-}
-
 // The run of tokens with a room for the templates of a table of up to 4,096 bytes. It calls itself on what it is never passed, an empty table: the
 // back end lays no such function into its caller, whose frame stays without this room.
 fn run_middle(cells: &mut [u32], table: &[u8], room: &[u64; ROOM], tokens: &[u32]) -> Outcome
@@ -53,7 +43,7 @@ fn run_middle(cells: &mut [u32], table: &[u8], room: &[u64; ROOM], tokens: &[u32
         let root = [0u8; 1];
         return run_middle(cells, &root, room, tokens);
     }
-    let root = last_byte(table);
+    let root = root_of(table);
     let mut stack = [0u32; MIDDLE_TABLE];
     run(cells, &mut stack, table, room, root, tokens)
 }
@@ -67,7 +57,7 @@ fn run_long(cells: &mut [u32], table: &[u8], room: &[u64; ROOM], tokens: &[u32])
         let root = [0u8; 1];
         return run_long(cells, &root, room, tokens);
     }
-    let root = last_byte(table);
+    let root = root_of(table);
     let mut stack = [0u32; LONGEST_TABLE];
     run(cells, &mut stack, table, room, root, tokens)
 }
@@ -78,7 +68,7 @@ fn run_tokens(cells: &mut [u32], table: &[u8], room: &[u64; ROOM], tokens: &[u32
     ensures { λ r. ⌜ ran r (now (cells .exit)) ≡ runIn (now (table .entry)) (now (tokens .entry)) (now (cells .entry)) ⌝ }
 {
     if table.len() <= SMALL_TABLE {
-        let root = last_byte(table);
+        let root = root_of(table);
         let mut stack = [0u32; SMALL_TABLE];
         return run(cells, &mut stack, table, room, root, tokens);
     }
@@ -102,7 +92,7 @@ pub fn parse_passed(
     ensures { λ r. ⌜ ((P : Passes (now (table .entry))) → parsedInto r (now (tokens .exit)) (now (words .exit)) (now (cells .exit))
         ≡ parseInto (syntaxOf (P .table)) (now (formula .entry)) (now (tokens .entry)) (now (words .entry)) (now (cells .entry))) ⌝ }
 {
-    let scanned = scanner::scan(table, formula, tokens, words);
+    let scanned = scanner::scan(table, reached(room), formula, tokens, words);
     match scanned {
         Scanned::Unscanned(r) => halted(r),
         Scanned::Tokens(n, count) => {

@@ -135,7 +135,7 @@ module _ (total : ℕ) (first second : ℕ → ℕ) (tail : List ℕ) where
       )
 
   -- A room is these parts if each of its numbers is.
-  module _ (room : List ℕ) (many : length room ≡ productionsAt + length tail) (count : getD room 0 0 ≡ total)
+  module _ (room : List ℕ) (many : length room ≡ productionsAt + length tail) (head : getD room 0 0 ≡ total)
       (firsts : (nonterminal : ℕ) → nonterminal < most .nonterminals → getD room (setsAt + nonterminal) 0 ≡ first nonterminal)
       (seconds : (nonterminal : ℕ) → nonterminal < most .nonterminals → getD room (placesAt + nonterminal) 0 ≡ second nonterminal)
       (lasts : (place : ℕ) → getD room (productionsAt + place) 0 ≡ getD tail place 0) where
@@ -143,7 +143,7 @@ module _ (total : ℕ) (first second : ℕ → ℕ) (tail : List ℕ) where
     moved place count z e = rw z e
 
     same-number : (place : ℕ) → Dec (place < 1) → Dec (place < placesAt) → Dec (place < productionsAt) → getD room place 0 ≡ getD fourParts place 0
-    same-number place (yes a) b d = moved place 0 (omega arith) count
+    same-number place (yes a) b d = moved place 0 (omega arith) head
     same-number place (no a) (yes b) d =
         moved place (1 + (place - 1)) (omega arith) (firsts (place - 1) (omega arith) ∙ sym (first-part (place - 1) (omega arith)))
     same-number place (no a) (no b) (yes d) =
@@ -157,10 +157,10 @@ module _ (total : ℕ) (first second : ℕ → ℕ) (tail : List ℕ) where
     parts-are = ext-getD 0 room fourParts (many ∙ sym length-parts) (λ i h. same-number i (decLt i 1) (decLt i placesAt) (decLt i productionsAt))
 
 -- the length of a room
-pub length-room : (sets : List ℕ) (es : List Entry) → length (roomOf sets es) ≡ productionsAt + 2 * length es
+pub length-room : (kinds : ℕ) (sets : List ℕ) (es : List Entry) → length (roomOf kinds sets es) ≡ productionsAt + 2 * length es
 unfolding roomOf
-length-room sets es =
-    length-parts (length es) (λ n. getD sets n 0) (placesNumber es) (entryNumbers es 0) ∙ rw (length-entries es 0) refl
+length-room kinds sets es =
+    length-parts kinds (λ n. getD sets n 0) (placesNumber es) (entryNumbers es 0) ∙ rw (length-entries es 0) refl
 
 -- ------------------------------------------------------------------ the numbers of a room
 
@@ -169,12 +169,12 @@ module _ {sets : List ℕ} {es : List Entry} {room : List ℕ} (holds-entries : 
   setOf n = getD sets n 0
 
   -- its parts in order
-  parts : room ≡ fourParts (length es) setOf (placesNumber es) (entryNumbers es 0 ++ holds-entries .rest)
+  parts : room ≡ fourParts (holds-entries .kinds) setOf (placesNumber es) (entryNumbers es 0 ++ holds-entries .rest)
   unfolding roomOf
   parts = holds-entries .held ∙ simp append-assoc
 
   at-entries : (place : ℕ) → getD room (productionsAt + place) 0 ≡ getD (entryNumbers es 0 ++ holds-entries .rest) place 0
-  at-entries place = rw parts (last-part (length es) setOf (placesNumber es) (entryNumbers es 0 ++ holds-entries .rest) place)
+  at-entries place = rw parts (last-part (holds-entries .kinds) setOf (placesNumber es) (entryNumbers es 0 ++ holds-entries .rest) place)
 
   -- ------------------------------------------------------------------ of a nonterminal
 
@@ -182,12 +182,12 @@ module _ {sets : List ℕ} {es : List Entry} {room : List ℕ} (holds-entries : 
     -- Its first set.
     pub first-set-in : firstSetIn room nonterminal ≡ getD sets nonterminal 0
     first-set-in =
-        rw parts (first-part (length es) setOf (placesNumber es) (entryNumbers es 0 ++ holds-entries .rest) nonterminal small)
+        rw parts (first-part (holds-entries .kinds) setOf (placesNumber es) (entryNumbers es 0 ++ holds-entries .rest) nonterminal small)
 
     -- Where its productions are, in one number.
     pub places-in : getD room (placesAt + nonterminal) 0 ≡ placesNumber es nonterminal
     places-in =
-        rw parts (second-part (length es) setOf (placesNumber es) (entryNumbers es 0 ++ holds-entries .rest) nonterminal small)
+        rw parts (second-part (holds-entries .kinds) setOf (placesNumber es) (entryNumbers es 0 ++ holds-entries .rest) nonterminal small)
 
     -- Where its first production is.
     pub first-place-in : firstPlaceIn room nonterminal ≡ placeFrom (isOf nonterminal) es 0

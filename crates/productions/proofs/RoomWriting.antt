@@ -18,7 +18,7 @@ use Rattle.productions.proofs.RoomLaws.{second-part, length-parts, part
 -- ------------------------------------------------------------------ the room is begun
 
 -- the first sets before number `nonterminal` are written, and the nonterminals before it have no place
-pub record Beginning (total : ℕ) (sets room₀ : List ℕ) (nonterminal : ℕ) (room : List ℕ) : Type 0 where
+pub record Beginning (kinds : ℕ) (sets room₀ : List ℕ) (nonterminal : ℕ) (room : List ℕ) : Type 0 where
   -- `nonterminal` is a nonterminal or the end
   pub small : nonterminal ≤ most .nonterminals
   -- the room has its size
@@ -27,8 +27,8 @@ pub record Beginning (total : ℕ) (sets room₀ : List ℕ) (nonterminal : ℕ)
   pub many : length room₀ ≡ roomSize
   -- there is a first set for each nonterminal
   pub sets-many : length sets ≡ most .nonterminals
-  -- the count of productions stands in front
-  pub count : getD room 0 0 ≡ total
+  -- the kinds stand in front
+  pub head : getD room 0 0 ≡ kinds
   -- the sets written are those given
   pub set-in : (at-place : ℕ) → at-place < nonterminal → getD room (setsAt + at-place) 0 ≡ getD sets at-place 0
   -- a nonterminal has no production yet, and no nullable one
@@ -36,21 +36,21 @@ pub record Beginning (total : ℕ) (sets room₀ : List ℕ) (nonterminal : ℕ)
   -- the numbers behind are as before
   pub tail : (at-place : ℕ) → getD room (productionsAt + at-place) 0 ≡ getD room₀ (productionsAt + at-place) 0
 
--- the count is written first
-pub beginning-start : (total : ℕ) (sets room : List ℕ) → RoomAndSets room sets → Beginning total sets (set room 0 total) 0 (set room 0 total)
-beginning-start total sets room h =
+-- the kinds are written first
+pub beginning-start : (kinds : ℕ) (sets room : List ℕ) → RoomAndSets room sets → Beginning kinds sets (set room 0 kinds) 0 (set room 0 kinds)
+beginning-start kinds sets room h =
     record {
       small = omega arith;
-      size = length-set room 0 total ∙ h .size;
-      many = length-set room 0 total ∙ h .size;
+      size = length-set room 0 kinds ∙ h .size;
+      many = length-set room 0 kinds ∙ h .size;
       sets-many = h .many;
-      count = getD-set-same room 0 total 0 (omega (arith, h .size));
+      head = getD-set-same room 0 kinds 0 (omega (arith, h .size));
       set-in = λ i l. absurd (omega arith);
       place-in = λ i l. absurd (omega arith);
       tail = λ i. refl;
     }
 
-module _ {total : ℕ} {sets room₀ : List ℕ} {nonterminal : ℕ} {room : List ℕ} (beginning : Beginning total sets room₀ nonterminal room) where
+module _ {kinds : ℕ} {sets room₀ : List ℕ} {nonterminal : ℕ} {room : List ℕ} (beginning : Beginning kinds sets room₀ nonterminal room) where
   module _ (under : nonterminal < most .nonterminals) where
     untouched : (at-place : ℕ) → (at-place ≡ 1 + nonterminal → ⊥) → (at-place ≡ placesAt + nonterminal → ⊥)
         → getD (set (set room (setsAt + nonterminal) (getD sets nonterminal 0)) (placesAt + nonterminal) noPlaces) at-place 0 ≡ getD room at-place 0
@@ -82,7 +82,7 @@ module _ {total : ℕ} {sets room₀ : List ℕ} {nonterminal : ℕ} {room : Lis
         below e l = omega arith
 
     -- two numbers for each nonterminal
-    pub beginning-next : Beginning total sets room₀ (nonterminal + 1)
+    pub beginning-next : Beginning kinds sets room₀ (nonterminal + 1)
         (set (set room (setsAt + nonterminal) (getD sets nonterminal 0)) (placesAt + nonterminal) noPlaces)
     beginning-next =
         record {
@@ -92,25 +92,25 @@ module _ {total : ℕ} {sets room₀ : List ℕ} {nonterminal : ℕ} {room : Lis
               (getD sets nonterminal 0) ∙ beginning .size;
           many = beginning .many;
           sets-many = beginning .sets-many;
-          count = untouched 0 (λ q. omega arith) (λ q. omega arith) ∙ beginning .count;
+          head = untouched 0 (λ q. omega arith) (λ q. omega arith) ∙ beginning .head;
           set-in = λ i l. set-next i l (ℕ-discrete i nonterminal);
           place-in = λ i l. place-next i l (ℕ-discrete i nonterminal);
           tail = λ i. untouched (productionsAt + i) (λ q. omega arith) (λ q. omega arith) ∙ beginning .tail i;
         }
 
-  begun-here : most .nonterminals ≤ nonterminal → room ≡ begun total sets room₀
+  begun-here : most .nonterminals ≤ nonterminal → room ≡ begun kinds sets room₀
   unfolding begun placeFrom
   begun-here h =
-      parts-are total (λ i. getD sets i 0) (placesNumber []) (drop productionsAt room₀) room
+      parts-are kinds (λ i. getD sets i 0) (placesNumber []) (drop productionsAt room₀) room
       (omega (arith, beginning .size, beginning .many, length-drop productionsAt room₀))
-      (beginning .count)
+      (beginning .head)
       (λ i l. beginning .set-in i (omega arith)) (λ i l. beginning .place-in i (omega arith)) (λ i. beginning .tail i ∙ sym (getD-drop productionsAt room₀ i 0))
 
--- the count stands in front of what is kept
-pub beginning-end : {total : ℕ} (sets room₀ : List ℕ) {nonterminal : ℕ} {room : List ℕ} → Beginning total sets (set room₀ 0 total) nonterminal room
-    → most .nonterminals ≤ nonterminal → room ≡ begun total sets room₀
+-- the kinds stand in front of what is kept
+pub beginning-end : {kinds : ℕ} (sets room₀ : List ℕ) {nonterminal : ℕ} {room : List ℕ} → Beginning kinds sets (set room₀ 0 kinds) nonterminal room
+    → most .nonterminals ≤ nonterminal → room ≡ begun kinds sets room₀
 unfolding begun
-beginning-end {total} sets room₀ c h = begun-here c h ∙ rw (drop-set-lt productionsAt room₀ 0 total (omega arith)) refl
+beginning-end {kinds} sets room₀ c h = begun-here c h ∙ rw (drop-set-lt productionsAt room₀ 0 kinds (omega arith)) refl
 
 -- ------------------------------------------------------------------ an entry is laid
 
@@ -168,7 +168,7 @@ module _ (entry : Entry) (index : ℕ) {room : List ℕ} (at : RoomAt index (ent
 -- ------------------------------------------------------------------ entries laid from the last to the first
 
 -- The entries behind number `index` are laid. `es` has all of them.
-pub record Filling (sets : List ℕ) (es : List Entry) (room₀ : List ℕ) (index : ℕ) (room : List ℕ) : Type 0 where
+pub record Filling (kinds : ℕ) (sets : List ℕ) (es : List Entry) (room₀ : List ℕ) (index : ℕ) (room : List ℕ) : Type 0 where
   -- `index` is at most the number of entries
   pub low : index ≤ length es
   -- there are at most 256 entries
@@ -177,8 +177,8 @@ pub record Filling (sets : List ℕ) (es : List Entry) (room₀ : List ℕ) (ind
   pub size : length room ≡ roomSize
   -- so had the room before
   pub old-size : length room₀ ≡ roomSize
-  -- the count of productions stands in front
-  pub count : getD room 0 0 ≡ length es
+  -- the kinds stand in front
+  pub head : getD room 0 0 ≡ kinds
   -- each nonterminal has its first set
   pub set-in : (nonterminal : ℕ) → nonterminal < most .nonterminals → getD room (setsAt + nonterminal) 0 ≡ getD sets nonterminal 0
   -- each nonterminal has the places of its first and its nullable entry among those laid
@@ -194,21 +194,20 @@ pub record Filling (sets : List ℕ) (es : List Entry) (room₀ : List ℕ) (ind
   pub tail : (at-place : ℕ) → productionsAt + 2 * length es ≤ at-place → getD room at-place 0 ≡ getD room₀ at-place 0
 
 -- begun: no entry is laid
-pub filling-start : (sets : List ℕ) (es : List Entry) (room₀ : List ℕ) → length es ≤ most .alternatives → length room₀ ≡ roomSize → {total : ℕ}
-    → total ≡ length es
-    → Filling sets es (begun total sets room₀) (length es) (begun total sets room₀)
+pub filling-start : (kinds : ℕ) (sets : List ℕ) (es : List Entry) (room₀ : List ℕ) → length es ≤ most .alternatives → length room₀ ≡ roomSize
+    → Filling kinds sets es (begun kinds sets room₀) (length es) (begun kinds sets room₀)
 unfolding begun placeFrom
-filling-start sets es room₀ few size {total} e =
-    let whole : length (begun total sets room₀) ≡ roomSize =
-    length-parts total setOf (placesNumber []) (drop productionsAt room₀) ∙ omega (arith, length-drop productionsAt room₀) in
+filling-start kinds sets es room₀ few size =
+    let whole : length (begun kinds sets room₀) ≡ roomSize =
+    length-parts kinds setOf (placesNumber []) (drop productionsAt room₀) ∙ omega (arith, length-drop productionsAt room₀) in
     record {
       low = omega arith;
       few = few;
       size = whole;
       old-size = whole;
-      count = e;
-      set-in = first-part total setOf (placesNumber []) (drop productionsAt room₀);
-      places = λ n h. second-part total setOf (placesNumber []) (drop productionsAt room₀) n h ∙ rw (drop-length es) refl;
+      head = refl;
+      set-in = first-part kinds setOf (placesNumber []) (drop productionsAt room₀);
+      places = λ n h. second-part kinds setOf (placesNumber []) (drop productionsAt room₀) n h ∙ rw (drop-length es) refl;
       first = λ i l u. absurd (omega arith);
       link = λ i l u. absurd (omega arith);
       tail = λ i l. refl;
@@ -218,9 +217,9 @@ filling-start sets es room₀ few size {total} e =
     setOf n = getD sets n 0
 
 -- what lies behind the places of the nonterminals is kept
-drop-begun : (total : ℕ) (sets room : List ℕ) (from : ℕ) → drop (productionsAt + from) (begun total sets room) ≡ drop (productionsAt + from) room
+drop-begun : (kinds : ℕ) (sets room : List ℕ) (from : ℕ) → drop (productionsAt + from) (begun kinds sets room) ≡ drop (productionsAt + from) room
 unfolding begun
-drop-begun total sets room from =
+drop-begun kinds sets room from =
     let z : productionsAt + from ≡ suc (length A + (length B + from)) =
     omega (arith, length-values setOf (most .nonterminals) 0, length-values (placesNumber []) (most .nonterminals) 0) in
     rw z refl
@@ -242,7 +241,7 @@ place-cons : (test : Entry → Bool) (entry : Entry) (follow : List Entry) (from
 unfolding placeFrom
 place-cons test entry follow from answer h = rw (h, placeFrom) refl
 
-module _ {sets : List ℕ} {es : List Entry} {room₀ : List ℕ} {index : ℕ} {room : List ℕ} (filling : Filling sets es room₀ index room) where
+module _ {kinds : ℕ} {sets : List ℕ} {es : List Entry} {room₀ : List ℕ} {index : ℕ} {room : List ℕ} (filling : Filling kinds sets es room₀ index room) where
   module _ (positive : 0 < index) {entry : Entry} (here : entry ≡ getD es (index - 1) noEntry) (small : entry .nonterminal < most .nonterminals) where
     -- the entries behind number `index` are the old ones
     opened : drop (index - 1) es ≡ entry ∷ drop index es
@@ -322,14 +321,14 @@ module _ {sets : List ℕ} {es : List Entry} {room₀ : List ℕ} {index : ℕ} 
         apart q = omega arith
 
     -- one entry more, in front of the others
-    pub filling-next : Filling sets es room₀ (index - 1) (laid entry (index - 1) room)
+    pub filling-next : Filling kinds sets es room₀ (index - 1) (laid entry (index - 1) room)
     filling-next =
         record {
           low = omega (arith, filling .low);
           few = filling .few;
           size = length-laid entry (index - 1) at;
           old-size = filling .old-size;
-          count = laid-other entry (index - 1) at 0 (λ r. omega arith) (λ r. omega arith) (λ r. omega arith) ∙ filling .count;
+          head = laid-other entry (index - 1) at 0 (λ r. omega arith) (λ r. omega arith) (λ r. omega arith) ∙ filling .head;
           set-in = λ n h. laid-other entry (index - 1) at (setsAt + n) (λ r. omega arith) (λ r. omega arith) (λ r. omega arith) ∙ filling .set-in n h;
           places = λ n h. places-next n h (ℕ-discrete (entry .nonterminal) n);
           first = λ i l u. first-next i l u (ℕ-discrete i (index - 1));
@@ -370,10 +369,10 @@ module _ {sets : List ℕ} {es : List Entry} {room₀ : List ℕ} {index : ℕ} 
           List·getD-append (entryNumbers es 0) rest 0 at-place (omega (arith, length-entries es 0)),
         )
 
-    filled : room ≡ roomOf sets es ++ drop (productionsAt + 2 * length es) room₀
+    filled : room ≡ roomOf kinds sets es ++ drop (productionsAt + 2 * length es) room₀
     unfolding roomOf
     filled =
-        parts-are (length es) (λ n. getD sets n 0) (placesNumber es) (entryNumbers es 0 ++ rest) room
+        parts-are kinds (λ n. getD sets n 0) (placesNumber es) (entryNumbers es 0 ++ rest) room
         (filling .size
         ∙ omega (
           arith,
@@ -384,14 +383,14 @@ module _ {sets : List ℕ} {es : List Entry} {room₀ : List ℕ} {index : ℕ} 
           length-drop
               (productionsAt + 2 * length es) room₀,
         ))
-        (filling .count)
+        (filling .head)
         (filling .set-in)
         (λ n h. rw ended at (filling .places n h))
         (λ i. number-in i (decLt i (2 * length es)) (ℕ-discrete (i % 2) 0))
         ∙ simp append-assoc
 
 -- The entries of a room that was begun, before what was there.
-pub filling-end : {sets : List ℕ} {es : List Entry} (room₀ : List ℕ) (total : ℕ) {index : ℕ} {room : List ℕ}
-    → Filling sets es (begun total sets room₀) index room → index ≡ 0 → room ≡ overwritten (roomOf sets es) room₀
-filling-end {sets} {es} room₀ total c h =
-    cc (filled c h, drop-begun total sets room₀ (2 * length es), length-room sets es)
+pub filling-end : {kinds : ℕ} {sets : List ℕ} {es : List Entry} (room₀ : List ℕ) {index : ℕ} {room : List ℕ}
+    → Filling kinds sets es (begun kinds sets room₀) index room → index ≡ 0 → room ≡ overwritten (roomOf kinds sets es) room₀
+filling-end {kinds} {sets} {es} room₀ c h =
+    cc (filled c h, drop-begun kinds sets room₀ (2 * length es), length-room kinds sets es)

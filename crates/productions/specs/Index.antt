@@ -1,7 +1,7 @@
 -- The index of a grammar in a lent table: each production by its nonterminal and the offset of its first item. The code works from
 -- the table's bytes and the index; these definitions say what they stand for, for any bytes. Document 01, "Normalizing". They mirror code: nobody
 -- needs them to believe `expand`.
-use Prim.Native.Nat.{ℕ, zero, suc, _+_, _<_, _≤_}
+use Prim.Native.Nat.{ℕ, zero, suc, _+_, _-_, _<_, _≤_}
 use mathlib.Core.Path.{_≡_}
 use mathlib.Core.Bool.{Bool, true, false, _&&_}
 use mathlib.Core.List.{List, [], _∷_, _++_, map}
@@ -87,6 +87,10 @@ placesOf bs = placesBy (fieldsOf bs) 0 []
 -- the productions at places
 abbrev pub productionsAt : List ℕ → List Place → List Production
 productionsAt bs ps = map (λ p. productionAt bs (p .nonterminal) (p .start)) ps
+
+-- the root: what the last byte of a table names
+abbrev pub rootIn : List ℕ → ℕ
+rootIn bs = getD bs (length bs - 1) 0
 
 -- an index of places: `owners` has their nonterminals, `starts` their offsets; the k places from number j on, and the first m
 unfoldable pub placesFrom : ℕ → List ℕ → List ℕ → ℕ → List Place

@@ -1,6 +1,6 @@
 -- How the grammar of a table lies in one lent room of 641 numbers. The room mirrors code: nobody needs it to believe `expand`.
 --
---   0            how many productions there are
+--   0            the kinds that occur in the alternatives that the root reaches (document 02, C-13)
 --   1 + n        the first set of nonterminal n
 --   65 + n       the place of its first production, and 512 times that of its nullable one
 --   129 + 2 j    the first set of production j
@@ -87,19 +87,19 @@ unfoldable pub entryNumbers : List Entry → ℕ → List ℕ
 entryNumbers [] j = []
 entryNumbers (e ∷ es) j = e .first ∷ linkNumber e es j ∷ entryNumbers es (j + 1)
 
--- the room of some entries, with the first sets of the nonterminals
-unfoldable pub roomOf : List ℕ → List Entry → List ℕ
-roomOf sets es =
-    length es ∷ (valuesOf (λ n. getD sets n 0) (most .nonterminals) 0 ++ (valuesOf (placesNumber es) (most .nonterminals) 0 ++ entryNumbers es 0))
+-- the room of some entries, with the kinds that are reached and the first sets of the nonterminals
+unfoldable pub roomOf : ℕ → List ℕ → List Entry → List ℕ
+roomOf kinds sets es =
+    kinds ∷ (valuesOf (λ n. getD sets n 0) (most .nonterminals) 0 ++ (valuesOf (placesNumber es) (most .nonterminals) 0 ++ entryNumbers es 0))
 
 -- numbers written at the front of a room
 abbrev pub overwritten : List ℕ → List ℕ → List ℕ
 overwritten new old = new ++ drop (length new) old
 
--- a room begun: the count, the first sets and no places
+-- a room begun: the kinds, the first sets and no places
 unfoldable pub begun : ℕ → List ℕ → List ℕ → List ℕ
-begun m sets room =
-    m ∷ (valuesOf (λ n. getD sets n 0) (most .nonterminals) 0 ++ (valuesOf (placesNumber []) (most .nonterminals) 0 ++ drop productionsAt room))
+begun kinds sets room =
+    kinds ∷ (valuesOf (λ n. getD sets n 0) (most .nonterminals) 0 ++ (valuesOf (placesNumber []) (most .nonterminals) 0 ++ drop productionsAt room))
 
 -- a whole room, with a first set for each nonterminal
 pub record RoomAndSets (room sets : List ℕ) : Type 0 where
@@ -127,12 +127,16 @@ noEntry = record { nonterminal = 0; start = 0; first = 0; nullable = false }
 
 -- a room with some entries at its front, as many as there may be, each at an offset that fits
 pub record HoldsEntries (sets : List ℕ) (es : List Entry) (room : List ℕ) : Type 0 where
+  pub kinds : ℕ
   pub rest : List ℕ
-  pub held : room ≡ roomOf sets es ++ rest
+  pub held : room ≡ roomOf kinds sets es ++ rest
   pub few : length es ≤ most .alternatives
   pub near : (j : ℕ) → getD es j noEntry .start < startBase
 
 -- ------------------------------------------------------------------ what is read off a room
+
+abbrev pub kindsIn : List ℕ → ℕ
+kindsIn room = getD room 0 0
 
 abbrev pub firstSetIn : List ℕ → ℕ → ℕ
 firstSetIn room n = getD room (setsAt + n) 0

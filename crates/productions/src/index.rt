@@ -9,7 +9,7 @@ use spellings::wide_short;
 ghost use Prim.Native.Nat.{_+_};
 ghost use mathlib.Core.Path.{_≡_};
 ghost use lib.ListN.{getD};
-ghost use Rattle.productions.specs.Index.{placesIn, placesWithout};
+ghost use Rattle.productions.specs.Index.{placesIn, placesWithout, rootIn};
 ghost use Rattle.productions.specs.IndexCalls.{IndexRoomFor, LaidIndex, BuiltIndex, FitsIndex, behind, redefined};
 
 // The offset at a place of the index, 0 past its end.
@@ -21,6 +21,16 @@ pub fn offset(starts: &[u16], j: usize) -> usize
     } else {
         0
     }
+}
+
+// The nonterminal that a formula is: the last byte of a table, 0 if it has none.
+pub fn root_of(table: &[u8]) -> u8
+    ensures { λ r. ⌜ r ≡ rootIn (now (table .entry)) ⌝ }
+{
+    if table.len() == 0 {
+        return 0;
+    }
+    table[table.len() - 1]
 }
 
 // Lays a production behind the first k.

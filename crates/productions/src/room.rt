@@ -8,7 +8,7 @@ ghost use lib.ListN.{length, getD};
 ghost use mathlib.Core.Bool.{true, false};
 ghost use Rattle.grammar.specs.Limits.{most};
 ghost use Rattle.productions.specs.Room.{roomSize, productionsAt, linksAt, placeBase, nullableBase, flagNumber, begun, laid, RoomAndSets, RoomAt};
-ghost use Rattle.productions.specs.Room.{firstSetIn, firstPlaceIn, nullablePlaceIn, firstIn, startIn, nextPlaceIn, nullableIn};
+ghost use Rattle.productions.specs.Room.{kindsIn, firstSetIn, firstPlaceIn, nullablePlaceIn, firstIn, startIn, nextPlaceIn, nullableIn};
 
 // Where the room has the first sets of nonterminals, the places of their productions, and two numbers for each production: its first set
 // and its link.
@@ -40,6 +40,13 @@ fn size(x: u64) -> usize
     ensures { λ r. ⌜ r ≡ x ⌝ }
 {
     x as usize
+}
+
+// The kinds that occur in the alternatives that the root reaches.
+pub fn reached(room: &[u64; ROOM]) -> u64
+    ensures { λ r. ⌜ r ≡ kindsIn (now (room .entry)) ⌝ }
+{
+    room[0]
 }
 
 // The first set of a nonterminal.
@@ -106,12 +113,12 @@ pub fn is_nullable(room: &[u64; ROOM], j: usize) -> bool
     link(room, j) / NULLABLE == 1
 }
 
-// Begins a room for m productions: the first sets of the nonterminals, which have no production yet.
-pub fn begin(room: &mut [u64], m: usize, sets: &[u64])
+// Begins a room: the kinds that are reached, and the first sets of the nonterminals, which have no production yet.
+pub fn begin(room: &mut [u64], kinds: u64, sets: &[u64])
     requires { ⌜ RoomAndSets (now room) (now sets) ⌝ }
-    ensures { λ r. ⌜ now (room .exit) ≡ begun m (now (sets .entry)) (now (room .entry)) ⌝ }
+    ensures { λ r. ⌜ now (room .exit) ≡ begun kinds (now (sets .entry)) (now (room .entry)) ⌝ }
 {
-    room[0] = m as u64;
+    room[0] = kinds;
     let mut n: usize = 0;
     while n < EACH_NONTERMINAL {
         room[FIRST_SETS + n] = sets[n];

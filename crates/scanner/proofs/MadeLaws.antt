@@ -12,7 +12,6 @@ use borrow.Author.Tests.{eq-eqb, ne-eqb, ltb-true, ltb-false}
 use Rattle.spellings.specs.Bytes.{isLetter, isDigit, isWordByte, isSeparator, isSymbol, longestRun, indexOf}
 use Rattle.spellings.proofs.BytesLaws.{by-test, index-le, index-front, index-rest, run-prefix, run-length}
 use Rattle.grammar.specs.Table.{Lexicon}
-use Rattle.grammar.specs.Lookup.{lexiconOf}
 use Rattle.grammar.proofs.LookupLaws.{few-keywords, few-outsides}
 use Rattle.kinds.specs.Kinds.{wordKind, numberKind, keywordKind, noKind}
 use Rattle.spellings.specs.Numbers.{numberOf}
@@ -67,49 +66,49 @@ module _ (spelling : List ℕ) (vs us : List (List ℕ)) where
       absurd (omega (arith, index-front spelling vs us l)))
       (λ e. omega (arith, ltb-false (indexOf spelling vs) (length vs) e, index-le spelling vs))
 
-module _ {table room tree : List ℕ} (lexical : Lexical table room tree) where
+module _ {lex : Lexicon} {table room tree : List ℕ} (lexical : Lexical lex table room tree) where
   -- the table's spellings can be searched
   pub lexical-planted : Planted table room tree treeMask (getD room spellingCountAt 0)
   lexical-planted =
       record {
         tree = rw (lexical .spelled) (lexical .tree);
-        placed = omega (arith, lexical .spellings, lexical .long, few-keywords table, few-outsides table);
-        linked = omega (arith, lexical .spellings, lexical .wide, few-keywords table, few-outsides table);
+        placed = omega (arith, lexical .spellings, lexical .long, lexical .few-keywords, lexical .few-outsides);
+        linked = omega (arith, lexical .spellings, lexical .wide, lexical .few-keywords, lexical .few-outsides);
       }
 
   module _ {spelling : List ℕ} where
     module _ {index : ℕ} (found : FoundAt (wordsIn table room (getD room spellingCountAt 0)) spelling index) where
-      found-index : index ≡ indexOf spelling (lexiconOf table .keywords ++ lexiconOf table .outsides)
+      found-index : index ≡ indexOf spelling (lex .keywords ++ lex .outsides)
       found-index = found .index ∙ ap (indexOf spelling) (lexical .spelled)
 
-      found-small : index < length (lexiconOf table .keywords) + length (lexiconOf table .outsides)
+      found-small : index < length (lex .keywords) + length (lex .outsides)
       found-small =
-          omega (arith, found .inside, ap length (lexical .spelled), length-append (lexiconOf table .keywords) (lexiconOf table .outsides))
+          omega (arith, found .inside, ap length (lexical .spelled), length-append (lex .keywords) (lex .outsides))
 
       found-fits : index < mostSpellings
-      found-fits = omega (arith, found-small, few-keywords table, few-outsides table)
+      found-fits = omega (arith, found-small, lexical .few-keywords, lexical .few-outsides)
 
-      name-keyword : index < getD room keywordCountAt 0 → Named (lexiconOf table) spelling (Keyword index)
+      name-keyword : index < getD room keywordCountAt 0 → Named lex spelling (Keyword index)
       name-keyword h =
-          let z : indexOf spelling (lexiconOf table .keywords) ≡ index
-          = split-front spelling (lexiconOf table .keywords) (lexiconOf table .outsides) (omega (arith, found-index, lexical .keywords)) ∙ sym found-index in
+          let z : indexOf spelling (lex .keywords) ≡ index
+          = split-front spelling (lex .keywords) (lex .outsides) (omega (arith, found-index, lexical .keywords)) ∙ sym found-index in
           named-keyword
-          (subst (FirstAt spelling (lexiconOf table .keywords)) z (index-is-first spelling (lexiconOf table .keywords) (omega (arith, lexical .keywords))))
+          (subst (FirstAt spelling (lex .keywords)) z (index-is-first spelling (lex .keywords) (omega (arith, lexical .keywords))))
 
-      name-outside : getD room keywordCountAt 0 ≤ index → Named (lexiconOf table) spelling (Outside (index - getD room keywordCountAt 0))
+      name-outside : getD room keywordCountAt 0 ≤ index → Named lex spelling (Outside (index - getD room keywordCountAt 0))
       name-outside h =
-          let none : indexOf spelling (lexiconOf table .keywords) ≡ length (lexiconOf table .keywords)
-          = split-back spelling (lexiconOf table .keywords) (lexiconOf table .outsides) (omega (arith, found-index, lexical .keywords)) in
-          let r = index-rest spelling (lexiconOf table .keywords) (lexiconOf table .outsides) none in
-          let z : indexOf spelling (lexiconOf table .outsides) ≡ index - getD room keywordCountAt 0 = omega (arith, r, found-index, lexical .keywords) in
-          an-outside (index-is-none spelling (lexiconOf table .keywords) none)
-          (subst (FirstAt spelling (lexiconOf table .outsides)) z
-          (index-is-first spelling (lexiconOf table .outsides) (omega (arith, z, found-small, lexical .keywords))))
+          let none : indexOf spelling (lex .keywords) ≡ length (lex .keywords)
+          = split-back spelling (lex .keywords) (lex .outsides) (omega (arith, found-index, lexical .keywords)) in
+          let r = index-rest spelling (lex .keywords) (lex .outsides) none in
+          let z : indexOf spelling (lex .outsides) ≡ index - getD room keywordCountAt 0 = omega (arith, r, found-index, lexical .keywords) in
+          an-outside (index-is-none spelling (lex .keywords) none)
+          (subst (FirstAt spelling (lex .outsides)) z
+          (index-is-first spelling (lex .outsides) (omega (arith, z, found-small, lexical .keywords))))
 
-    name-other : {slot : ℕ} → FreeFor treeMask (wordsIn table room (getD room spellingCountAt 0)) tree spelling slot → Named (lexiconOf table) spelling Other
+    name-other : {slot : ℕ} → FreeFor treeMask (wordsIn table room (getD room spellingCountAt 0)) tree spelling slot → Named lex spelling Other
     name-other f =
-        let ks : List (List ℕ) = lexiconOf table .keywords in
-        let os : List (List ℕ) = lexiconOf table .outsides in
+        let ks : List (List ℕ) = lex .keywords in
+        let os : List (List ℕ) = lex .outsides in
         let all : indexOf spelling (ks ++ os) ≡ length (ks ++ os) = rw (lexical .spelled) at (f .none) in
         let none : indexOf spelling ks ≡ length ks = split-back spelling ks os (omega (arith, all, length-append ks os)) in
         neither (index-is-none spelling ks none)
@@ -251,7 +250,7 @@ module _ {lex : Lexicon} {at : ℕ} {rest : List ℕ} where
 -- ------------------------------------------------------------------ the steps as the code takes them
 
 -- a search among the table's spellings
-module _ {table room tree : List ℕ} (lexical : Lexical table room tree) (spelling : List ℕ) {count : ℕ}
+module _ {lex : Lexicon} {table room tree : List ℕ} (lexical : Lexical lex table room tree) (spelling : List ℕ) {count : ℕ}
     (equal : count ≡ getD room spellingCountAt 0) (spot : Spot)
     (found : Searched treeMask (wordsIn table room count) tree spelling spot) where
   searched-all : Searched treeMask (wordsIn table room (getD room spellingCountAt 0)) tree spelling spot
@@ -266,15 +265,15 @@ module _ {table room tree : List ℕ} (lexical : Lexical table room tree) (spell
     node-fits = found-fits lexical node-found
 
     -- one found among the first is that keyword
-    pub node-keyword : index < getD room keywordCountAt 0 → Named (lexiconOf table) spelling (Keyword index)
+    pub node-keyword : index < getD room keywordCountAt 0 → Named lex spelling (Keyword index)
     node-keyword h = name-keyword lexical node-found h
 
     -- one found behind the keywords is that outside name
-    pub node-outside : getD room keywordCountAt 0 ≤ index → Named (lexiconOf table) spelling (Outside (index - getD room keywordCountAt 0))
+    pub node-outside : getD room keywordCountAt 0 ≤ index → Named lex spelling (Outside (index - getD room keywordCountAt 0))
     node-outside h = name-outside lexical node-found h
 
   -- one that is not found is neither
-  pub node-none : {slot : ℕ} → spot ≡ Free slot → Named (lexiconOf table) spelling Other
+  pub node-none : {slot : ℕ} → spot ≡ Free slot → Named lex spelling Other
   node-none e = name-other lexical (subst (Searched treeMask (wordsIn table room (getD room spellingCountAt 0)) tree spelling) e searched-all)
 
 -- a search among the formula's own words
@@ -376,28 +375,31 @@ module _ {formula : List ℕ} {at size hash : ℕ} {spelling : List ℕ} (given-
         by-name (neither n q) = own-step few here-some here-front n q own
 
 -- a keyword's number is below the most that there may be
-pub keyword-small : (table spelling : List ℕ) {name : WordClass} {number : ℕ} → Named (lexiconOf table) spelling name → name ≡ Keyword number
+pub keyword-small : {lex : Lexicon} {table room tree : List ℕ} → Lexical lex table room tree
+    → (spelling : List ℕ) {name : WordClass} {number : ℕ} → Named lex spelling name → name ≡ Keyword number
     → number < most .keywords
-keyword-small table spelling {number = number} m e = by-name (subst (Named (lexiconOf table) spelling) e m)
+keyword-small {lex} lexical spelling {number = number} m e = by-name (subst (Named lex spelling) e m)
   where
-    by-name : Named (lexiconOf table) spelling (Keyword number) → number < most .keywords
-    by-name (named-keyword f) = omega (arith, f .there, few-keywords table)
+    by-name : Named lex spelling (Keyword number) → number < most .keywords
+    by-name (named-keyword f) = omega (arith, f .there, lexical .few-keywords)
 
 -- a word of more than 31 bytes stops the scan
-pub long-made : (table formula : List ℕ) (at : ℕ) {size hash mask : ℕ} {met : List (List ℕ)} {links : List ℕ} → at < length formula
+pub long-made : {lex : Lexicon} {table room tree : List ℕ} → Lexical lex table room tree
+    → (formula : List ℕ) (at : ℕ) {size hash mask : ℕ} {met : List (List ℕ)} {links : List ℕ} → at < length formula
     → isLetter (getD formula at 0) ≡ true
     → Hashed (longestRun isWordByte (drop at formula)) size hash
     → 31 < size
-    → Stepped (lexiconOf table) mask met links at (drop at formula) (made Stop (Node 0))
-long-made table formula at h l d long =
-    long-stepped (few-outsides table) (omega (arith, length-drop at formula)) (ap isLetter (front-byte formula at) ∙ l)
+    → Stepped lex mask met links at (drop at formula) (made Stop (Node 0))
+long-made lexical formula at h l d long =
+    long-stepped (lexical .few-outsides) (omega (arith, length-drop at formula)) (ap isLetter (front-byte formula at) ∙ l)
     (omega (arith, d .sized))
 
 -- what is no word makes its step and links nothing
-pub marks-made : (table formula : List ℕ) (at : ℕ) {mask : ℕ} {met : List (List ℕ)} {links : List ℕ} {step : Step} → at < length formula
-    → Marks (lexiconOf table) at (drop at formula) step
-    → Stepped (lexiconOf table) mask met links at (drop at formula) (made step (Node 0))
-marks-made table formula at h m = mark-stepped (few-outsides table) (omega (arith, length-drop at formula)) m
+pub marks-made : {lex : Lexicon} {table room tree : List ℕ} → Lexical lex table room tree
+    → (formula : List ℕ) (at : ℕ) {mask : ℕ} {met : List (List ℕ)} {links : List ℕ} {step : Step} → at < length formula
+    → Marks lex at (drop at formula) step
+    → Stepped lex mask met links at (drop at formula) (made step (Node 0))
+marks-made lexical formula at h m = mark-stepped (lexical .few-outsides) (omega (arith, length-drop at formula)) m
 
 -- the words met can be searched
 pub ready-planted : {table room tree formula words links : List ℕ} {mask count : ℕ} → Ready table room tree formula words links mask count
@@ -454,7 +456,7 @@ kind-all lex spelling = by-found (foundIn spelling (lex .keywords)) refl
     by-found Absent e = rw (e, kindFrom, kindOf) refl
 
 -- a symbol's kind in the lexicon's room
-module _ {table room tree : List ℕ} (lexical : Lexical table room tree) where
+module _ {lex : Lexicon} {table room tree : List ℕ} (lexical : Lexical lex table room tree) where
   -- a symbol is below 127
   pub symbol-below : (byte : ℕ) → isSymbol byte ≡ true → byte < 127
   symbol-below byte y = omega (arith, symbol-only byte y .low)
@@ -465,13 +467,13 @@ module _ {table room tree : List ℕ} (lexical : Lexical table room tree) where
 
   -- a symbol makes a token of the kind that the room holds for it
   pub symbol-at : (formula : List ℕ) (at : ℕ) → at < length formula → isSymbol (getD formula at 0) ≡ true
-      → Marks (lexiconOf table) at (drop at formula) (Emit (token (getD room (symbolsAt + getD formula at 0) 0) at 1 0))
+      → Marks lex at (drop at formula) (Emit (token (getD room (symbolsAt + getD formula at 0) 0) at 1 0))
   symbol-at formula at h y =
       let z : getD (drop at formula) 0 0 ≡ getD formula at 0 = front-byte formula at in
       symbol-marks (omega (arith, length-drop at formula)) (ap isSymbol z ∙ y)
       (cc (
         lexical .symbols (getD formula at 0) (omega (arith, symbol-below (getD formula at 0) y)),
-        kind-all (lexiconOf table) (getD formula at 0 ∷ []),
+        kind-all lex (getD formula at 0 ∷ []),
       ))
 
 -- ------------------------------------------------------------------ stores

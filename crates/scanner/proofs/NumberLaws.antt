@@ -4,8 +4,8 @@ use mathlib.Core.Path.{_≡_, refl}
 use mathlib.Core.List.{List}
 use lib.ListN.{length}
 use Rattle.grammar.specs.Table.{Lexicon}
-use Rattle.grammar.specs.Lookup.{lexiconOf}
 use Rattle.grammar.proofs.LookupLaws.{few-outsides}
+use Rattle.lexicon.specs.LexiconRoom.{lexiconBy}
 use Rattle.tokens.specs.declared.Scanned.{Scanned}
 use Rattle.tokens.specs.declared.Scanned.the-variants.{Tokens, Unscanned}
 use Rattle.tokens.specs.Scan.{Lexed, scan}
@@ -13,9 +13,9 @@ use Rattle.tokens.proofs.ScannerTheorems.{accepted-exactly, refused-exactly, to
 use Rattle.scanner.specs.Rooms.{filled, scanInto}
 use Rattle.scanner.specs.Numbered.{numberedScan, Numbers, no-refusal, a-refusal, Scans}
 
-module _ (table formula : List ℕ) where
+module _ (kinds : ℕ) (table formula : List ℕ) where
   lex : Lexicon
-  lex = lexiconOf table
+  lex = lexiconBy kinds table
 
   numbered-by : (scanned : Scanned) → scan lex formula .answer ≡ scanned → Numbers lex formula (numberedScan scanned)
   unfolding lex
@@ -29,7 +29,7 @@ module _ (table formula : List ℕ) where
 
   -- An answer and rooms that are those of the definition are what a scan promises.
   pub scans : {tokens words tokens′ words′ : List ℕ} {scanned : Scanned}
-      → filled scanned tokens′ words′ ≡ scanInto (lexiconOf table) formula tokens words
-      → Scans (lexiconOf table) formula tokens words scanned tokens′ words′
+      → filled scanned tokens′ words′ ≡ scanInto (lexiconBy kinds table) formula tokens words
+      → Scans (lexiconBy kinds table) formula tokens words scanned tokens′ words′
   unfolding lex scanInto
   scans {scanned = scanned} e = record { fills = e; numbered-is = numbered-by scanned cc }

@@ -1,11 +1,12 @@
 -- The loop of the scan with what is known of the words met.
 use Prim.Native.Nat.{ℕ, _+_, _*_, _<_, _≤_}
-use mathlib.Core.Path.{_≡_, refl, sym, ap, _∙_}
+use mathlib.Core.Path.{_≡_, refl, sym, ap, ap₂, _∙_, subst}
 use mathlib.Core.List.{List, []}
 use native.Mathlib.Omega.{arith}
-use lib.ListN.{length, take, drop, replicate, length-drop, length-replicate}
-use lib.Seq.{sets, length-sets}
-use Rattle.grammar.specs.Lookup.{lexiconOf}
+use lib.ListN.{length, getD, take, drop, replicate, length-drop, length-replicate}
+use lib.Seq.{sets, length-sets, take-append-seam, drop-append-seam}
+use Rattle.grammar.specs.Table.{Lexicon}
+use Rattle.lexicon.specs.LexiconRoom.{keywordCountAt, spellingCountAt, Lexical, lexiconIn, LexicalIn}
 use Rattle.tokens.specs.declared.Token.{Token}
 use Rattle.tokens.specs.declared.Step.{Step}
 use Rattle.tokens.specs.declared.Step.the-variants.{Skip, Stop, Emit}
@@ -13,9 +14,8 @@ use Rattle.scanner.specs.declared.Made.{Made}
 use Rattle.lexicon.specs.declared.trees.Spot.{Spot}
 use Rattle.lexicon.specs.declared.trees.Spot.the-variants.{Node, Free}
 use Rattle.tokens.specs.Scan.{isNew, wordsWith, stepOf}
-use Rattle.scanner.specs.Rooms.{rowThen, placeThen, countWith, wordsFrom, wordsIn, RoomFor}
+use Rattle.scanner.specs.Rooms.{rowThen, placeThen, countWith, wordsFrom, wordsIn, RoomFor, Filled, scanInto}
 use Rattle.lexicon.specs.Trees.{SearchTree, Linkable, linksWith}
-use Rattle.lexicon.specs.LexiconRoom.{Lexical}
 use Rattle.scanner.specs.Stepping.{Agrees, FreeIn, Stepped, Ready, Scannable}
 use Rattle.tokens.proofs.WordLaws.{with-new, with-old}
 use Rattle.scanner.proofs.StoreLaws.{words-stored}
@@ -28,7 +28,7 @@ use Rattle.tokens.specs.Tokens.{mostTokens, longestFormula}
 -- where the scan stands, with the words met in their trees and the rooms as long as they were
 pub record Scanning (table room tree formula tokens₀ words₀ links₀ tokens words links : List ℕ) (mask at many count : ℕ) : Type 0 where
   -- what is left gives what the whole gives
-  pub turn : Turn (lexiconOf table) formula tokens₀ words₀ tokens words at many count
+  pub turn : Turn (lexiconIn table room) formula tokens₀ words₀ tokens words at many count
   -- the lexicon and the words met can be searched
   pub ready : Ready table room tree formula words links mask count
   -- the rooms for tokens and words are long enough
@@ -45,13 +45,13 @@ pub record Scanning (table room tree formula tokens₀ words₀ links₀ tokens 
   pub links-same : length links ≡ length links₀
 
 -- nothing is scanned yet
-pub scanning-start : {table room tree formula tokens words links : List ℕ} {mask : ℕ} → Lexical table room tree → RoomFor formula tokens words
+pub scanning-start : {table room tree formula tokens words links : List ℕ} {mask : ℕ} → LexicalIn table room tree → RoomFor formula tokens words
     → Scannable formula links mask
     → Scanning table room tree formula tokens words links tokens words links mask 0 0 0
 unfolding wordsFrom
-scanning-start {table} {formula = formula} {tokens = tokens} {words = words} {links = links} {mask = mask} x r s =
+scanning-start {table} {room} {formula = formula} {tokens = tokens} {words = words} {links = links} {mask = mask} x r s =
     record {
-      turn = turn-start (lexiconOf table) formula tokens words (omega (arith, s .short));
+      turn = turn-start (lexiconIn table room) formula tokens words (omega (arith, s .short));
       ready =
           record {
             lexical = x;
@@ -70,12 +70,12 @@ scanning-start {table} {formula = formula} {tokens = tokens} {words = words} {li
 
 module _ {table room tree formula tokens₀ words₀ links₀ tokens words links : List ℕ} {mask at many count : ℕ}
     (scanning : Scanning table room tree formula tokens₀ words₀ links₀ tokens words links mask at many count) (under : at < length formula) {made : Made}
-    (stepped : Stepped (lexiconOf table) mask (wordsIn formula words count) links at (drop at formula) made) where
-  step-eq : {step : Step} → made .step ≡ step → step ≡ stepOf (lexiconOf table) (wordsIn formula words count) at (drop at formula)
+    (stepped : Stepped (lexiconIn table room) mask (wordsIn formula words count) links at (drop at formula) made) where
+  step-eq : {step : Step} → made .step ≡ step → step ≡ stepOf (lexiconIn table room) (wordsIn formula words count) at (drop at formula)
   step-eq e = sym e ∙ stepped .step-is
 
   -- the step found is the definition's: a stop
-  pub stop-eq : made .step ≡ Stop → Stop ≡ stepOf (lexiconOf table) (wordsIn formula words count) at (drop at formula)
+  pub stop-eq : made .step ≡ Stop → Stop ≡ stepOf (lexiconIn table room) (wordsIn formula words count) at (drop at formula)
   stop-eq e = step-eq e
 
   -- a separator is passed
@@ -94,7 +94,7 @@ module _ {table room tree formula tokens₀ words₀ links₀ tokens words links
 
   module _ {token : Token} (equal : made .step ≡ Emit token) where
     -- the step found is the definition's: this token
-    pub emit-eq : Emit token ≡ stepOf (lexiconOf table) (wordsIn formula words count) at (drop at formula)
+    pub emit-eq : Emit token ≡ stepOf (lexiconIn table room) (wordsIn formula words count) at (drop at formula)
     emit-eq = step-eq equal
 
     counted : length (wordsIn formula words count) ≡ count
@@ -117,7 +117,7 @@ module _ {table room tree formula tokens₀ words₀ links₀ tokens words links
     spot-linkable = free-inside (made .spot) (stepped .free token equal)
 
     lies : (token .at ≡ at) × (0 < token .size) × (token .size ≤ length (drop at formula))
-    lies = step-lies (lexiconOf table) (wordsIn formula words count) at (drop at formula) (Emit token) (omega (arith, length-drop at formula)) emit-eq
+    lies = step-lies (lexiconIn table room) (wordsIn formula words count) at (drop at formula) (Emit token) (omega (arith, length-drop at formula)) emit-eq
 
     -- the token ends inside the formula
     pub token-inside : at + token .size ≤ length formula
@@ -211,3 +211,27 @@ scannable {mask = mask} words short enough =
       unlinked = zeros room;
       enough = λ n a b. omega (arith, length-replicate {A = ℕ} room 0, enough n a b);
     }
+
+-- the lexicon that rooms hold is the one that was entered
+pub lexicon-held : {lex : Lexicon} {table room links : List ℕ} → Lexical lex table room links → lexiconIn table room ≡ lex
+lexicon-held {lex} {table} {room} x =
+    let ks : List (List ℕ) = lex .keywords in
+    let os : List (List ℕ) = lex .outsides in
+    let front : take (getD room keywordCountAt 0) (wordsIn table room (getD room spellingCountAt 0)) ≡ ks
+    = ap₂ (λ (n : ℕ) (ws : List (List ℕ)). take n ws) (x .keywords) (x .spelled) ∙ take-append-seam ks os in
+    let back : drop (getD room keywordCountAt 0) (wordsIn table room (getD room spellingCountAt 0)) ≡ os
+    = ap₂ (λ (n : ℕ) (ws : List (List ℕ)). drop n ws) (x .keywords) (x .spelled) ∙ drop-append-seam ks os in
+    lexicon-is front back
+  where
+    lexicon-is : {ks ks′ os os′ : List (List ℕ)} → ks ≡ ks′ → os ≡ os′
+        → _≡_ {A = Lexicon} (record { keywords = ks; outsides = os }) (record { keywords = ks′; outsides = os′ })
+    lexicon-is a b = cc
+
+-- so the rooms hold it
+pub lexical-held : {lex : Lexicon} {table room links : List ℕ} → Lexical lex table room links → LexicalIn table room links
+lexical-held {lex} {table} {room} {links} x = subst (λ (l : Lexicon). Lexical l table room links) (sym (lexicon-held x)) x
+
+-- and a scan by the rooms is a scan by it
+pub scanned-held : {lex : Lexicon} {table room links : List ℕ} → Lexical lex table room links → (formula tokens words : List ℕ) {result : Filled}
+    → result ≡ scanInto (lexiconIn table room) formula tokens words → result ≡ scanInto lex formula tokens words
+scanned-held x formula tokens words e = e ∙ ap (λ (l : Lexicon). scanInto l formula tokens words) (lexicon-held x)

@@ -21,7 +21,7 @@ use Rattle.tokens.specs.Tokens.{token, mostTokens, longestFormula}
 use Rattle.tokens.specs.Tiling.{FirstAt, NotIn}
 use Rattle.scanner.specs.Rooms.{wordsIn, LentToScan}
 use Rattle.lexicon.specs.Trees.{SearchTree, FreeFor}
-use Rattle.lexicon.specs.LexiconRoom.{Lexical}
+use Rattle.lexicon.specs.LexiconRoom.{LexicalIn}
 
 -- what a word is by a lexicon
 pub data Named (lex : Lexicon) (s : List ℕ) : WordClass → Type 0 where
@@ -60,7 +60,7 @@ pub record Stepped (lex : Lexicon) (mask : ℕ) (met : List (List ℕ)) (links :
 
 -- what the scan knows between two tokens: the lexicon, the words met, and room for as many as there may be
 pub record Ready (table room tree formula words links : List ℕ) (mask count : ℕ) : Type 0 where
-  pub lexical : Lexical table room tree
+  pub lexical : LexicalIn table room tree
   pub met : SearchTree mask (wordsIn formula words count) links
   pub few : count ≤ mostTokens
   pub placed : count * 2 ≤ length words

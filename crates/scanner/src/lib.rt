@@ -42,10 +42,9 @@ ghost use lib.ListN.{length, getD, take, drop};
 ghost use lib.Seq.{sets};
 ghost use Rattle.spellings.specs.Bytes.{isLetter, isDigit};
 ghost use Rattle.grammar.specs.Table.{Lexicon};
-ghost use Rattle.grammar.specs.Lookup.{lexiconOf};
 ghost use Rattle.tokens.specs.Tokens.{token, mostTokens, longestFormula};
 ghost use Rattle.lexicon.specs.Trees.{hashOf, Planted, Linkable, linksWith};
-ghost use Rattle.lexicon.specs.LexiconRoom.{Lexical};
+ghost use Rattle.lexicon.specs.LexiconRoom.{lexiconBy, lexiconIn, LexicalIn};
 ghost use Rattle.scanner.specs.Stepping.{Named, Ready, OwnWord, made, Marks, Stepped, Agrees, Scannable, middleFormula, LentWithin};
 ghost use Rattle.answers.specs.Refusals.{refusal};
 ghost use Rattle.scanner.specs.Rooms.{rowThen, placeThen, countWith, wordsIn, RoomFor, LentToScan, filled, scanInto};
@@ -109,9 +108,9 @@ fn number_step(formula: &[u8], at: usize) -> Step
 
 // What is done at what is no word.
 fn mark_step(table: &[u8], room: &[u32], tree: &[u32], formula: &[u8], at: usize) -> Step
-    requires { ⌜ Lexical (now table) (now room) (now tree) × (isLetter (getD (now formula) at 0) ≡ false) ⌝ }
+    requires { ⌜ LexicalIn (now table) (now room) (now tree) × (isLetter (getD (now formula) at 0) ≡ false) ⌝ }
     requires { ⌜ (at < length (now formula)) × (length (now formula) ≤ longestFormula) ⌝ }
-    ensures { λ r. ⌜ Marks (lexiconOf (now (table .entry))) at (drop at (now (formula .entry))) r ⌝ }
+    ensures { λ r. ⌜ Marks (lexiconIn (now (table .entry)) (now (room .entry))) at (drop at (now (formula .entry))) r ⌝ }
 {
     let b = formula[at];
     if spellings::is_separator(b) {
@@ -135,8 +134,8 @@ fn mark_step(table: &[u8], room: &[u32], tree: &[u32], formula: &[u8], at: usize
 
 // What the word s with a hash is by the table.
 fn class_of(table: &[u8], room: &[u32], tree: &[u32], s: &[u8], hash: u64) -> WordClass
-    requires { ⌜ Lexical (now table) (now room) (now tree) × (hash ≡ hashOf (now s)) ⌝ }
-    ensures { λ r. ⌜ Named (lexiconOf (now (table .entry))) (now (s .entry)) r ⌝ }
+    requires { ⌜ LexicalIn (now table) (now room) (now tree) × (hash ≡ hashOf (now s)) ⌝ }
+    ensures { λ r. ⌜ Named (lexiconIn (now (table .entry)) (now (room .entry))) (now (s .entry)) r ⌝ }
 {
     let keywords = room[KEYWORD_COUNT];
     let count = wide_number(room[SPELLING_COUNT]);
@@ -215,7 +214,7 @@ fn word_step(
 ) -> Made
     requires { ⌜ Ready (now table) (now room) (now tree) (now formula) (now words) (now links) mask count ⌝ }
     requires { ⌜ (at < length (now formula)) × (length (now formula) ≤ longestFormula) × (isLetter (getD (now formula) at 0) ≡ true) ⌝ }
-    ensures { λ r. ⌜ Stepped (lexiconOf (now (table .entry))) mask (wordsIn (now (formula .entry)) (now (words .entry)) count)
+    ensures { λ r. ⌜ Stepped (lexiconIn (now (table .entry)) (now (room .entry))) mask (wordsIn (now (formula .entry)) (now (words .entry)) count)
         (now (links .entry)) at (drop at (now (formula .entry))) r ⌝ }
 {
     let run = word_at(formula, at);
@@ -249,7 +248,7 @@ fn step_at(
 ) -> Made
     requires { ⌜ Ready (now table) (now room) (now tree) (now formula) (now words) (now links) mask count ⌝ }
     requires { ⌜ (at < length (now formula)) × (length (now formula) ≤ longestFormula) ⌝ }
-    ensures { λ r. ⌜ Stepped (lexiconOf (now (table .entry))) mask (wordsIn (now (formula .entry)) (now (words .entry)) count)
+    ensures { λ r. ⌜ Stepped (lexiconIn (now (table .entry)) (now (room .entry))) mask (wordsIn (now (formula .entry)) (now (words .entry)) count)
         (now (links .entry)) at (drop at (now (formula .entry))) r ⌝ }
 {
     let letter = spellings::is_letter(formula[at]);
@@ -322,9 +321,9 @@ fn scan_loop(
     links: &mut [u32],
     mask: usize,
 ) -> Scanned
-    requires { ⌜ Lexical (now table) (now room) (now tree) × RoomFor (now formula) (now tokens) (now words) × Scannable (now formula) (now links) mask ⌝ }
+    requires { ⌜ LexicalIn (now table) (now room) (now tree) × RoomFor (now formula) (now tokens) (now words) × Scannable (now formula) (now links) mask ⌝ }
     ensures { λ r. ⌜ filled r (now (tokens .exit)) (now (words .exit))
-        ≡ scanInto (lexiconOf (now (table .entry))) (now (formula .entry)) (now (tokens .entry)) (now (words .entry)) ⌝ }
+        ≡ scanInto (lexiconIn (now (table .entry)) (now (room .entry))) (now (formula .entry)) (now (tokens .entry)) (now (words .entry)) ⌝ }
 {
     let mut at: usize = 0;
     let mut n: usize = 0;
@@ -357,6 +356,7 @@ fn scan_loop(
 // The same, with the lexicon entered first.
 fn scan_with(
     table: &[u8],
+    kinds: u64,
     formula: &[u8],
     tokens: &mut [u32],
     words: &mut [u32],
@@ -365,52 +365,86 @@ fn scan_with(
 ) -> Scanned
     requires { ⌜ LentToScan (now table) (now formula) (now tokens) (now words) × Scannable (now formula) (now links) mask ⌝ }
     ensures { λ r. ⌜ filled r (now (tokens .exit)) (now (words .exit))
-        ≡ scanInto (lexiconOf (now (table .entry))) (now (formula .entry)) (now (tokens .entry)) (now (words .entry)) ⌝ }
+        ≡ scanInto (lexiconBy kinds (now (table .entry))) (now (formula .entry)) (now (tokens .entry)) (now (words .entry)) ⌝ }
 {
     let mut room = [NO_KIND; ROOM];
     let mut tree = [0u32; TREE];
-    lexicon::enter_table(table, &mut room, &mut tree);
+    lexicon::enter_table(table, kinds, &mut room, &mut tree);
     scan_loop(table, &room, &tree, formula, tokens, words, links, mask)
 }
 
 // The scan of a formula of up to 512 bytes, with a room for the links of its words. It calls itself on what it is never passed, an empty formula: the back end
 // lays no such function into its caller, whose frame stays without this room.
-fn scan_middle(table: &[u8], formula: &[u8], tokens: &mut [u32], words: &mut [u32]) -> Scanned
+fn scan_middle(
+    table: &[u8],
+    kinds: u64,
+    formula: &[u8],
+    tokens: &mut [u32],
+    words: &mut [u32],
+) -> Scanned
     requires { ⌜ LentWithin middleFormula (now table) (now formula) (now tokens) (now words) ⌝ }
     ensures { λ r. ⌜ filled r (now (tokens .exit)) (now (words .exit))
-        ≡ scanInto (lexiconOf (now (table .entry))) (now (formula .entry)) (now (tokens .entry)) (now (words .entry)) ⌝ }
+        ≡ scanInto (lexiconBy kinds (now (table .entry))) (now (formula .entry)) (now (tokens .entry)) (now (words .entry)) ⌝ }
 {
     if formula.len() == 0 {
         let blank = [32u8; 1];
-        return scan_middle(table, &blank, tokens, words);
+        return scan_middle(table, kinds, &blank, tokens, words);
     }
     let mut links = [0u32; MIDDLE_LINKS];
-    scan_with(table, formula, tokens, words, &mut links, MIDDLE_MASK)
+    scan_with(
+        table,
+        kinds,
+        formula,
+        tokens,
+        words,
+        &mut links,
+        MIDDLE_MASK,
+    )
 }
 
 // The same of a formula of any size that is not refused for it.
-fn scan_long(table: &[u8], formula: &[u8], tokens: &mut [u32], words: &mut [u32]) -> Scanned
+fn scan_long(
+    table: &[u8],
+    kinds: u64,
+    formula: &[u8],
+    tokens: &mut [u32],
+    words: &mut [u32],
+) -> Scanned
     requires { ⌜ LentWithin longestFormula (now table) (now formula) (now tokens) (now words) ⌝ }
     ensures { λ r. ⌜ filled r (now (tokens .exit)) (now (words .exit))
-        ≡ scanInto (lexiconOf (now (table .entry))) (now (formula .entry)) (now (tokens .entry)) (now (words .entry)) ⌝ }
+        ≡ scanInto (lexiconBy kinds (now (table .entry))) (now (formula .entry)) (now (tokens .entry)) (now (words .entry)) ⌝ }
 {
     if formula.len() == 0 {
         let blank = [32u8; 1];
-        return scan_long(table, &blank, tokens, words);
+        return scan_long(table, kinds, &blank, tokens, words);
     }
     let mut links = [0u32; LINKS];
-    scan_with(table, formula, tokens, words, &mut links, LARGEST_MASK)
+    scan_with(
+        table,
+        kinds,
+        formula,
+        tokens,
+        words,
+        &mut links,
+        LARGEST_MASK,
+    )
 }
 
-// The scan of a formula by the keywords and outside names of a table. Four numbers a token are stored from the front of
+// The scan of a formula by the outside names of a table and those of its keywords whose kinds are among some. Four numbers a token are stored from the front of
 // `tokens`: kind, offset, length, value; two numbers a word from the front of `words`: the offset and the length of the first
 // token that has it, for the spelling numbers from 64 on. Numbers behind these stay as they were, on a refusal too. The answer's number,
 // 0 or 14 to 16, and its values are those of the rules.
 // Ruled out are, among others, a scanner that takes a keyword for a word, one that refuses one byte beside the fault, one that
 // numbers words from 65, and one that clears a room before it refuses.
-pub fn scan(table: &[u8], formula: &[u8], tokens: &mut [u32], words: &mut [u32]) -> Scanned
+pub fn scan(
+    table: &[u8],
+    kinds: u64,
+    formula: &[u8],
+    tokens: &mut [u32],
+    words: &mut [u32],
+) -> Scanned
     requires { ⌜ LentToScan (now table) (now formula) (now tokens) (now words) ⌝ }
-    ensures { λ r. ⌜ Scans (lexiconOf (now (table .entry))) (now (formula .entry)) (now (tokens .entry)) (now (words .entry)) r
+    ensures { λ r. ⌜ Scans (lexiconBy kinds (now (table .entry))) (now (formula .entry)) (now (tokens .entry)) (now (words .entry)) r
         (now (tokens .exit)) (now (words .exit)) ⌝ }
 {
     let size = formula.len();
@@ -419,10 +453,10 @@ pub fn scan(table: &[u8], formula: &[u8], tokens: &mut [u32], words: &mut [u32])
     }
     if size <= SHORT {
         let mut links = [0u32; SHORT_LINKS];
-        return scan_with(table, formula, tokens, words, &mut links, SHORT_MASK);
+        return scan_with(table, kinds, formula, tokens, words, &mut links, SHORT_MASK);
     }
     if size <= MIDDLE {
-        return scan_middle(table, formula, tokens, words);
+        return scan_middle(table, kinds, formula, tokens, words);
     }
-    scan_long(table, formula, tokens, words)
+    scan_long(table, kinds, formula, tokens, words)
 }

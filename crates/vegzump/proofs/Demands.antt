@@ -94,7 +94,8 @@ module _ (write : Term Name → List ℕ) (table formula cells text : List ℕ) 
   lent-alike bytes cells′ text′ many long = let q = lent.lent-alike write formula cells cells′ text text′ many long table bytes in (q .answers, q .texts)
 
   module _ (passes : Passes table) where
-    -- What an expansion needs of the table: its lexicon, its productions and its root.
+    -- What an expansion needs of the table: its lexicon, its productions and its root. Its keywords, K(g) of Figure 3, are those that occur in
+    -- alternatives that the root reaches by calls (document 02, C-13; the page is KeywordTheorems).
     abbrev pub syntax : Syntax
     syntax = syntaxOf (passes .table)
 

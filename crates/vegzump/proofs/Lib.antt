@@ -7,3 +7,5 @@ pub mod PortionsLaws
 pub mod PortionTheorems
 pub mod ComparisonLaws
 pub mod SpellingTheorems
+pub mod KeywordLaws
+pub mod KeywordTheorems

@@ -23,15 +23,15 @@ after-enter-leading2 p = p .before .before .before .before
 enter-leading-requires : tie.Need-enter-leading-requires
 enter-leading-requires c κs =
     let asked = (at-start c) .pre in
-    laws.first-enters (asked .0) (asked .1)
+    laws.first-enters ((at-start c) .args .kinds) (asked .0) (asked .1)
 
 mark-symbols-requires : tie.Need-mark-symbols-requires
 mark-symbols-requires c κs =
     let entered = after-enter-leading c in
     let asked = (at-start (entered .before)) .pre in
     let keywords = entered .enter-leading .ensures in (
-      laws.few-marks (asked .0) (asked .1) keywords,
-      laws.still-unmarked (asked .0) (asked .1) keywords,
+      laws.few-marks _ (asked .0) (asked .1) keywords,
+      laws.still-unmarked _ (asked .0) (asked .1) keywords,
       keywords .spelled .long,
     )
 
@@ -40,7 +40,7 @@ enter-leading-requires-2 c κs =
     let marked = after-mark-symbols (c .before .before) in
     let entered = after-enter-leading (marked .before) in
     let asked = (at-start (entered .before)) .pre in
-    laws.second-enters (asked .0) (asked .1) (entered .enter-leading .ensures) (marked .mark-symbols .ensures)
+    laws.second-enters _ (asked .0) (asked .1) (entered .enter-leading .ensures) (marked .mark-symbols .ensures)
 
 slice-write-room-2 : tie.Need-slice-write-room-2
 slice-write-room-2 c = simp length-set (omega (arith, (after-enter-leading2 c) .enter-leading2 .ensures .spelled .long))
@@ -52,7 +52,7 @@ same-length c =
     let marked = after-mark-symbols after in
     let entered = after-enter-leading (marked .before) in
     let asked = (at-start (entered .before)) .pre in
-    laws.lexical (asked .0) (asked .1) (entered .enter-leading .ensures) (marked .mark-symbols .ensures) (after .after-leading .result)
+    laws.lexical _ (asked .0) (asked .1) (entered .enter-leading .ensures) (marked .mark-symbols .ensures) (after .after-leading .result)
     (after .after-leading .ensures) (named .enter-leading2 .ensures)
     .long
     ∙ sym (asked .0 .long)
@@ -64,7 +64,7 @@ returns c =
     let marked = after-mark-symbols after in
     let entered = after-enter-leading (marked .before) in
     let asked = (at-start (entered .before)) .pre in
-    laws.lexical (asked .0) (asked .1) (entered .enter-leading .ensures) (marked .mark-symbols .ensures) (after .after-leading .result)
+    laws.lexical _ (asked .0) (asked .1) (entered .enter-leading .ensures) (marked .mark-symbols .ensures) (after .after-leading .result)
     (after .after-leading .ensures) (named .enter-leading2 .ensures)
 
 -- the function meets its contract

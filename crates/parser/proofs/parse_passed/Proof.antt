@@ -13,12 +13,15 @@ use Rattle.parser.proofs.parse_passed.Statement.{statement}
 use Rattle.parser.proofs.parse_passed.Tie as tie
 use Rattle.parser.proofs.parse_passed.Reads as reads
 use Rattle.parser.proofs.parse_passed.Lts as lts
+use Rattle.productions.proofs.room.reached.Reads as reached-reads
 use Rattle.scanner.proofs.scan.Reads as scan-reads
 use Rattle.parser.proofs.halted.Reads as halted-reads
 use Rattle.parser.proofs.run_tokens.Reads as run-tokens-reads
 
 abbrev claims : lts.Claims
 claims = (
+  reached-reads.Asked,
+  reached-reads.Learnt,
   scan-reads.Asked,
   scan-reads.Learnt,
   halted-reads.Asked,
@@ -29,8 +32,11 @@ claims = (
 
 -- the formula has been scanned
 module _ (point : lts.After-scan claims reads.Pre reads.Post) where
+  abbrev kinds-known : lts.After-reached claims reads.Pre reads.Post
+  kinds-known = point .before .before .before
+
   abbrev third : lts.After-slice-known2 claims reads.Pre reads.Post
-  third = point .before .before .before .before
+  third = kinds-known .before .before
 
   abbrev first : lts.After-shared-slice-known claims reads.Pre reads.Post
   first = third .before .before .before
@@ -42,13 +48,15 @@ module _ (point : lts.After-scan claims reads.Pre reads.Post) where
   bytes i = omega (arith, first .shared-slice-known .given i)
 
   -- its tokens fit
-  fits : {many count : ℕ} → point .scan .result ≡ Tokens many count → TokensFit (point .scan .last .1 .1 .0) many
-  fits e = joining.scan-fills bytes (entry .pre .checked .passes) _ _ _ (point .scan .ensures .fills) (entry .pre .rooms) e .tokens-fit
+  fits : {many count : ℕ} → point .scan .result ≡ Tokens many count → TokensFit (point .scan .last .1 .1 .1 .0) many
+  fits e =
+      joining.scan-fills bytes (entry .pre .checked .passes) (entry .pre .checked .ready .held .grammar) (kinds-known .reached .ensures) _ _ _
+      (point .scan .ensures .fills) (entry .pre .rooms) e .tokens-fit
 
 scan-requires : tie.Need-scan-requires
 scan-requires c κs =
-    let back = c .before .before .before .before .before .before in
-    let pre = back .before .pre in
+    let known = c .before .before in
+    let pre = known .before .before .before .before .before .before .pre in
     record { short = omega (arith, pre .checked .ready .held .grammar .small); room = pre .rooms }
 
 -- there are tokens
@@ -75,20 +83,23 @@ returns : tie.Need-returns
 returns c P =
     let told = c .before .before in
     let p = told .before .before .before .before .before .before in
-    joining.stops-whole (bytes p) P _ _ _ (p .scan .ensures .fills) _ (told .scanned .given .1) (c .halted .ensures)
+    joining.stops-whole (bytes p) P (entry p .pre .checked .ready .held .grammar) (kinds-known p .reached .ensures) _ _ _
+    (p .scan .ensures .fills) _ (told .scanned .given .1) (c .halted .ensures)
 
 returns-2 : tie.Need-returns-2
 returns-2 c P =
     let ran = c .before .before in
     let told = ran .before .before .before in
     let p = scanned told in
-    joining.runs-whole (bytes p) P _ _ _ (p .scan .ensures .fills) (entry p .pre .rooms) (told .before .scanned2 .given .1) _ (ran .run-tokens .ensures)
+    joining.runs-whole (bytes p) P (entry p .pre .checked .ready .held .grammar) (kinds-known p .reached .ensures) _ _ _ (p .scan .ensures .fills)
+    (entry p .pre .rooms) (told .before .scanned2 .given .1) _ (ran .run-tokens .ensures)
 
 -- `parse_passed` meets its contract.
 pub parse-passed-spec : {M : Type 1} → statement M
 parse-passed-spec =
     tie.close
     (tie.spec
+    (λ c κs. search needs)
     scan-requires
     (λ c. search needs)
     (λ c κs. search needs)

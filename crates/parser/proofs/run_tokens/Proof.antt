@@ -8,7 +8,7 @@ returns : tie.Need-returns
 returns c =
     let p = c .before .before .before in
     let ran = p .run .ensures .result-is in
-    let last = p .before .before .before .last-byte .ensures in
+    let last = p .before .before .before .root-of .ensures in
     cc
 
 run-middle-requires : tie.Need-run-middle-requires

@@ -10,10 +10,10 @@ use Rattle.clashes.proofs.prepared.fill.Statement.{statement}
 use Rattle.clashes.proofs.prepared.fill.Tie as tie
 
 abbrev Inv-loop : tie.InvT-loop
-Inv-loop table owners starts m nulls sets room₀ j₀ room j = Filling sets (map (entryAt table nulls sets) (placesIn m owners starts)) room₀ j room
+Inv-loop table owners starts m kinds nulls sets room₀ j₀ room j = Filling kinds sets (map (entryAt table nulls sets) (placesIn m owners starts)) room₀ j room
 
 abbrev μ-loop : tie.MeasureT-loop
-μ-loop table owners starts m nulls sets room₀ j₀ room j = j
+μ-loop table owners starts m kinds nulls sets room₀ j₀ room j = j
 
 -- where the room is begun
 module _ (point : tie.After-begin Inv-loop μ-loop) where
@@ -32,7 +32,7 @@ lay-requires : tie.Need-lay-requires Inv-loop μ-loop
 lay-requires c κs =
     let got = c .before .before .before in
     let tested = got .before .before .before in
-    laws.fill-at (entry (began (tested .before)) .pre) _ (tested .before .loop .inv) (tested .loop-test .taken)
+    laws.fill-at (entry (began (tested .before)) .pre) _ _ (tested .before .loop .inv) (tested .loop-test .taken)
 
 loop-again : tie.Need-loop-again Inv-loop μ-loop
 loop-again c =
@@ -40,7 +40,7 @@ loop-again c =
     let got = laid .before .before .before in
     let offset = got .before in
     let tested = offset .before .before .before in
-    laws.fill-next (entry (began (tested .before)) .pre) _ (tested .before .loop .inv) (tested .loop-test .taken) (offset .offset .ensures)
+    laws.fill-next (entry (began (tested .before)) .pre) _ _ (tested .before .loop .inv) (tested .loop-test .taken) (offset .offset .ensures)
     (got .gather .ensures) (laid .lay .ensures)
 
 same-length : tie.Need-same-length Inv-loop μ-loop

@@ -9,10 +9,10 @@ use Rattle.productions.proofs.room.begin.Statement.{statement}
 use Rattle.productions.proofs.room.begin.Tie as tie
 
 abbrev Inv-loop : tie.InvT-loop
-Inv-loop room₀ m sets n₀ room n = laws.Beginning m sets room₀ n room
+Inv-loop room₀ kinds sets n₀ room n = laws.Beginning kinds sets room₀ n room
 
 abbrev μ-loop : tie.MeasureT-loop
-μ-loop room₀ m sets n₀ room n = 64 - n
+μ-loop room₀ kinds sets n₀ room n = 64 - n
 
 loop-holds : tie.Need-loop-holds Inv-loop μ-loop
 loop-holds c = laws.beginning-start _ _ (c .args .room .now) (c .pre)

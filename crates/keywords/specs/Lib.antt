@@ -1,0 +1,2 @@
+pub mod KeptSpellings
+pub mod KeptSizes
