@@ -50,6 +50,27 @@ both (ok t) e = (t, refl, by (checkFirsts (grammarOf t)) e)
 both (bad r) e = never r e
 
 module _ (bs : List ℕ) where
+  -- ------------------------------------------------------------------ the first refusal
+
+  -- bytes that are not decoded are refused as decoding refuses them
+  pub refused-by-layout : (cause : Refusal) → decode bs ≡ bad cause → check bs ≡ Refused cause
+  unfolding check passedTable
+  refused-by-layout cause e = cc
+
+  -- then a table is refused as the check of sorts refuses it
+  pub refused-by-sorts : (table : Table) (cause : Refusal) → decode bs ≡ ok table → checkSorts table ≡ bad cause → check bs ≡ Refused cause
+  unfolding check passedTable
+  refused-by-sorts table cause e s = cc
+
+  -- and then as the check of first sets refuses it
+  pub refused-by-firsts : (table : Table) (cause : Refusal) → decode bs ≡ ok table → checkSorts table ≡ ok table → checkFirsts (grammarOf table) ≡ bad cause
+      → check bs ≡ Refused cause
+  unfolding check passedTable
+  refused-by-firsts table cause e s f =
+      cc
+
+  -- ------------------------------------------------------------------ the bytes that pass
+
   -- the table that was decoded, and what its check of sorts answered, with both checks passed
   accepted : (checked : Checked Table) → decode bs ≡ checked → verdict (checked >>= rules) ≡ Passed
       → (table sorted : Table) × (decode bs ≡ ok table) × (checkSorts table ≡ ok sorted) × (checkFirsts (grammarOf sorted) ≡ ok tt)
@@ -89,25 +110,6 @@ module _ (bs : List ℕ) where
     -- the same of any verdict that is the check's
     pub verdict-exactly : {given-verdict : Verdict} → given-verdict ≡ check bs → (given-verdict ≡ Passed) ↔ Passes bs
     verdict-exactly e = (λ h. passing (sym e ∙ h), λ p. e ∙ passed p)
-
-  -- ------------------------------------------------------------------ the first refusal
-
-  -- bytes that are not decoded are refused as decoding refuses them
-  pub refused-by-layout : (cause : Refusal) → decode bs ≡ bad cause → check bs ≡ Refused cause
-  unfolding check passedTable
-  refused-by-layout cause e = cc
-
-  -- then a table is refused as the check of sorts refuses it
-  pub refused-by-sorts : (table : Table) (cause : Refusal) → decode bs ≡ ok table → checkSorts table ≡ bad cause → check bs ≡ Refused cause
-  unfolding check passedTable
-  refused-by-sorts table cause e s = cc
-
-  -- and then as the check of first sets refuses it
-  pub refused-by-firsts : (table : Table) (cause : Refusal) → decode bs ≡ ok table → checkSorts table ≡ ok table → checkFirsts (grammarOf table) ≡ bad cause
-      → check bs ≡ Refused cause
-  unfolding check passedTable
-  refused-by-firsts table cause e s f =
-      cc
 
 -- ------------------------------------------------------------------ 12 and 13
 
