@@ -116,8 +116,9 @@ note-taken bs owner start kinds calls ef ek ec = record { found-is = ef; kinds-a
 
 -- what the productions before number `turn` read and call is noted
 pub record Noting (bs owners starts : List ℕ) (many : ℕ) (kinds₀ calls₀ : List ℕ) (turn : ℕ) (kinds calls : List ℕ) : Type 0 where
-  -- the arrays of sets keep their lengths
+  -- the array of kinds keeps its length
   pub kinds-many : length kinds ≡ length kinds₀
+  -- and so does that of calls
   pub calls-many : length calls ≡ length calls₀
   -- the productions left lead to what all read
   pub reading : Over (noted openingOf) bs owners starts many (replicate 64 0) turn kinds
