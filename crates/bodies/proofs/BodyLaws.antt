@@ -1,13 +1,13 @@
 -- Laws of the bodies of alternatives: stacks and lists of sorts, items and results by their tests.
 use Prim.Native.Nat.{ℕ, suc, _+_, _-_, _≤_, _<_}
 use mathlib.Core.Path.{_≡_, refl, sym, ap, ap₂, _∙_}
-use mathlib.Core.Bool.{Bool, true, false}
+use mathlib.Core.Bool.{Bool, true, false, _&&_}
 use mathlib.Core.List.{List, [], _∷_, _++_}
 use native.Mathlib.Omega.{arith}
-use lib.Dec.{eqb, ltb}
+use lib.Dec.{eqb, leb, ltb}
 use lib.ListN.{length, getD, take, drop, set, length-set, length-drop, drop-of-length-le, take-append-drop}
 use lib.Seq.{drop-cons, take-all, take-suc, take-suc-set, getD-drop, drop-drop, drop-set-lt, set-out}
-use borrow.Author.Tests.{lt-ltb, le-ltb, eq-eqb, ne-eqb}
+use borrow.Author.Tests.{lt-ltb, le-ltb, eq-eqb, ne-eqb, eqb-true, leb-true}
 use Rattle.grammar.specs.Sorts.{unit, binder, num}
 use Rattle.bodies.specs.declared.Known.{Known}
 use Rattle.bodies.specs.declared.ItemSort.{ItemSort}
@@ -16,7 +16,8 @@ use Rattle.bodies.specs.declared.Fault.{Fault}
 use Rattle.bodies.specs.declared.Fault.the-variants.{Undefined}
 use Rattle.bodies.specs.declared.Tested.{Tested}
 use Rattle.bodies.specs.declared.Tested.the-variants.{Sound, Faulty}
-use Rattle.bodies.specs.TemplateBytes.{templatesFault, places}
+use Rattle.judgements.proofs.TemplateSorts.{both}
+use Rattle.bodies.specs.TemplateBytes.{closedBytes, fillBytes, templatesFault, places}
 use Rattle.bodies.specs.HeadBytes.{signatureAt}
 use Rattle.bodies.specs.BodyBytes.{unlessFaulty, callAt, itemAt, resultAt, ParametersLoaded, ParameterSorts, oneMore, SortAdded}
 use Rattle.bodies.proofs.TemplateInduction.{choose}
@@ -156,6 +157,17 @@ module _ (bs : List ℕ) (known : Known) (heads L : List ℕ) (count : ℕ) (arg
   -- the nonterminal has no head
   pub call-undefined : head ≡ 0 → Unsorted Undefined ≡ callAt bs known heads L count arguments
   call-undefined z = call-by true (eq-eqb head 0 z)
+
+  -- no arguments, where the signature has no parameters
+  pub call-bare :
+      {sort : ℕ} {signature : List ℕ} → (head ≡ 0 → ⊥) → signature ≡ signatureAt bs head → (eqb (length arguments) 0 && leb (length signature) 1) ≡ true
+      → sort ≡ getD signature 0 0 → As sort ≡ callAt bs known heads L count arguments
+  unfolding templatesFault closedBytes fillBytes
+  call-bare {sort} {signature} declared agrees e f =
+      let (a, b) = both (eqb (length arguments) 0) (leb (length signature) 1) e in
+      let none : arguments ≡ [] = drop-of-length-le arguments {i = 0} (omega (arith, eqb-true (length arguments) 0 a)) in
+      let no-place : drop 1 signature ≡ [] = drop-of-length-le signature {i = 1} (leb-true (length signature) 1 b) in
+      cc (call-by false (ne-eqb head 0 declared))
 
   module _ (declared : head ≡ 0 → ⊥) {signature : List ℕ} (agrees : signature ≡ signatureAt bs head) {tested : Tested}
       (also-equal : tested ≡ templatesFault (known .outsides) (take (known .variables) L) arguments (drop 1 signature)) where

@@ -15,11 +15,11 @@ use Rattle.answers.specs.declared.Verdict.the-variants.{Passed, Refused}
 use Rattle.spellings.specs.Bytes.{every, isWord, isKeyword, oneIf}
 use Rattle.spellings.proofs.Loops.{drop-at-index}
 use Rattle.grammar.specs.Limits.{most}
-use Rattle.grammar.specs.SortTests.{isSort}
+use Rattle.grammar.specs.SortTests.{isSort, isIdeSort}
 use Rattle.grammar.specs.Values.{Field}
 use Rattle.decoding.specs.declared.Progress.{Progress}
 use Rattle.decoding.specs.Prefix.{templatesOf, isTemplates, isTemplate}
-use Rattle.decoding.specs.Layout.{isEmpty, isHead, isItem, isRoot, isKnown, follows, isRepeated, isSpelled, hasRoom, passed, isWhole, checkField}
+use Rattle.decoding.specs.Layout.{isEmpty, isNonterminal, isHead, isItem, isRoot, isKnown, follows, isRepeated, isSpelled, hasRoom, passed, isWhole, checkField}
 
 -- ------------------------------------------------------------------ tests
 
@@ -100,6 +100,49 @@ module _ {tag : ℕ} (value : List ℕ) where
       sym
       (λ i. knownTests value (ne-eqb tag 1 a i) (ne-eqb tag 2 b i) (ne-eqb tag 3 c i) (ne-eqb tag 4 d i) (ne-eqb tag 5 e i) (ne-eqb tag 6 f i)
       (ne-eqb tag 7 g i) (ne-eqb tag 8 h i))
+
+-- an item by its kind, one by one
+module _ {kind operand : ℕ} (value : List ℕ) (first : kind ≡ getD value 0 0) (second : operand ≡ getD value 1 0) where
+  itemTests : Bool → Bool → Bool → Bool → Bool → Bool
+  itemTests keyword ide number local call =
+      (keyword && eqb (length value) 2) || (ide && eqb (length value) 2 && isIdeSort operand) || (number && eqb (length value) 2 && eqb operand 0)
+      || (local && eqb (length value) 2 && eqb operand 0) || (call && leb 2 (length value) && isNonterminal operand)
+
+  item-at : {code : ℕ} → kind ≡ code → itemTests (eqb code 0) (eqb code 1) (eqb code 2) (eqb code 3) (eqb code 4) ≡ isItem value
+  unfolding isItem itemTests
+  item-at e = cc
+
+  -- a keyword has any operand
+  pub item-keyword : kind ≡ 0 → eqb (length value) 2 ≡ isItem value
+  unfolding itemTests
+  item-keyword e = simp or-false at (item-at e)
+
+  -- an ide has a sort
+  pub item-ide : {sorted : Bool} → kind ≡ 1 → sorted ≡ isIdeSort operand → (eqb (length value) 2 && sorted) ≡ isItem value
+  unfolding itemTests
+  item-ide e f = ap (λ t. eqb (length value) 2 && t) f ∙ (simp or-false at (item-at e))
+
+  -- a number has the operand 0
+  pub item-number : kind ≡ 2 → (eqb (length value) 2 && eqb operand 0) ≡ isItem value
+  unfolding itemTests
+  item-number e = simp or-false at (item-at e)
+
+  -- so has a local
+  pub item-local : kind ≡ 3 → (eqb (length value) 2 && eqb operand 0) ≡ isItem value
+  unfolding itemTests
+  item-local e = simp or-false at (item-at e)
+
+  -- a call has a nonterminal, and may have more bytes
+  pub item-call : kind ≡ 4 → (leb 2 (length value) && isNonterminal operand) ≡ isItem value
+  unfolding itemTests
+  item-call e = item-at e
+
+  -- any other kind
+  pub item-none :
+      ((((Unit {0} × (kind ≡ 0 → ⊥)) × (kind ≡ 1 → ⊥)) × (kind ≡ 2 → ⊥)) × (kind ≡ 3 → ⊥)) × (kind ≡ 4 → ⊥) → false ≡ isItem value
+  unfolding itemTests
+  item-none (((((u, a), b), c), d), e) =
+      sym (λ i. itemTests (ne-eqb kind 0 a i) (ne-eqb kind 1 b i) (ne-eqb kind 2 c i) (ne-eqb kind 3 d i) (ne-eqb kind 4 e i)) ∙ item-at refl
 
 -- the bytes before `place` are sorts
 pub record Sorts (value : List ℕ) (from place : ℕ) : Type 0 where

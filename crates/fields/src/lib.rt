@@ -81,11 +81,14 @@ fn is_item(v: &[u8]) -> bool
     let kind = byte(v, 0);
     let operand = byte(v, 1);
     let pair = v.len() == 2;
-    ((kind == KEYWORD_ITEM) & pair)
-        | ((kind == IDE_ITEM) & pair & Sort::is_ide_code(operand))
-        | ((kind == NUMBER_ITEM) & pair & (operand == 0))
-        | ((kind == LOCAL_ITEM) & pair & (operand == 0))
-        | ((kind == CALL_ITEM) & (2 <= v.len()) & (operand < NONTERMINALS))
+    match kind {
+        KEYWORD_ITEM => pair,
+        IDE_ITEM => pair & Sort::is_ide_code(operand),
+        NUMBER_ITEM => pair & (operand == 0),
+        LOCAL_ITEM => pair & (operand == 0),
+        CALL_ITEM => (2 <= v.len()) & (operand < NONTERMINALS),
+        _ => false,
+    }
 }
 
 // The root: a nonterminal.

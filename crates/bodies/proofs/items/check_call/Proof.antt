@@ -22,6 +22,9 @@ module _ (point : tie.After-signature-at) where
   short = omega (arith, ap length (point .signature-at .ensures), signature-short (start .args .table .now) (head .head-of .result))
 
 -- the places of its parameters are open, then the arguments are tested
+abbrev signedBefore : tie.After-open-params → tie.After-signature-at
+signedBefore p = p .before .before .before
+
 abbrev opened : tie.After-part → tie.After-open-params
 opened p = p .before .before .before
 
@@ -29,7 +32,7 @@ abbrev lent : tie.After-fault-in → tie.After-part
 lent p = p .before .before
 
 abbrev signed : tie.After-fault-in → tie.After-signature-at
-signed p = opened (lent p) .before .before
+signed p = signedBefore (opened (lent p))
 
 abbrev tested : tie.After-slice-known3 → tie.After-fault-in
 tested p = p .before .before
@@ -48,19 +51,22 @@ fault point =
 returns : tie.Need-returns
 returns c = search laws.call-undefined
 
+returns-2 : tie.Need-returns-2
+returns-2 c = search laws.call-bare
+
 open-params-requires : tie.Need-open-params-requires
-open-params-requires c κs = omega (arith, short (c .before))
+open-params-requires c κs = omega (arith, short (c .before .before))
 
 fault-in-requires : tie.Need-fault-in-requires
 fault-in-requires c κs =
     let q = opened (c .before) in
-    omega (arith, start (q .before .before) .pre, q .open-params .ensures .small, q .open-params .kept .0, short (q .before .before))
-
-returns-2 : tie.Need-returns-2
-returns-2 c = search (laws.call-unfit, fault (tested (c .before .before .before)))
+    omega (arith, start (signedBefore q) .pre, q .open-params .ensures .small, q .open-params .kept .0, short (signedBefore q))
 
 returns-3 : tie.Need-returns-3
-returns-3 c = search (laws.call-fit, fault (tested (c .before .before .before)))
+returns-3 c = search (laws.call-unfit, fault (tested (c .before .before .before)))
+
+returns-4 : tie.Need-returns-4
+returns-4 c = search (laws.call-fit, fault (tested (c .before .before .before)))
 
 -- the function meets its contract
 pub check-call-spec : {M : Type 1} → statement M
@@ -70,6 +76,8 @@ check-call-spec =
     (λ c κs. search needs)
     returns
     (λ c κs. search needs)
+    (λ c κs. search needs)
+    returns-2
     open-params-requires
     (λ c κs. search needs)
     fault-in-requires
@@ -77,6 +85,6 @@ check-call-spec =
     (λ c. search needs)
     (λ c κs. search needs)
     (λ c. search needs)
-    returns-2
+    returns-3
     (λ c. search needs)
-    returns-3)
+    returns-4)
