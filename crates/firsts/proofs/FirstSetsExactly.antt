@@ -8,17 +8,18 @@ use mathlib.Core.Logic.{_↔_, ⊎-elim}
 use mathlib.Core.List.{List, [], _∷_}
 use native.Mathlib.Decide.{decLt, ℕ-discrete}
 use native.Mathlib.Omega.{arith}
-use lib.Dec.{eqb, ltb}
+use lib.Dec.{eqb, ltb, leb}
 use lib.Bits.{bitOr}
 use lib.ListN.{length, getD, replicate, length-set, length-replicate, getD-replicate, List·getD-eq-default}
 use lib.Seq.{set-out, getD-set-same, getD-set-other}
-use borrow.Author.Tests.{lt-ltb, le-ltb, eq-eqb, ne-eqb, eqb-true, ltb-true}
+use borrow.Author.Tests.{lt-ltb, le-ltb, eq-eqb, ne-eqb, eqb-true, ltb-true, leb-true, le-leb}
 use Rattle.kinds.specs.Kinds.{hasKind, only}
 use Rattle.kinds.proofs.KindsLaws.{has-none, has-join, has-only, has-own}
+use Rattle.grammar.specs.SortTests.{isIdeSort}
 use Rattle.grammar.specs.Table.{keyword, ide, number, kindOf, Item, terminal, local, call}
 use Rattle.productions.specs.Normal.{Production}
 use Rattle.firsts.specs.FirstSets.{overAll, isNullable, nullables, openingOf, callOf, through, joined, gather, firstStep, setsOf}
-use Rattle.firsts.specs.Patterns.{patternOf, ReadsAt, reads-at}
+use Rattle.firsts.specs.Patterns.{onlyIf, patternOf, ReadsAt, reads-at}
 use Rattle.firsts.specs.Rules.{Of, First, first-own, first-call, first-past, FirstOf, Reads, reads, Calls, calls}
 use Rattle.firsts.proofs.Rounds.{Numbers, same-at, nothing, Within, Each, admit, least, least-within, least-closed, least-seen, over-seen}
 use Rattle.firsts.proofs.Rounds.{or-left, or-right, or-split}
@@ -243,12 +244,18 @@ calls-exactly item kind = (sound item, complete item kind)
 pub reads-at-exactly : (item : Item) (kind : ℕ) → (hasKind (patternOf item) kind ≡ true) ↔ ReadsAt item kind
 reads-at-exactly item kind = (sound item, complete item kind)
   where
+    at-sort : (sort : ℕ) (test : Bool) → isIdeSort sort ≡ test → hasKind (onlyIf test sort) kind ≡ true → ReadsAt (terminal (ide sort)) kind
+    at-sort sort false t e = absurd (none-has kind e)
+    at-sort sort true t e =
+        let bounds = and-eq-true-iff (leb 1 sort) (leb sort 3) .0 t in
+        rw (only-has sort kind e .0) (reads-at {s = sort} (leb-true 1 sort (bounds .0)) (leb-true sort 3 (bounds .1)))
+
     sound : (item : Item) → hasKind (patternOf item) kind ≡ true → ReadsAt item kind
     sound (terminal (keyword k)) e = absurd (none-has kind e)
-    sound (terminal (ide s)) e = let t = only-has s kind e in rw (t .0) (reads-at {s = s} (omega arith))
+    sound (terminal (ide s)) e = at-sort s (isIdeSort s) refl e
     sound (terminal number) e = absurd (none-has kind e)
     sound local e = absurd (none-has kind e)
     sound (call n ts) e = absurd (none-has kind e)
 
     complete : (item : Item) (kind : ℕ) → ReadsAt item kind → hasKind (patternOf item) kind ≡ true
-    complete _ _ (reads-at {s = s} l) = has-own s l
+    complete _ _ (reads-at {s = s} l h) = rw (le-leb 1 s l, le-leb s 3 h) (has-own s (omega arith))

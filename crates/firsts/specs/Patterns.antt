@@ -1,17 +1,23 @@
--- What reads a `$` variable first (document 02, C-14): the same laws as those of first sets, over what an ide reads at. Nobody needs this to believe
--- `expand`.
-use Prim.Native.Nat.{ℕ}
+-- What reads a `$` variable first in a production, as sets of 64 bits: bit B an ide of sort B, bit 8 + s a pattern place of sort s. Document 02, C-14.
+-- They are gathered as first sets are, over what an item reads a variable at.
+use Prim.Native.Nat.{ℕ, _+_, _≤_}
+use mathlib.Core.Bool.{Bool, true, false, _&&_, _||_}
 use mathlib.Core.List.{List}
-use Rattle.kinds.specs.Kinds.{only}
+use Rattle.kinds.specs.Kinds.{hasKind, only}
+use Rattle.grammar.specs.Sorts.{var, binder, label}
+use Rattle.grammar.specs.SortTests.{isIdeSort, fits}
 use Rattle.grammar.specs.Table.{keyword, ide, number, Item, terminal, local, call}
 use Rattle.productions.specs.Normal.{Production}
 use Rattle.firsts.specs.FirstSets.{gather, setsOf}
-use Rattle.firsts.specs.Rules.{IsKind}
 
--- what an item gives by itself: bit B an ide of sort B
+-- the set of one number, if a test passes: what no layout passes gives nothing, so that no ide has the bit of a place
+abbrev pub onlyIf : Bool → ℕ → ℕ
+onlyIf test bit = elim test [ true ↦ only bit | false ↦ 0 ]
+
+-- what an item gives by itself
 abbrev pub patternOf : Item → ℕ
 patternOf (terminal (keyword k)) = 0
-patternOf (terminal (ide s)) = only s
+patternOf (terminal (ide s)) = onlyIf (isIdeSort s) s
 patternOf (terminal number) = 0
 patternOf local = 0
 patternOf (call n ts) = 0
@@ -24,4 +30,21 @@ patternsOf nulls sets p = gather patternOf nulls sets (p .items) 0
 
 -- by rule: the sort that an ide reads at
 pub data ReadsAt : Item → ℕ → Type 0 where
-  reads-at : {s : ℕ} → IsKind s → ReadsAt (terminal (ide s)) s
+  reads-at : {s : ℕ} → var ≤ s → s ≤ label → ReadsAt (terminal (ide s)) s
+
+-- ------------------------------------------------------------------ what a variable opens
+
+-- the bit of a place
+abbrev pub placeBit : ℕ → ℕ
+placeBit s = 8 + s
+
+abbrev pub opensIdeOf : ℕ → ℕ → ℕ → Bool
+opensIdeOf patterns s B = hasKind patterns B && fits s B
+
+-- an ide that a variable of sort s fits
+unfoldable pub opensIde : ℕ → ℕ → Bool
+opensIde patterns s = opensIdeOf patterns s var || opensIdeOf patterns s binder || opensIdeOf patterns s label
+
+-- a place of exactly this sort
+unfoldable pub opensPlace : ℕ → ℕ → Bool
+opensPlace patterns s = hasKind patterns (placeBit s)
