@@ -1,11 +1,11 @@
 -- The check of a table accepts exactly the tables that pass, and gives the first refusal otherwise.
-use Prim.Native.Nat.{ℕ, _<_}
+use Prim.Native.Nat.{ℕ, _<_, _≤_}
 use mathlib.Core.Path.{_≡_, refl, sym, ap, _∙_, subst⁻¹}
 use mathlib.Core.Bool.{Bool, true, false, true≢false, _&&_, _||_}
 use native.Mathlib.Omega.{arith}
 use mathlib.Core.Logic.{_↔_, _⊎_, inl, inr}
 use mathlib.Core.List.{List, [], _∷_, List·Memᴰ, List·Memᴰ·head, List·Memᴰ·tail}
-use lib.ListN.{getD}
+use lib.ListN.{length, getD}
 use lib.Dec.{eqb, leb}
 use borrow.Author.Tests.{eqb-true, leb-true}
 use Rattle.spellings.proofs.BytesLaws.{by-test}
@@ -16,7 +16,11 @@ use Rattle.answers.specs.declared.Refusal.{Refusal}
 use Rattle.answers.specs.declared.Verdict.{Verdict}
 use Rattle.answers.specs.declared.Verdict.the-variants.{Passed, Refused}
 use Rattle.answers.specs.Checked.{Checked, ok, bad, _>>=_, _>>_, verdict}
+use Rattle.grammar.specs.Limits.{most}
 use Rattle.grammar.specs.Table.{Table}
+use Rattle.decoding.specs.Within.{Within}
+use Rattle.keywords.proofs.KeptLaws.{kept-many}
+use Rattle.firsts.specs.Reach.{kindsReached}
 use Rattle.decoding.specs.Decode.{decode}
 use Rattle.decoding.proofs.LayoutTheorems.{decode-exactly}
 use Rattle.decoding.proofs.Inverse.{decode-encoded}
@@ -24,6 +28,7 @@ use Rattle.judgements.specs.CheckSorts.{checkSorts}
 use Rattle.judgements.proofs.SortTheorems.{sorts-exactly, checked-as-is, sort-refusals}
 use Rattle.clashes.specs.CheckFirsts.{checkFirsts}
 use Rattle.clashes.proofs.ClashTheorems.{passes-exactly, left-recursion-lowest, clash-lowest}
+use Rattle.checker.specs.Keywords.{lexiconOfTable}
 use Rattle.checker.specs.Syntax.{Syntax, syntaxOf}
 use Rattle.checker.specs.Check.{passedTable, check}
 use Rattle.checker.specs.Passes.{grammarOf, Passes}
@@ -211,3 +216,7 @@ passed-table bs passes =
       sorts-exactly (passes .table) (passes .within) .1 (passes .meets .sorted),
       passes-exactly (grammarOf (passes .table)) .1 (passes .meets .not-left-recursive, passes .meets .without-clash),
     )
+
+-- Each of its keywords keeps its number among those that its scanner knows, so that there are at most 62.
+pub few-keywords : (table : Table) → Within table → length (lexiconOfTable table .keywords) ≤ most .keywords
+few-keywords table within = omega (arith, kept-many (kindsReached (grammarOf table) (table .root)) 0 (table .keywords), within .keywordCount)

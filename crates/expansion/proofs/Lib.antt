@@ -1,3 +1,4 @@
+pub mod AsBefore
 pub mod CallLaws
 pub mod CellLaws
 pub mod Choosing

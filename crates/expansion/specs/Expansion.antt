@@ -6,15 +6,14 @@ use mathlib.Core.List.{List, [], _∷_, _++_, map}
 use lib.{Dec.eqb, Dec.ltb, ListN.length, ListN.getD, Seq.sets, Count.ones}
 use Rattle.answers.specs.Refusals.{refusal}
 use Rattle.kinds.specs.Kinds.{hasKind, only}
-use Rattle.grammar.specs.Sorts.{label}
-use Rattle.grammar.specs.Table.{Template, Templates, variable, outsideVar, outsideLabel, make, none, more}
-use Rattle.grammar.specs.Table.{Terminal, keyword, ide, number, kindOf, Item, terminal, local, call}
-use Rattle.terms.specs.Cells.{columns, rowNumbers, rowsLent, wordName, freshName, outsideName}
+use Rattle.grammar.specs.Table.{Template, Templates, variable, outsideVar, outsideLabel, make, none, more, Terminal, kindOf, Item, terminal, local, call}
+use Rattle.terms.specs.Cells.{columns, rowNumbers, rowsLent, freshName, outsideName}
 use Rattle.tokens.specs.declared.Token.{Token}
 use Rattle.tokens.specs.Tokens.{endToken}
 use Rattle.productions.specs.Normal.{Production}
 use Rattle.firsts.specs.FirstSets.{nullables, firstSets, firstOf, allNullable}
 use Rattle.expansion.specs.declared.State.{State}
+use Rattle.expansion.specs.TextTokens.{readValue, meets, textValue}
 use Rattle.expansion.specs.Run.{Result, done, halt, Run, return, after, _>>=_}
 use Rattle.expansion.specs.Limits.{mostCalls, mostOpen}
 
@@ -102,19 +101,17 @@ unfoldable mutual
 abbrev pub freshMade : Run ℕ
 freshMade s cells = done (freshName (s .fresh)) (record { at = s .at; fresh = s .fresh + 1; calls = s .calls; made = s .made }) cells
 
--- a word read at a sort: a label is its spelling number, a Var or Binder a name
-abbrev pub wordValue : ℕ → ℕ → ℕ
-wordValue sort n = elim (eqb sort label) [ true ↦ n | false ↦ wordName n ]
-
--- what a terminal gives of its token's value
-abbrev pub readValue : Terminal → ℕ → ℕ
-readValue (keyword k) v = 0
-readValue (ide s) v = wordValue s v
-readValue number v = v
+-- takes what a terminal reads: a token of its kind, or of a text one that meets it (02, C-14)
+abbrev pub takeTerminal : Input → Terminal → Run ℕ
+takeTerminal I t s cells =
+    elim (meets (nextToken I s .kind) t) [
+      | true ↦ done (textValue (nextToken I s .kind) t (nextToken I s .value)) (tokenTaken s) cells
+      | false ↦ takeToken I (kindOf t) (readValue t) s cells
+    ]
 
 -- an item under the values of the variables; `callee` is what a call does
 abbrev pub runItem : (ℕ → List ℕ → Run ℕ) → Input → Item → List ℕ → Run ℕ
-runItem callee I (terminal t) M = takeToken I (kindOf t) (readValue t)
+runItem callee I (terminal t) M = takeTerminal I t
 runItem callee I local M = freshMade
 runItem callee I (call n ts) M = buildAll ts I M >>= λ vs. callee n vs
 

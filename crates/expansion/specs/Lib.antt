@@ -1,4 +1,5 @@
 pub mod Run
+pub mod TextTokens
 pub mod Expansion
 pub mod Figure3
 pub mod ValueSorts

@@ -23,6 +23,7 @@ use Rattle.scanner.specs.Rooms.{RoomFor, wordPlaces, scanInto}
 use Rattle.scanner.proofs.AfterScan.{Holds, scan-holds}
 use Rattle.checker.specs.Syntax.{Syntax, syntaxOf}
 use Rattle.checker.specs.Passes.{Passes}
+use Rattle.checker.proofs.Passing.{few-keywords}
 use Rattle.writer.specs.Pool.{spelledBy}
 use Rattle.emitter.specs.Emittable.{termOf, Emittable}
 use Rattle.emitter.specs.declared.Writing.{Writing}
@@ -90,7 +91,13 @@ module _ {bs : List ℕ} (bytes : Bytes bs) (passes : Passes bs) {formula tokens
   S = stages.scans-of (passes .table) T formula (value .answered)
 
   abbrev L : Lexemes
-  L = record { spell = spell; tokens = lexed .tokens; small = expansion.scanned-is-small lex few formula }
+  L =
+      record {
+        spell = spell;
+        tokens = lexed .tokens;
+        small = expansion.scanned-is-small lex few formula;
+        formula = expansion.scanned-is-formula lex few (few-keywords (passes .table) (passes .within)) formula;
+      }
 
   derived : Figure3.Parses (syntax .productions) spell (syntax .root) (lexed .tokens) (termAt (state .made) spell cells′ row)
   derived = expansion.accepted-is-derived (passes .table) T L (rowsLent (length cells)) cells (omega arith) row state cells′ (value .runs)

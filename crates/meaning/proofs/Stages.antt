@@ -30,7 +30,7 @@ use Rattle.tokens.proofs.ScannerTheorems as scanner
 use Rattle.checker.specs.Syntax.{Syntax, syntaxOf}
 use Rattle.checker.specs.Check.{passedTable, check}
 use Rattle.checker.specs.Passes.{grammarOf, Passes}
-use Rattle.checker.proofs.Passing.{passed-table}
+use Rattle.checker.proofs.Passing.{passed-table, few-keywords}
 use Rattle.expansion.specs.declared.State.{State}
 use Rattle.expansion.specs.Run.{Result, done, halt}
 use Rattle.expansion.specs.Expansion.{inputOf, run}
@@ -170,6 +170,7 @@ module _ (table : Table) (passing : Passing table) (formula : List ℕ) where
           spell = spellOf syntax ws;
           tokens = ts;
           small = rw (scanned-as scans) at (expansion.scanned-is-small lex few formula);
+          formula = rw (scanned-as scans) at (expansion.scanned-is-formula lex few (few-keywords table (passing .within)) formula);
         }
 
     -- A word's number is that of its spelling.

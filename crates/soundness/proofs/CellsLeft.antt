@@ -17,7 +17,8 @@ use Rattle.expansion.specs.Run.{Result, done, halt, Run, after}
 use Rattle.expansion.specs.Expansion.{Input, nextToken, tokenTaken, takeToken, misfit, cell, build, buildAll, runItem}
 use Rattle.expansion.specs.Expansion.{runItems, callBegun, runCall, initialState, ended, run}
 use Rattle.expansion.specs.Limits.{mostOpen}
-use Rattle.expansion.specs.Expansion as Expansion
+use Rattle.expansion.specs.TextTokens.{readValue}
+use Rattle.expansion.proofs.AsBefore.{terminal-by}
 use Rattle.expansion.proofs.CellLaws.{withRow, Row, cell-by}
 use Rattle.expansion.proofs.CallLaws.{inner, inner-rows, call-by}
 use Rattle.soundness.specs.Stopping.{Left}
@@ -110,7 +111,9 @@ module _ (rows : ℕ) where
     module _ (callee : ℕ → List ℕ → Run ℕ) (calls : (nonterminal : ℕ) (vs : List ℕ) → Leaving (callee nonterminal vs)) where
       -- an item,
       pub item-leaves : (item : Item) (values : List ℕ) → Leaving (runItem callee input item values)
-      item-leaves (Table.terminal t) values s cells h = take-leaves (Table.kindOf t) (Expansion.readValue t) s cells h
+      item-leaves (Table.terminal t) values s cells h =
+          terminal-by input t s cells (λ x. Leaves rows (s .made) cells x) (λ value. stays s (tokenTaken s) cells refl h)
+          (take-leaves (Table.kindOf t) (readValue t) s cells h)
       item-leaves Table.local values s cells h = stays s (record { at = s .at; fresh = s .fresh + 1; calls = s .calls; made = s .made }) cells refl h
       item-leaves (Table.call n ts) values s cells h =
           leaves-after rows (s .made) cells (buildAll ts input values s cells) (λ vs. callee n vs) (build-all-leaves ts values s cells h)

@@ -22,7 +22,8 @@ use Rattle.terms.specs.Term.{Name, Term, word, fresh}
 use Rattle.terms.specs.Rows.{termAt, nameOf}
 use Rattle.expansion.specs.declared.State.{State}
 use Rattle.expansion.specs.Run.{Result, done, halt, Run, after}
-use Rattle.expansion.specs.Expansion.{Input, ready, choice, nextToken, tokenTaken, takeToken, buildAll, build, readValue, runItem, runItems, callBegun}
+use Rattle.expansion.specs.Expansion.{Input, ready, choice, nextToken, tokenTaken, takeToken, buildAll, build, runItem, runItems, callBegun}
+use Rattle.expansion.specs.TextTokens.{readValue}
 use Rattle.tokens.specs.Tokens.{endToken}
 use Rattle.expansion.specs.Expansion.{runCall, initialState, ended, run}
 use Rattle.expansion.specs.Limits.{mostCalls, mostOpen}
@@ -165,7 +166,7 @@ module _ {g : List Production} (setting : Setting g) where
           let q = token-is tokens (state .at) p in
           let x : ℕ = readValue t (nextToken I state .value) in
           let taken : runItem (runCall depth lent) within (terminal t) xs state cells ≡ done x (tokenTaken state) cells =
-          cc (take-is setting inside (kindOf t) (readValue t) state cells, take-done I (kindOf t) (readValue t) state cells (cc (q .0))) in
+          cc (take-is setting inside t state cells, take-done I (kindOf t) (readValue t) state cells (cc (q .0))) in
           rw (items-after (runCall depth lent) within (terminal t) is xs state cells x (tokenTaken state) cells taken)
           (A .along provides inside depth names-left result B _ (xs ++ (x ∷ [])) (tokenTaken state) cells b (q .1) f
           (record { room = h .room; fits = h .fits; names = omega (arith, h .names); begun = h .begun }) (all-and a (shown state cells (q .0))))

@@ -7,7 +7,7 @@ use lib.ListN.{drop}
 use Rattle.answers.specs.Checked.{ok}
 use Rattle.grammar.specs.Sorts.{Signature, constructorSignatures, constructor}
 use Rattle.grammar.specs.Sorts as Sorts
-use Rattle.grammar.specs.Table.{make, none, Item, call}
+use Rattle.grammar.specs.Table.{make, none, Terminal, kindOf, Item, call}
 use Rattle.decoding.specs.Within.{Each, each-none, each-more, ItemWithin, call-within, none-within}
 use Rattle.judgements.specs.Judgements.{Newest, Fill, fill-none, Body, by-result, by-binding}
 use Rattle.judgements.specs.Judgements as Judgements
@@ -15,9 +15,11 @@ use Rattle.tokens.specs.declared.Token.{Token}
 use Rattle.productions.specs.Normal.{Production}
 use Rattle.clashes.specs.CheckFirsts.{checkFirsts}
 use Rattle.expansion.specs.declared.State.{State}
-use Rattle.expansion.specs.Expansion.{Input, ready, choice, nextToken, takeToken}
-use Rattle.expansion.specs.Parsing.{input, SmallWords}
+use Rattle.expansion.specs.Expansion.{Input, ready, choice, nextToken, takeToken, takeTerminal}
+use Rattle.expansion.specs.TextTokens.{readValue}
+use Rattle.expansion.specs.Parsing.{input, SmallWords, FormulaKinds}
 use Rattle.expansion.specs.ValueSorts.{Matches, matches-none}
+use Rattle.expansion.proofs.AsBefore.{terminal-as-before}
 use Rattle.expansion.proofs.CallLaws.{inner, inner-grammar, inner-tokens, inner-rows}
 use Rattle.expansion.proofs.Choosing.{nextKind, kind-next}
 use Rattle.soundness.proofs.Typing.{FitAll}
@@ -36,6 +38,8 @@ pub record Setting (g : List Production) : Type 0 where
   pub rows : ℕ
   -- the numbers of words are small
   pub small : SmallWords tokens
+  -- the tokens are those of a formula
+  pub formula : FormulaKinds tokens
   -- the root
   pub root : ℕ
   -- it is a nonterminal
@@ -78,10 +82,11 @@ module _ {g : List Production} (setting : Setting g) where
   choice-is provides state nonterminal =
       rw (provides .grammar-is, provides .tokens-are) (ap (choice (ready g) nonterminal) (kind-next (state .at) (setting .tokens)))
 
-  -- a token is taken as the whole run takes it
-  pub take-is : {lent : Input} → Provides setting lent → (kind : ℕ) (value : ℕ → ℕ) (state : State) (cells : List ℕ)
-      → takeToken lent kind value state cells ≡ takeToken (input g (setting .tokens) (setting .rows)) kind value state cells
-  take-is provides kind value state cells = rw (provides .tokens-are) refl
+  -- a token is taken as the whole run takes it, by the terminal's kind
+  pub take-is : {lent : Input} → Provides setting lent → (t : Terminal) (state : State) (cells : List ℕ)
+      → takeTerminal lent t state cells ≡ takeToken (input g (setting .tokens) (setting .rows)) (kindOf t) (readValue t) state cells
+  take-is provides t state cells =
+      rw (provides .tokens-are) (terminal-as-before (input g (setting .tokens) (setting .rows)) t state cells (setting .formula (state .at)))
 
   -- the root is called without arguments
   pub no-arguments : Matches [] (setting .signature .params)

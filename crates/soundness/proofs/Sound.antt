@@ -24,7 +24,8 @@ use Rattle.terms.specs.Term.{Name, Term}
 use Rattle.terms.specs.Rows.{termAt}
 use Rattle.expansion.specs.declared.State.{State}
 use Rattle.expansion.specs.Run.{Result, done, halt, Run, after}
-use Rattle.expansion.specs.Expansion.{Input, ready, choice, nextToken, tokenTaken, takeToken, misfit, buildAll, build, readValue}
+use Rattle.expansion.specs.Expansion.{Input, ready, choice, nextToken, tokenTaken, takeTerminal, misfit, buildAll, build}
+use Rattle.expansion.specs.TextTokens.{readValue}
 use Rattle.tokens.specs.Tokens.{endToken}
 use Rattle.expansion.specs.Expansion.{runItem, runItems, callBegun, runCall, initialState, ended, run}
 use Rattle.expansion.specs.Limits.{mostCalls, mostOpen}
@@ -160,9 +161,9 @@ module _ {g : List Production} (setting : Setting g) where
   take-ends : {lent : Input} → Provides setting lent → {names-left A : ℕ} {M : List Value} (t : Terminal) (state : State) (cells : List ℕ)
       → (nextToken I state .kind ≡ kindOf t
       → Stepped names-left (terminal t) A M state cells (readValue t (nextToken I state .value)) (tokenTaken state) cells)
-      → Ends (Stepped names-left (terminal t) A M state cells) Any (takeToken lent (kindOf t) (readValue t) state cells)
+      → Ends (Stepped names-left (terminal t) A M state cells) Any (takeTerminal lent t state cells)
   take-ends provides {names-left} {A} {M} t state cells f =
-      subst⁻¹ (Ends (Stepped names-left (terminal t) A M state cells) Any) (take-is setting provides (kindOf t) (readValue t) state cells)
+      subst⁻¹ (Ends (Stepped names-left (terminal t) A M state cells) Any) (take-is setting provides t state cells)
       (go (eqb (nextToken I state .kind) (kindOf t)) refl)
     where
       go : (test : Bool) → eqb (nextToken I state .kind) (kindOf t) ≡ test

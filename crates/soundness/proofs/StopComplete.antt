@@ -11,7 +11,7 @@ use borrow.Author.Tests.{lt-ltb, le-ltb}
 use Rattle.answers.specs.declared.Refusal.{Refusal}
 use Rattle.answers.specs.Refusals.{refusal}
 use Rattle.grammar.specs.Sorts as Sorts
-use Rattle.grammar.specs.Table.{Template, Templates, make, none, Item, call}
+use Rattle.grammar.specs.Table.{Template, Templates, make, none, Terminal, kindOf, Item, call}
 use Rattle.decoding.specs.Within.{Each, each-more, ItemWithin, call-within}
 use Rattle.judgements.specs.Judgements.{Fill, Body, by-binding}
 use Rattle.judgements.specs.Judgements as Judgements
@@ -20,7 +20,7 @@ use Rattle.productions.specs.Normal.{Production}
 use Rattle.firsts.specs.Rules.{Reads, reads}
 use Rattle.expansion.specs.declared.State.{State}
 use Rattle.expansion.specs.Run.{Result, done, halt, Run, after}
-use Rattle.expansion.specs.Expansion.{Input, ready, choice, nextToken, buildAll, build, readValue, runItem, runItems, callBegun, runCall, initialState, ended}
+use Rattle.expansion.specs.Expansion.{Input, ready, choice, nextToken, buildAll, build, runItem, runItems, callBegun, runCall, initialState, ended}
 use Rattle.expansion.specs.Expansion.{run}
 use Rattle.expansion.specs.Limits.{mostCalls, mostOpen}
 use Rattle.expansion.specs.Expansion as Expansion
@@ -138,10 +138,10 @@ module _ {g : List Production} (setting : Setting g) where
 
   -- ------------------------------------------------------------------ steps that fail
 
-  -- an item that reads takes a token of its kind
+  -- an item that reads takes what a terminal of its kind takes
   reads-take : {item : Item} {kind : ℕ} → Reads item kind → (within : Input) (callee : ℕ → List ℕ → Run ℕ) (xs : List ℕ)
-      → (kind < 64) × (value : ℕ → ℕ) × (runItem callee within item xs ≡ Expansion.takeToken within kind value)
-  reads-take (reads {t = t} l) within callee xs = (l, readValue t, refl)
+      → (kind < 64) × (t : Terminal) × (kindOf t ≡ kind) × (runItem callee within item xs ≡ Expansion.takeTerminal within t)
+  reads-take (reads {t = t} l) within callee xs = (l, t, refl, refl)
 
   token-fails : {opened begun made i kind total : ℕ} {left : List Token} {item : Item} {cause : Refusal} {within : Input} → Provides setting within
       → (callee : ℕ → List ℕ → Run ℕ) (xs : List ℕ)
@@ -150,7 +150,8 @@ module _ {g : List Production} (setting : Setting g) where
       → HaltsWith total (state .made) cells cause (runItem callee within item xs state cells)
   token-fails {kind = kind} {left = left} {within = within} inside callee xs state cells w (no-token f) p =
       let q = reads-take w within callee xs in
-      halts-here (p .made) (cc (q .2, take-halts setting inside kind (q .1) state cells (q .0) (λ n. f (rw (← (p .place)) n)), index state p))
+      let h = take-halts setting inside (q .1) state cells (rw (q .2) (q .0)) (λ n. f (rw (← (p .place)) (rw (q .2) at n))) in
+      halts-here (p .made) (cc (q .3, q .2, h, index state p))
 
   arguments-fail : {within : Input} → Provides setting within
       → {opened begun made i total : ℕ} {left : List Token} {cause : Refusal} {ts : Templates} {M vs : List Value} {L Bs xs : List ℕ} (state : State)

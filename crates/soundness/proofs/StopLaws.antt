@@ -12,7 +12,7 @@ use borrow.Author.Tests.{eqb-true, ne-eqb}
 use Rattle.answers.specs.Refusals.{refusal}
 use Rattle.kinds.specs.Kinds.{hasKind, only}
 use Rattle.kinds.proofs.KindsLaws.{same-kinds}
-use Rattle.grammar.specs.Table.{Template, Templates, none, more, kindOf, Item, terminal, local, call}
+use Rattle.grammar.specs.Table.{Template, Templates, none, more, Terminal, kindOf, Item, terminal, local, call}
 use Rattle.grammar.specs.Table as Table
 use Rattle.decoding.specs.Within.{Each, each-more, ItemWithin, call-within}
 use Rattle.judgements.specs.Judgements.{ItemSorted, Body, by-binding}
@@ -23,7 +23,8 @@ use Rattle.firsts.specs.FirstSets.{nullables, firstSets}
 use Rattle.firsts.proofs.FirstsTheorems.{opens-exactly}
 use Rattle.expansion.specs.declared.State.{State}
 use Rattle.expansion.specs.Run.{Result, done, halt, Run, after}
-use Rattle.expansion.specs.Expansion.{Input, ready, choice, nextToken, tokenTaken, takeToken, misfit, cell, build, buildAll, readValue}
+use Rattle.expansion.specs.Expansion.{Input, ready, choice, nextToken, tokenTaken, takeToken, takeTerminal, misfit, cell, build, buildAll}
+use Rattle.expansion.specs.TextTokens.{readValue}
 use Rattle.expansion.specs.Expansion.{runItem, runItems, callBegun, runCall}
 use Rattle.expansion.specs.Limits.{mostCalls}
 use Rattle.expansion.specs.Figure3.{Next, next}
@@ -136,11 +137,11 @@ module _ {g : List Production} (setting : Setting g) where
   kind-of-next state n = kind-next (state .at) tokens ∙ next-is n
 
   -- a token of another kind stops the run
-  pub take-halts : {lent : Input} → Provides setting lent → (kind : ℕ) (value : ℕ → ℕ) (state : State) (cells : List ℕ) → kind < 64
-      → (Next (rest state) kind → ⊥)
-      → takeToken lent kind value state cells ≡ halt (refusal 17 (state .at) (only kind) (ones (only kind))) cells
-  take-halts provides kind value state cells l n =
-      take-is setting provides kind value state cells ∙ rw (ne-eqb (nextToken J state .kind) kind (λ e. n (next-kind state e l)), takeToken) refl
+  pub take-halts : {lent : Input} → Provides setting lent → (t : Terminal) (state : State) (cells : List ℕ) → kindOf t < 64
+      → (Next (rest state) (kindOf t) → ⊥)
+      → takeTerminal lent t state cells ≡ halt (refusal 17 (state .at) (only (kindOf t)) (ones (only (kindOf t)))) cells
+  take-halts provides t state cells l n =
+      take-is setting provides t state cells ∙ rw (ne-eqb (nextToken J state .kind) (kindOf t) (λ e. n (next-kind state e l)), takeToken) refl
 
   -- ------------------------------------------------------------------ the place
 
@@ -158,15 +159,15 @@ module _ {g : List Production} (setting : Setting g) where
   stays-bounded state (done a s′ c) l h = omega arith
   stays-bounded state (halt r c) l h = tt
 
-  take-bounded : {lent : Input} → Provides setting lent → (kind : ℕ) (value : ℕ → ℕ) (state : State) (cells : List ℕ) → kind < 64
-      → Bounded (takeToken lent kind value state cells)
-  take-bounded provides kind value state cells l =
-      subst⁻¹ Bounded (take-is setting provides kind value state cells) (go (eqb (nextToken J state .kind) kind) refl)
+  take-bounded : {lent : Input} → Provides setting lent → (t : Terminal) (state : State) (cells : List ℕ) → kindOf t < 64
+      → Bounded (takeTerminal lent t state cells)
+  take-bounded provides t state cells l =
+      subst⁻¹ Bounded (take-is setting provides t state cells) (go (eqb (nextToken J state .kind) (kindOf t)) refl)
     where
-      go : (test : Bool) → eqb (nextToken J state .kind) kind ≡ test
+      go : (test : Bool) → eqb (nextToken J state .kind) (kindOf t) ≡ test
           → Bounded {A = ℕ} (elim test as (λ x. Result ℕ)
-          [ true ↦ done (value (nextToken J state .value)) (tokenTaken state) cells | false ↦ misfit (only kind) state cells ])
-      go true e = omega (arith, token-before tokens (state .at) (eqb-true (nextToken J state .kind) kind e) l)
+          [ true ↦ done (readValue t (nextToken J state .value)) (tokenTaken state) cells | false ↦ misfit (only (kindOf t)) state cells ])
+      go true e = omega (arith, token-before tokens (state .at) (eqb-true (nextToken J state .kind) (kindOf t) e) l)
       go false e = tt
 
   module _ {lent : Input} (provides : Provides setting lent) (called : ℕ → List ℕ → Run ℕ)
@@ -175,7 +176,7 @@ module _ {g : List Production} (setting : Setting g) where
       -- an item does
       pub item-bounded : {item : Item} {A : ℕ} {L : List ℕ} (xs : List ℕ) (state : State) (cells : List ℕ) → ItemSorted (F .scope) L item A → ItemWithin item
           → state .at ≤ length tokens → Bounded (runItem called lent item xs state cells)
-      item-bounded {item = terminal t} xs state cells w z h = take-bounded provides (kindOf t) (readValue t) state cells (sorted-kind F w)
+      item-bounded {item = terminal t} xs state cells w z h = take-bounded provides t state cells (sorted-kind F w)
       item-bounded {item = local} xs state cells w z h = h
       item-bounded {item = call n ts} xs state cells w (call-within l ws) h =
           bounded-after (buildAll ts lent xs state cells) (λ vs. called n vs)

@@ -12,7 +12,7 @@ use Rattle.answers.specs.Refusals.{refusal}
 use Rattle.kinds.specs.Kinds.{only}
 use Rattle.grammar.specs.Sorts.{Signature}
 use Rattle.grammar.specs.Sorts as Sorts
-use Rattle.grammar.specs.Table.{Template, Templates, make, none, kindOf, Item, terminal, local, call}
+use Rattle.grammar.specs.Table.{Template, Templates, make, none, Terminal, kindOf, Item, terminal, local, call}
 use Rattle.decoding.specs.Within.{Each, each-more, ItemWithin, call-within}
 use Rattle.judgements.specs.Judgements.{Newest, ItemSorted, Body, by-binding}
 use Rattle.judgements.specs.Judgements as Judgements
@@ -22,7 +22,8 @@ use Rattle.firsts.specs.Rules.{Reads, reads}
 use Rattle.firsts.proofs.FirstsTheorems.{opens-exactly}
 use Rattle.expansion.specs.declared.State.{State}
 use Rattle.expansion.specs.Run.{Result, done, halt, after}
-use Rattle.expansion.specs.Expansion.{Input, ready, choice, nextToken, tokenTaken, takeToken, misfit, buildAll, build, readValue, runItem, runItems, callBegun}
+use Rattle.expansion.specs.Expansion.{Input, ready, choice, nextToken, tokenTaken, takeTerminal, misfit, buildAll, build, runItem, runItems, callBegun}
+use Rattle.expansion.specs.TextTokens.{readValue}
 use Rattle.expansion.specs.Expansion.{runCall, initialState, ended, run}
 use Rattle.expansion.specs.Limits.{mostCalls, mostOpen}
 use Rattle.expansion.specs.Figure3.{Value, GiveAll, give-none, Taken, Derives, by-end}
@@ -93,22 +94,25 @@ module _ {g : List Production} (setting : Setting g) where
       → s .at ≤ length tokens → Kept rows k s cells → ShowAll spell (s .made) cells xs vs → Ends Fine (EntersAt o n vs s) (runCall d lent n xs s cells)
 
   take-halts : {lent : Input} → Provides setting lent
-      → (opened : ℕ) (M : List Value) {item : Item} (is : List Item) (kind : ℕ) (value : ℕ → ℕ) (state : State) (cells : List ℕ) → Reads item kind
+      → (opened : ℕ) (M : List Value) {item : Item} (is : List Item) (t : Terminal) (state : State) (cells : List ℕ) → Reads item (kindOf t)
       → state .at ≤ length tokens
-      → Ends Fine (StopsAt opened M (item ∷ is) state) (takeToken lent kind value state cells)
-  take-halts provides opened M {item} is kind value state cells w l =
-      subst⁻¹ (Ends Fine (StopsAt opened M (item ∷ is) state)) (take-is setting provides kind value state cells)
-      (go (eqb (nextToken J state .kind) kind) refl)
+      → Ends Fine (StopsAt opened M (item ∷ is) state) (takeTerminal lent t state cells)
+  take-halts provides opened M {item} is t state cells w l =
+      subst⁻¹ (Ends Fine (StopsAt opened M (item ∷ is) state)) (take-is setting provides t state cells)
+      (go (eqb (nextToken J state .kind) (kindOf t)) refl)
     where
-      go : (test : Bool) → eqb (nextToken J state .kind) kind ≡ test
+      go : (test : Bool) → eqb (nextToken J state .kind) (kindOf t) ≡ test
           → Ends {A = ℕ} Fine (StopsAt opened M (item ∷ is) state)
-          (elim test as (λ x. Result ℕ) [ true ↦ done (value (nextToken J state .value)) (tokenTaken state) cells | false ↦ misfit (only kind) state cells ])
+          (elim test as (λ x. Result ℕ) [
+            | true ↦ done (readValue t (nextToken J state .value)) (tokenTaken state) cells
+            | false ↦ misfit (only (kindOf t)) state cells
+          ])
       go true e = tt
       go false e = (
         _,
         at-token w
             (fails-here state l
-            (no-token (λ n. eqb-false (nextToken J state .kind) kind e (kind-of-next setting state n)))),
+            (no-token (λ n. eqb-false (nextToken J state .kind) (kindOf t) e (kind-of-next setting state n)))),
       )
 
   full-row : (opened begun made : ℕ) {needed : ℕ} (state : State) → state .at ≤ length tokens → rows < made + needed
@@ -136,7 +140,7 @@ module _ {g : List Production} (setting : Setting g) where
         → state .at ≤ length tokens → Kept rows (names-left + 1) state cells → ShowAll spell (state .made) cells xs M
         → Ends Fine (StopsAt opened M (item ∷ is) state) (runItem (runCall depth lent) within item xs state cells)
     item-halts names-left {item = terminal t} {M = M} is state cells w z m b h a =
-        take-halts inside opened M is (kindOf t) (readValue t) state cells (reads (sorted-kind F w)) b
+        take-halts inside opened M is t state cells (reads (sorted-kind F w)) b
     item-halts names-left {item = local} is state cells w z m b h a = tt
     item-halts names-left {item = call _ _} {M = M} {xs = xs} is state cells (Judgements.by-call {n = n} {S = S} {ts = ts} w f) (call-within l ws) m b h a =
         let vs = give-all-exist spell m ts f in

@@ -5,7 +5,7 @@ use Rattle.grammar.specs.Table.{Table}
 use Rattle.decoding.specs.Within.{Within}
 use Rattle.tokens.specs.declared.Token.{Token}
 use Rattle.checker.specs.Passes.{Meets, Passes}
-use Rattle.expansion.specs.Parsing.{SmallWords}
+use Rattle.expansion.specs.Parsing.{SmallWords, FormulaKinds}
 
 -- a table within the counts, spellings and ranges that meets the rules
 pub record Passing (t : Table) : Type 0 where
@@ -16,8 +16,9 @@ pub record Passing (t : Table) : Type 0 where
 abbrev pub passingOf : {bytes : List ℕ} (passes : Passes bytes) → Passing (passes .table)
 passingOf passes = record { within = passes .within; meets = passes .meets }
 
--- tokens whose words have numbers that a name can hold, and what a spelling number stands for
+-- tokens of a formula, whose words have numbers that a name can hold, and what a spelling number stands for
 pub record Lexemes : Type 0 where
   pub spell : ℕ → List ℕ
   pub tokens : List Token
   pub small : SmallWords tokens
+  pub formula : FormulaKinds tokens

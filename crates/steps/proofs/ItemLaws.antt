@@ -6,11 +6,8 @@ use mathlib.Core.List.{List, [], _∷_, _++_}
 use native.Mathlib.Omega.{arith}
 use lib.Dec.{eqb}
 use lib.ListN.{length, getD}
-use borrow.Author.Tests.{eq-eqb, ne-eqb}
 use Rattle.kinds.specs.Kinds.{only}
 use Rattle.grammar.specs.Table.{Template, Templates, keyword, ide, number, Item, terminal, local, call}
-use Rattle.grammar.specs.Sorts.{label}
-use Rattle.terms.specs.Cells.{wordName}
 use Rattle.expansion.specs.declared.State.{State}
 use Rattle.expansion.specs.declared.Outcome.{Outcome}
 use Rattle.expansion.specs.declared.Outcome.the-variants.{Value, Halted}
@@ -20,7 +17,7 @@ use Rattle.templates.specs.declared.Built.{Built}
 use Rattle.templates.specs.declared.Built.the-variants.{Made, Full}
 use Rattle.expansion.specs.Run.{Result, done, halt, Run, after}
 use Rattle.expansion.specs.Outcomes.{ran}
-use Rattle.expansion.specs.Expansion.{Input, nextToken, tokenTaken, misfit, build, buildAll, wordValue, freshMade, runItem, runItems}
+use Rattle.expansion.specs.Expansion.{Input, nextToken, tokenTaken, misfit, build, buildAll, freshMade, runItem, runItems}
 use Rattle.expansion.specs.Expansion as Expansion
 use Rattle.tokens.specs.Tokens.{endToken}
 use Rattle.templates.specs.Built.{built, Lists, Few, KeptBehind}
@@ -55,6 +52,11 @@ module _ (kind operand : ℕ) (ts : Templates) where
         → result ≡ runItem callee input (itemBy kind operand ts) values state cells
     keyword-read e f = runs (item-is 0 e) f
 
+    -- Kind 1: an ide.
+    pub ide-read : kind ≡ 1 → {result : Result ℕ} → result ≡ Expansion.takeTerminal input (ide operand) state cells
+        → result ≡ runItem callee input (itemBy kind operand ts) values state cells
+    ide-read e f = runs (item-is 1 e) f
+
     -- Kind 3: a fresh name.
     pub local-read : kind ≡ 3 → {result : Result ℕ} → result ≡ freshMade state cells
         → result ≡ runItem callee input (itemBy kind operand ts) values state cells
@@ -72,13 +74,6 @@ module _ (kind operand : ℕ) (ts : Templates) where
           elim (eqb (nextToken input state .kind) token-kind) [ true ↦ done x (tokenTaken state) cells | false ↦ misfit (only token-kind) state cells ])
           e
 
-      -- Kind 1: a word, by its sort.
-      pub word-read : kind ≡ 1 → {made-value : ℕ} → made-value ≡ wordValue operand value → {result : Result ℕ}
-          → result ≡ Expansion.takeToken input 0 (λ x. made-value) state cells
-          → result ≡ runItem callee input (itemBy kind operand ts) values state cells
-      word-read e {made-value} ew f =
-          runs (item-is 1 e) (f ∙ retaken 0 made-value (wordValue operand) (ew ∙ ap (wordValue operand) value-is))
-
       -- Any other kind but 4: a number.
       pub number-read : (kind ≡ 0 → ⊥) → (kind ≡ 1 → ⊥) → (kind ≡ 3 → ⊥) → (kind ≡ 4 → ⊥) → {result : Result ℕ}
           → result ≡ Expansion.takeToken input 1 (λ x. value) state cells
@@ -89,19 +84,6 @@ module _ (kind operand : ℕ) (ts : Templates) where
     call-read : kind ≡ 4 → {result : Result (List ℕ)} → buildAll ts input values state cells ≡ result
         → after result (λ vs. callee operand vs) ≡ runItem callee input (itemBy kind operand ts) values state cells
     call-read e f = runs (item-is 4 e) (ap (λ (r : Result (List ℕ)). after r (λ vs. callee operand vs)) (sym f))
-
--- a word at a sort
-module _ (sort spelling-number : ℕ) where
-  word-by : (test : Bool) → eqb sort label ≡ test → (elim test [ true ↦ spelling-number | false ↦ wordName spelling-number ]) ≡ wordValue sort spelling-number
-  word-by test e = ap (λ (x : Bool). elim x [ true ↦ spelling-number | false ↦ wordName spelling-number ]) (sym e)
-
-  -- A label is its spelling number.
-  pub label-value : sort ≡ label → spelling-number ≡ wordValue sort spelling-number
-  label-value e = word-by true (eq-eqb sort label e)
-
-  -- A word of any other sort is a name.
-  pub name-value : (sort ≡ label → ⊥) → wordName spelling-number ≡ wordValue sort spelling-number
-  name-value f = word-by false (ne-eqb sort label f)
 
 -- ------------------------------------------------------------------ an item in front of an alternative's others
 

@@ -18,7 +18,7 @@ use Rattle.steps.specs.declared.ItemStep.the-variants.{Finished, Stopped
 use Rattle.steps.specs.declared.Cursor.{Cursor}
 use Rattle.expansion.specs.Run.{Run, done, halt, after}
 use Rattle.expansion.specs.Outcomes.{ran}
-use Rattle.expansion.specs.Expansion.{Input, takeToken, freshMade, build, runItem, runItems}
+use Rattle.expansion.specs.Expansion.{Input, takeToken, takeTerminal, freshMade, build, runItem, runItems}
 use Rattle.expansion.specs.Limits.{mostCalls}
 use Rattle.templates.specs.declared.Built.{Built}
 use Rattle.templates.specs.declared.Built.the-variants.{Made, Full}
@@ -103,6 +103,11 @@ Spends s (Halted r) = Unit {0}
 -- what taking a token of a kind answers, with a value
 pub record TakesToken (tokens : List ℕ) (kind value : ℕ) (s : State) (r : Outcome) : Type 0 where
   pub takes : (I : Input) (cells : List ℕ) → I .tokens ≡ tokensLent tokens → ran r cells ≡ takeToken I kind (λ v. value) s cells
+  pub spends : Spends s r
+
+-- what taking a word at a sort answers, or a token of a text that meets an ide of the sort
+pub record TakesIde (tokens : List ℕ) (sort : ℕ) (s : State) (r : Outcome) : Type 0 where
+  pub takes : (I : Input) (cells : List ℕ) → I .tokens ≡ tokensLent tokens → ran r cells ≡ takeTerminal I (ide sort) s cells
   pub spends : Spends s r
 
 -- what a fresh name answers

@@ -2,6 +2,7 @@
 mod taking;
 
 use crate::taking::take;
+use crate::taking::take_ide;
 use answers::Refusal;
 use answers::causes::NO_ROW;
 use answers::causes::TOKEN_DOES_NOT_FIT;
@@ -14,10 +15,8 @@ use grammar::codes::ITEM_TAG;
 use grammar::codes::KEYWORD_ITEM;
 use grammar::codes::LOCAL_ITEM;
 use grammar::limits::MOST_VARIABLES;
-use grammar::sorts::Sort;
 use kinds::KEYWORD_KIND;
 use kinds::NUMBER_KIND;
-use kinds::WORD_KIND;
 use scanner::room::TOKEN;
 use scanner::room::value_at;
 use spellings::wide_byte;
@@ -27,13 +26,11 @@ use templates::Making;
 use templates::build;
 use templates::build_arguments;
 use terms::FRESH;
-use terms::WORD;
 ghost use Prim.Native.Nat.{_+_, _^_, _<_, _≤_};
 ghost use mathlib.Core.Path.{_≡_};
 ghost use lib.Count.{ones};
 ghost use lib.ListN.{length};
 ghost use Rattle.answers.specs.Refusals.{refusal};
-ghost use Rattle.expansion.specs.Expansion.{wordValue};
 ghost use Rattle.templates.specs.Built.{withMade};
 ghost use Rattle.steps.specs.Source.{source, sizeAt};
 ghost use Rattle.steps.specs.Steps.{MayReadItem, MayStep, MayFinish, GivesFresh, ReadsItem, readStep, callStep, resultStep, ItemStepped, Finishes};
@@ -72,14 +69,6 @@ pub fn misfit(at: usize, kinds: u64) -> Refusal
     refuse(TOKEN_DOES_NOT_FIT, at as u64, kinds, count as u64)
 }
 
-// A word read at a sort: a label is its spelling number, any other a name.
-fn word_value(sort: u8, v: u32) -> u32
-    requires { ⌜ v < 2 ^ 30 ⌝ }
-    ensures { λ r. ⌜ r ≡ wordValue sort v ⌝ }
-{
-    if sort == Sort::LABEL.0 { v } else { WORD + v }
-}
-
 // A fresh name.
 fn fresh_name(s: State) -> Outcome
     requires { ⌜ s .fresh < 2 ^ 31 ⌝ }
@@ -107,7 +96,7 @@ fn read_item(tokens: &[u32], kind: u8, operand: u8, s: State) -> Outcome
     let value = value_at(tokens, n, at);
     match kind {
         KEYWORD_ITEM => take(tokens, operand as u32 + KEYWORD_KIND, 0, s),
-        IDE_ITEM => take(tokens, WORD_KIND, word_value(operand, value), s),
+        IDE_ITEM => take_ide(tokens, operand, s),
         LOCAL_ITEM => fresh_name(s),
         _ => take(tokens, NUMBER_KIND, value, s),
     }

@@ -9,6 +9,7 @@ pub mod StandLaws
 pub mod TokenLaws
 pub mod TilingLaws
 pub mod SpellingLaws
+pub mod KindLaws
 pub mod WordsOfScan
 pub mod FollowLaws
 pub mod ScannerTheorems

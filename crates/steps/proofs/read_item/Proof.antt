@@ -16,14 +16,12 @@ returns c =
 
 returns-2 : tie.Need-returns-2
 returns-2 c =
-    let value-at-place = c .before .before .before in
-    let entry-place = value-at-place .before .before in
+    let entry-place = c .before .before .before .before in
     record {
       reads =
           λ C I ts M cells et.
-          laws.word-read _ _ ts C I M (entry-place .args .s) cells (entry-place .args .tokens .now) et (value-at-place .value-at .ensures .0)
-          (c .before .before .match .keys2) (c .before .word-value .ensures) (c .take2 .ensures .takes I cells et);
-      spends = c .take2 .ensures .spends;
+          laws.ide-read _ _ ts C I M (entry-place .args .s) cells (c .before .match .keys2) (c .take-ide .ensures .takes I cells et);
+      spends = c .take-ide .ensures .spends;
     }
 
 returns-3 : tie.Need-returns-3
@@ -45,8 +43,8 @@ returns-4 c =
       reads =
           λ C I ts M cells et.
           laws.number-read _ _ ts C I M (entry-place .args .s) cells (entry-place .args .tokens .now) et (value-at-place .value-at .ensures .0)
-          (other .0 .0 .1) (other .0 .1) (other .1) (entry-place .pre .no-call) (c .take3 .ensures .takes I cells et);
-      spends = c .take3 .ensures .spends;
+          (other .0 .0 .1) (other .0 .1) (other .1) (entry-place .pre .no-call) (c .take2 .ensures .takes I cells et);
+      spends = c .take2 .ensures .spends;
     }
 
 -- the function meets its contract
@@ -56,7 +54,6 @@ read-item-spec =
     (tie.spec
     (λ c κs. search needs)
     (λ c. search needs)
-    (λ c κs. search needs)
     (λ c κs. search needs)
     (λ c κs. search needs)
     (λ c κs. search needs)

@@ -1,6 +1,4 @@
 -- `take`: the kind of the next token decides.
-use mathlib.Core.Path.{refl}
-use native.Mathlib.Omega.{arith}
 use Rattle.steps.proofs.TokenLaws as laws
 use borrow.Author.Needs.{needs}
 use Rattle.steps.proofs.taking.take.Statement.{statement}
@@ -8,13 +6,15 @@ use Rattle.steps.proofs.taking.take.Tie as tie
 
 returns : tie.Need-returns
 returns c =
-    let entry-place = c .before .before .before in
+    let kind-at-place = c .before .before in
+    let entry-place = kind-at-place .before .before in
     record {
       takes =
           λ I cells e.
-          laws.take-fits I (entry-place .args .s) cells _ (entry-place .args .value) (entry-place .args .tokens .now) _ (c .before .kind-at .ensures) e
-          (c .if1 .taken);
-      spends = (omega arith, refl);
+          rw (c .behind .ensures)
+          (laws.take-fits I (entry-place .args .s) cells _ (entry-place .args .value) (entry-place .args .tokens .now) _ (kind-at-place .kind-at .ensures) e
+          (c .before .if1 .taken));
+      spends = laws.taken-spends (entry-place .args .s) (c .behind .ensures);
     }
 
 returns-2 : tie.Need-returns-2

@@ -1,8 +1,8 @@
 -- `word_value`: the sort decides.
 use borrow.Author.Needs.{needs}
-use Rattle.steps.proofs.ItemLaws as laws
-use Rattle.steps.proofs.word_value.Statement.{statement}
-use Rattle.steps.proofs.word_value.Tie as tie
+use Rattle.steps.proofs.TokenLaws as laws
+use Rattle.steps.proofs.taking.word_value.Statement.{statement}
+use Rattle.steps.proofs.taking.word_value.Tie as tie
 
 returns : tie.Need-returns
 returns c = search laws.label-value

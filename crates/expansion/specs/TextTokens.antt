@@ -1,0 +1,49 @@
+-- What terminals take of their tokens' values; of a text's tokens, what an ide reads and what opens with them. Document 01, "Formula"; document 02, C-14:
+-- "a formula whose tokens may be variables". For the kinds that a formula has, up to 64, all is as document 01 says (expansion/proofs/AsBefore).
+use Prim.Native.Nat.{ℕ}
+use mathlib.Core.Bool.{Bool, true, false, not, _&&_, _||_}
+use lib.Dec.{eqb, ltb}
+use Rattle.kinds.specs.Kinds.{wordKind, noKind, hasKind}
+use Rattle.kinds.specs.TextKinds.{sortOfKind, outsideKind}
+use Rattle.grammar.specs.Sorts.{binder, label}
+use Rattle.grammar.specs.SortTests.{fits}
+use Rattle.grammar.specs.Table.{Terminal, keyword, ide, number}
+use Rattle.terms.specs.Cells.{wordName, outsideName}
+
+-- a word read at a sort: a label is its spelling number, a Var or Binder a name
+abbrev pub wordValue : ℕ → ℕ → ℕ
+wordValue sort n = elim (eqb sort label) [ true ↦ n | false ↦ wordName n ]
+
+-- what a terminal gives of its token's value
+abbrev pub readValue : Terminal → ℕ → ℕ
+readValue (keyword k) v = 0
+readValue (ide s) v = wordValue s v
+readValue number v = v
+
+-- ------------------------------------------------------------------ tokens of a text
+
+-- a kind that only a token of a text has
+abbrev pub isTextKind : ℕ → Bool
+isTextKind kind = ltb noKind kind
+
+abbrev pub isOutsideKind : ℕ → Bool
+isOutsideKind kind = eqb kind outsideKind
+
+-- a token of a text that an ide of sort B reads: a variable that fits, or an outside name, which is no Binder
+unfoldable pub meetsIde : ℕ → ℕ → Bool
+meetsIde kind B = (isTextKind kind && not (isOutsideKind kind) && fits (sortOfKind kind) B) || (isOutsideKind kind && not (eqb B binder))
+
+-- no other terminal reads one
+abbrev pub meets : ℕ → Terminal → Bool
+meets kind (keyword k) = false
+meets kind (ide B) = meetsIde kind B
+meets kind number = false
+
+-- what it gives at sort B: a variable its own number, an outside name that name, or its number at Label
+unfoldable pub ideValue : ℕ → ℕ → ℕ → ℕ
+ideValue kind B v = elim (isOutsideKind kind && not (eqb B label)) [ true ↦ outsideName v | false ↦ v ]
+
+abbrev pub textValue : ℕ → Terminal → ℕ → ℕ
+textValue kind (keyword k) v = v
+textValue kind (ide B) v = ideValue kind B v
+textValue kind number v = v
