@@ -3,7 +3,7 @@ use Prim.Native.Nat.{ℕ, _+_, _*_, _≤_}
 use mathlib.Core.List.{List}
 use lib.ListN.{length}
 use Rattle.expansion.specs.Run.{Result}
-use Rattle.choices.specs.Chosen.{Remembers}
+use Rattle.choices.specs.Chosen.{RemembersFor}
 use Rattle.frames.specs.Frames.{frameSize, Standing}
 use Rattle.turns.specs.declared.Advance.{Advance}
 use Rattle.turns.specs.declared.Resumption.{Resumption}
@@ -18,7 +18,7 @@ StandsAt S tokens cells frames from R = Standing (reading S tokens cells) S fram
 -- what is lent, and where an expansion stands in a room of frames
 pub record MayStand (S : Source) (room memory tokens cells stack frames : List ℕ) (from : Resumption) : Type 0 where
   pub lent : Lent S room tokens stack
-  pub remembers : Remembers (S .bytes) memory
+  pub remembers : RemembersFor (S .patterns) (S .bytes) memory
   pub result : Result ℕ
   pub standing : StandsAt S tokens cells frames from result
 
@@ -31,4 +31,4 @@ pub record MayGo (S : Source) (room memory tokens cells stack frames : List ℕ)
 -- choices that are remembered are still the table's.
 pub record Continues (S : Source) (tokens cells frames : List ℕ) (from : Resumption) (progress : Advance) (cells′ frames′ memory′ : List ℕ) : Type 0 where
   pub goes : (R : Result ℕ) → StandsAt S tokens cells frames from R → Goes (reading S tokens cells) S R frames′ cells′ progress
-  pub remembers : Remembers (S .bytes) memory′
+  pub remembers : RemembersFor (S .patterns) (S .bytes) memory′

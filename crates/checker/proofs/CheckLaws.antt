@@ -24,7 +24,7 @@ use Rattle.productions.specs.IndexCalls.{Index, FitsIndex}
 use Rattle.productions.specs.Room.{overwritten}
 use Rattle.productions.proofs.FewAlternatives.{few-alternatives}
 use Rattle.productions.proofs.Places.{productions-at, whole-places}
-use Rattle.firsts.specs.Room.{productionsIn, tableRoom, WholeIndex}
+use Rattle.firsts.specs.Room.{productionsIn, tableRoom, tableRoomFor, WholeIndex}
 use Rattle.clashes.specs.CheckCalls.{FirstsChecked}
 use Rattle.productions.proofs.NormalizedByFields.{normalized-by}
 use Rattle.checker.specs.Syntax.{syntaxOf}
@@ -127,7 +127,7 @@ module _ (bs : List ℕ) where
       pub into-firsts : {many : ℕ} {owners starts : List ℕ} → Index (placesOf bs) (most .alternatives) many owners starts
           → {room₀ room : List ℕ} {given-verdict : Verdict}
           → FirstsChecked bs (placesIn many owners starts) room₀ room given-verdict → CheckedInto bs room₀ room given-verdict
-      unfolding tableRoom
+      unfolding tableRoomFor
       into-firsts i {room₀} f =
           record {
             answer = cc (f .answer, i .entries, by-firsts);

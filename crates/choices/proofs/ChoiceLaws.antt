@@ -1,7 +1,7 @@
 -- Laws of the choice of a production: the walk over a nonterminal's own places gives the rule that `choice` gives.
 use Prim.Native.Nat.{ℕ, zero, suc, _+_, _-_, _<_, _≤_}
-use mathlib.Core.Path.{_≡_, refl, sym, ap, _∙_, subst, subst⁻¹}
-use mathlib.Core.Bool.{Bool, true, false, _&&_, false≢true, and-eq-true-iff}
+use mathlib.Core.Path.{_≡_, refl, sym, ap, ap₂, _∙_, subst, subst⁻¹, fun-ext}
+use mathlib.Core.Bool.{Bool, true, false, _&&_, _||_, false≢true, and-eq-true-iff, and-false}
 use mathlib.Core.List.{List, [], _∷_, map}
 use native.Mathlib.Nat.{sub-self, sub-zero}
 use native.Mathlib.Numerals.{add-one}
@@ -10,24 +10,31 @@ use native.Mathlib.Decide.{ℕ-discrete, decLt}
 use lib.Dec.{eqb, ltb}
 use lib.ListN.{length, getD, set, drop, length-set, length-drop, length-map, drop-of-length-le, replicate, length-replicate, getD-replicate}
 use lib.Seq.{drop-cons, drop-nil, drop-drop, getD-drop, getD-set-same, getD-set-other}
-use borrow.Author.Tests.{eq-eqb, eqb-true, lt-ltb, le-ltb, ltb-true, ltb-false}
+use borrow.Author.Tests.{eq-eqb, ne-eqb, eqb-true, lt-ltb, le-ltb, ltb-true, ltb-false}
 use Rattle.spellings.proofs.BytesLaws.{by-test}
-use Rattle.kinds.specs.Kinds.{noKind, hasKind}
+use Rattle.kinds.specs.Kinds.{wordKind, noKind, hasKind}
+use Rattle.kinds.specs.TextKinds.{outsideKind}
+use Rattle.grammar.specs.SortTests.{fits}
+use Rattle.grammar.specs.Table.{Item}
+use Rattle.firsts.specs.Patterns.{opensIde, opensPlace}
 use Rattle.grammar.proofs.ReaderLaws.{getD-past}
 use Rattle.decoding.specs.Within.{Each, each-none, each-more, Among, among-first, among-later}
 use Rattle.productions.specs.Normal.{Production}
 use Rattle.productions.specs.Index.{Place, placesOf, productionAt, Whole}
 use Rattle.productions.specs.Room.{Entry, noEntry, noPlace, HoldsEntries, placeFrom, isOf, isNullableOf, firstIn, startIn, firstSetIn}
-use Rattle.productions.specs.Room.{firstPlaceIn, nextPlaceIn, nullablePlaceIn}
-use Rattle.productions.proofs.RoomLaws.{first-set-in, first-place-in, nullable-place-in, first-in, start-in, next-place-in}
+use Rattle.productions.specs.Room.{firstPlaceIn, nextPlaceIn, nullablePlaceIn, patternsIn}
+use Rattle.productions.proofs.RoomLaws.{first-set-in, first-place-in, nullable-place-in, first-in, start-in, next-place-in, patterns-in}
 use Rattle.firsts.specs.FirstSets.{openingOf, nullables, firstOf}
-use Rattle.firsts.specs.Room.{entryAt, productionsIn, tableRoom}
+use Rattle.firsts.specs.Room.{entryFor, productionsIn, tableRoomFor}
 use Rattle.firsts.specs.Rules.{Opens}
 use Rattle.firsts.proofs.StepLaws.{length-sets}
 use Rattle.firsts.proofs.FirstsTheorems.{opens-exactly, production-opens-exactly}
-use Rattle.expansion.specs.Expansion.{Rule, ruleOf, Choice, unfit, chosen, firstRule, choice, ready}
-use Rattle.choices.specs.Held.{Held}
-use Rattle.choices.specs.Chosen.{firstSetsOf, kindsIn, entriesOf, opensOf, chosenPlace, chosenStart, memorySize, slot, Remembers}
+use Rattle.expansion.specs.TextTokens.{isOpened, isPlaced}
+use Rattle.expansion.specs.Expansion.{Rule, ruleOf, Choice, unfit, chosen, firstRule, choice, readyFor}
+use Rattle.expansion.proofs.AsBefore.{opened-as-before, placed-never, opened-variable, placed-variable, opened-outside, placed-outside}
+use Rattle.choices.specs.Held.{HeldFor}
+use Rattle.choices.specs.Chosen.{firstSetsOf, kindsIn, entriesFor, ofWith, opens, places, holdsKind, opensBy, opensSort, firstWith, orElse, chosenPlace}
+use Rattle.choices.specs.Chosen.{chosenStartFor, memorySize, slot, RemembersFor}
 
 -- ------------------------------------------------------------------ places
 
@@ -106,26 +113,23 @@ place-inside test es few h = omega (arith, landed test test es 0 (omega arith) .
 -- ------------------------------------------------------------------ the walk over a nonterminal's own places
 
 -- no place before `spot` is taken
-pub record Walking (es : List Entry) (nonterminal kind spot : ℕ) : Type 0 where
+pub record Walking (es : List Entry) (nonterminal : ℕ) (test : Entry → Bool) (spot : ℕ) : Type 0 where
   -- before 256 the place is an entry's
   pub inside : spot < 256 → spot < length es
   -- the entry is one of `nonterminal`'s
   pub own : spot < 256 → getD es spot noEntry .nonterminal ≡ nonterminal
   -- from there on the search ends where the whole search ends
-  pub rest : placeFrom (opensOf nonterminal kind) (drop spot es) spot ≡ placeFrom (opensOf nonterminal kind) es 0
+  pub rest : placeFrom (ofWith nonterminal test) (drop spot es) spot ≡ firstWith es nonterminal test
 
-abbrev opens : ℕ → Entry → Bool
-opens kind e = hasKind (e .first) kind
-
-module _ (es : List Entry) (few : length es ≤ 256) (nonterminal kind : ℕ) where
+module _ (es : List Entry) (few : length es ≤ 256) (nonterminal : ℕ) (test : Entry → Bool) where
   -- on to the next place of `nonterminal`, `from` on
   onto : (from : ℕ) → from ≤ length es → {next-place : ℕ} → next-place ≡ placeFrom (isOf nonterminal) (drop from es) from
-      → placeFrom (opensOf nonterminal kind) (drop from es) from ≡ placeFrom (opensOf nonterminal kind) es 0
-      → (from ≤ next-place) × Walking es nonterminal kind next-place
+      → placeFrom (ofWith nonterminal test) (drop from es) from ≡ firstWith es nonterminal test
+      → (from ≤ next-place) × Walking es nonterminal test next-place
   onto from h {next-place} e r =
-      let l : Landed (isOf nonterminal) (opens kind) (drop from es) from next-place
-      = subst⁻¹ (Landed (isOf nonterminal) (opens kind) (drop from es) from) e
-      (landed (isOf nonterminal) (opens kind) (drop from es) from (omega (arith, length-drop from es))) in
+      let l : Landed (isOf nonterminal) test (drop from es) from next-place
+      = subst⁻¹ (Landed (isOf nonterminal) test (drop from es) from) e
+      (landed (isOf nonterminal) test (drop from es) from (omega (arith, length-drop from es))) in
       let z : from + (next-place - from) ≡ next-place = omega (arith, l .later) in (
         l .later,
         record {
@@ -136,65 +140,160 @@ module _ (es : List Entry) (few : length es ≤ 256) (nonterminal kind : ℕ) wh
       )
 
   -- The walk begins at the nonterminal's first place.
-  pub walking-start : {spot : ℕ} → spot ≡ placeFrom (isOf nonterminal) es 0 → Walking es nonterminal kind spot
+  pub walking-start : {spot : ℕ} → spot ≡ placeFrom (isOf nonterminal) es 0 → Walking es nonterminal test spot
   walking-start e = onto 0 (omega arith) e refl .1
 
-  module _ {spot : ℕ} (walking : Walking es nonterminal kind spot) (less : spot < 256) where
+  module _ {spot : ℕ} (walking : Walking es nonterminal test spot) (less : spot < 256) where
     here : drop spot es ≡ getD es spot noEntry ∷ drop (spot + 1) es
     here = drop-cons es spot noEntry (walking .inside less) ∙ rw add-one refl
 
     owned : eqb (getD es spot noEntry .nonterminal) nonterminal ≡ true
     owned = eq-eqb _ nonterminal (walking .own less)
 
-    -- It ends at a place whose first set holds the kind.
-    pub walking-found : hasKind (getD es spot noEntry .first) kind ≡ true → spot ≡ placeFrom (opensOf nonterminal kind) es 0
-    walking-found t = sym (rw here (place-hit (opensOf nonterminal kind) (getD es spot noEntry) (drop (spot + 1) es) spot (rw (owned, t) refl))) ∙ walking .rest
+    -- It ends at a place that passes the test.
+    pub walking-found : test (getD es spot noEntry) ≡ true → spot ≡ firstWith es nonterminal test
+    walking-found t = sym (rw here (place-hit (ofWith nonterminal test) (getD es spot noEntry) (drop (spot + 1) es) spot (rw (owned, t) refl))) ∙ walking .rest
 
     -- the next place is a later one
-    pub walking-next : hasKind (getD es spot noEntry .first) kind ≡ false → {next-place : ℕ}
+    pub walking-next : test (getD es spot noEntry) ≡ false → {next-place : ℕ}
         → next-place ≡ placeFrom (isOf (getD es spot noEntry .nonterminal)) (drop (spot + 1) es) (spot + 1)
-        → (spot < next-place) × Walking es nonterminal kind next-place
+        → (spot < next-place) × Walking es nonterminal test next-place
     walking-next t e =
         let q = onto (spot + 1) (omega (arith, walking .inside less)) (rw (walking .own less) at e)
-        (sym (rw here (place-miss (opensOf nonterminal kind) (getD es spot noEntry) (drop (spot + 1) es) spot (rw (owned, t) refl))) ∙ walking .rest) in
+        (sym (rw here (place-miss (ofWith nonterminal test) (getD es spot noEntry) (drop (spot + 1) es) spot (rw (owned, t) refl))) ∙ walking .rest) in
         (omega (arith, q .0), q .1)
 
   -- Past the last place nothing was found.
-  pub walking-end : {spot : ℕ} → Walking es nonterminal kind spot → 256 ≤ spot → 256 ≡ placeFrom (opensOf nonterminal kind) es 0
+  pub walking-end : {spot : ℕ} → Walking es nonterminal test spot → 256 ≤ spot → 256 ≡ firstWith es nonterminal test
   unfolding placeFrom
   walking-end {spot} w h = sym (rw (drop-of-length-le es {i = spot} (omega arith)) refl) ∙ w .rest
 
--- the search by first sets ends at a place, else the nullable place is taken
-module _ (es : List Entry) (nonterminal kind : ℕ) where
-  -- A place that was found is chosen.
-  pub chosen-opened : {spot : ℕ} → spot ≡ placeFrom (opensOf nonterminal kind) es 0 → spot < 256 → spot ≡ chosenPlace es nonterminal kind
-  unfolding chosenPlace
-  chosen-opened e l = e ∙ sym (rw (lt-ltb (placeFrom (opensOf nonterminal kind) es 0) 256 (omega (arith, e)), chosenPlace) refl)
+-- a place, or another if it is none
+module _ {place : ℕ} (other : ℕ) where
+  -- A place is taken.
+  pub or-first : place < 256 → place ≡ orElse place other
+  unfolding orElse
+  or-first l = sym (rw (lt-ltb place 256 l, orElse) refl)
 
-  -- Where none was found, the nullable place is.
-  pub chosen-nullable : {spot : ℕ} → spot ≡ placeFrom (opensOf nonterminal kind) es 0 → 256 ≤ spot
-      → placeFrom (isNullableOf nonterminal) es 0 ≡ chosenPlace es nonterminal kind
-  unfolding chosenPlace
-  chosen-nullable e l = sym (rw (le-ltb (placeFrom (opensOf nonterminal kind) es 0) 256 (omega (arith, e)), chosenPlace) refl)
+  -- Where there is none, the other is.
+  pub or-second : 256 ≤ place → other ≡ orElse place other
+  unfolding orElse
+  or-second l = sym (rw (le-ltb place 256 l, orElse) refl)
+
+-- tests that agree find the same place
+same-place : {test second : Entry → Bool} → ((entry : Entry) → test entry ≡ second entry) → (es : List Entry) (nonterminal : ℕ)
+    → firstWith es nonterminal test ≡ firstWith es nonterminal second
+same-place agree es nonterminal = ap (λ (t : Entry → Bool). firstWith es nonterminal t) (fun-ext agree)
+
+-- what no entry passes is not found
+not-found : {test : Entry → Bool} → ((entry : Entry) → test entry ≡ false) → (es : List Entry) (nonterminal spot : ℕ)
+    → placeFrom (ofWith nonterminal test) es spot ≡ 256
+unfolding placeFrom
+not-found none [] nonterminal spot = refl
+not-found {test} none (e ∷ es) nonterminal spot =
+    place-miss (ofWith nonterminal test) e es spot (rw (none e) (and-false (eqb (e .nonterminal) nonterminal))) ∙ not-found none es nonterminal (spot + 1)
+
+module _ (es : List Entry) (nonterminal kind : ℕ) where
+  abbrev nullable-of : ℕ
+  nullable-of = placeFrom (isNullableOf nonterminal) es 0
+
+  -- For a kind of a formula: the first place whose first set holds it, else the nullable one.
+  pub chosen-formula : kind ≤ noKind → orElse (firstWith es nonterminal (holdsKind kind)) nullable-of ≡ chosenPlace es nonterminal kind
+  chosen-formula h =
+      ap (λ (place : ℕ). orElse place nullable-of) (sym (same-place (λ e. opened-as-before kind (e .first) (e .patterns) h) es nonterminal))
+      ∙ ap (orElse (firstWith es nonterminal (opens kind)))
+      (or-second nullable-of (omega (arith, not-found {test = places kind} (λ e. placed-never kind (e .patterns) h) es nonterminal 0)))
+
+  -- For a variable: the first place by an ide that it fits, else by a place of its sort, else the nullable one.
+  pub chosen-variable : noKind < kind → (kind ≡ outsideKind → ⊥)
+      → orElse (firstWith es nonterminal (opensSort false (kind - 65))) (orElse (firstWith es nonterminal (opensSort true (kind - 65))) nullable-of)
+      ≡ chosenPlace es nonterminal kind
+  chosen-variable h n =
+      ap₂ (λ (first second : ℕ). orElse first (orElse second nullable-of))
+      (sym (same-place (λ e. opened-variable kind h n (e .first) (e .patterns)) es nonterminal))
+      (sym (same-place (λ e. placed-variable kind h n (e .patterns)) es nonterminal))
+
+-- An outside name chooses as a word does.
+pub chosen-outside-name : (es : List Entry) (nonterminal : ℕ) → chosenPlace es nonterminal wordKind ≡ chosenPlace es nonterminal outsideKind
+chosen-outside-name es nonterminal =
+    ap₂ (λ (first second : ℕ). orElse first (orElse second (placeFrom (isNullableOf nonterminal) es 0)))
+    (sym (same-place (λ e. opened-outside (e .first) (e .patterns)) es nonterminal))
+    (sym (same-place (λ e. placed-outside (e .patterns)) es nonterminal))
+
+-- ------------------------------------------------------------------ what opens with a variable
+
+module _ (patterns : ℕ) {sort : ℕ} {test : Bool} where
+  -- A Var opens an ide of Var,
+  pub opens-var : sort ≡ 1 → test ≡ hasKind patterns 1 → test ≡ opensIde patterns sort
+  unfolding opensIde fits
+  opens-var e f = rw e (f ∙ only-first (hasKind patterns 1) (hasKind patterns 2) (hasKind patterns 3))
+    where
+      only-first : (first second third : Bool) → first ≡ ((first && true) || (second && false) || (third && false))
+      only-first true second third = refl
+      only-first false second third = rw (and-false second, and-false third) refl
+
+  -- a Binder one of Var or of Binder,
+  pub opens-binder : sort ≡ 2 → test ≡ (hasKind patterns 1 || hasKind patterns 2) → test ≡ opensIde patterns sort
+  unfolding opensIde fits
+  opens-binder e f = rw e (f ∙ first-two (hasKind patterns 1) (hasKind patterns 2) (hasKind patterns 3))
+    where
+      first-two : (first second third : Bool) → (first || second) ≡ ((first && true) || (second && true) || (third && false))
+      first-two true second third = refl
+      first-two false true third = refl
+      first-two false false third = rw (and-false third) refl
+
+  -- a Label one of Label,
+  pub opens-label : sort ≡ 3 → test ≡ hasKind patterns 3 → test ≡ opensIde patterns sort
+  unfolding opensIde fits
+  opens-label e f = rw e (f ∙ only-last (hasKind patterns 1) (hasKind patterns 2) (hasKind patterns 3))
+    where
+      only-last : (first second third : Bool) → third ≡ ((first && false) || (second && false) || (third && true))
+      only-last first second true = rw (and-false first, and-false second) refl
+      only-last first second false = rw (and-false first, and-false second) refl
+
+-- and any other none.
+pub opens-none-other : (patterns : ℕ) {sort : ℕ} → (sort ≡ 1 → ⊥) → (sort ≡ 2 → ⊥) → (sort ≡ 3 → ⊥) → false ≡ opensIde patterns sort
+unfolding opensIde fits
+opens-none-other patterns {sort} a b c =
+    sym
+    (rw (
+      ne-eqb sort 1 a,
+      ne-eqb sort 2 b,
+      ne-eqb sort 3 c,
+      and-false (hasKind patterns 1),
+      and-false (hasKind patterns 2),
+      and-false (hasKind patterns 3),
+      opensIde,
+    ) refl)
+
+module _ (patterns sort : ℕ) {placed test : Bool} where
+  -- By a place a variable opens if its bit is there,
+  pub opens-by-place : placed ≡ true → test ≡ hasKind patterns (8 + sort) → test ≡ opensBy placed patterns sort
+  unfolding opensPlace
+  opens-by-place e f = rw e f
+
+  -- by an ide if there is one that it fits.
+  pub opens-by-ide : placed ≡ false → test ≡ opensIde patterns sort → test ≡ opensBy placed patterns sort
+  opens-by-ide e f = rw e f
 
 -- ------------------------------------------------------------------ choices that are remembered
 
 -- Nothing is remembered.
-pub remembers-none : (bs : List ℕ) → Remembers bs (replicate memorySize 0)
-remembers-none bs =
+pub remembers-none : (patterns : List Item → ℕ) (bs : List ℕ) → RemembersFor patterns bs (replicate memorySize 0)
+remembers-none patterns bs =
     record {
       long = length-replicate {A = ℕ} memorySize 0;
       known = λ n kind few fits l. absurd (omega (arith, l, getD-replicate {A = ℕ} memorySize (slot n kind) 0 0 (omega arith)));
     }
 
-module _ {bs memory : List ℕ} (remembers : Remembers bs memory) {nonterminal kind : ℕ} (few : nonterminal < 64) (fits : kind < noKind) where
+module _ {patterns : List Item → ℕ} {bs memory : List ℕ} (remembers : RemembersFor patterns bs memory) {nonterminal kind : ℕ} (few : nonterminal < 64) (fits : kind < noKind) where
   -- What is remembered is what is chosen.
   pub remembered : {found-place : ℕ} → found-place ≡ getD memory (slot nonterminal kind) 0 → 0 < found-place
-      → found-place ≡ chosenPlace (entriesOf bs) nonterminal kind
+      → found-place ≡ chosenPlace (entriesFor patterns bs) nonterminal kind
   remembered e l = e ∙ remembers .known nonterminal kind few fits (omega (arith, e))
 
   -- One more choice is remembered.
-  pub remembers-more : {place : ℕ} → place ≡ chosenPlace (entriesOf bs) nonterminal kind → Remembers bs (set memory (slot nonterminal kind) place)
+  pub remembers-more : {place : ℕ} → place ≡ chosenPlace (entriesFor patterns bs) nonterminal kind → RemembersFor patterns bs (set memory (slot nonterminal kind) place)
   remembers-more {place} e =
       record {
         long = length-set memory (slot nonterminal kind) place ∙ remembers .long;
@@ -203,7 +302,7 @@ module _ {bs memory : List ℕ} (remembers : Remembers bs memory) {nonterminal k
     where
       by : (nonterminal′ kind′ : ℕ) → nonterminal′ < 64 → kind′ < noKind → Dec (slot nonterminal′ kind′ ≡ slot nonterminal kind)
           → 0 < getD (set memory (slot nonterminal kind) place) (slot nonterminal′ kind′) 0
-          → getD (set memory (slot nonterminal kind) place) (slot nonterminal′ kind′) 0 ≡ chosenPlace (entriesOf bs) nonterminal′ kind′
+          → getD (set memory (slot nonterminal kind) place) (slot nonterminal′ kind′) 0 ≡ chosenPlace (entriesFor patterns bs) nonterminal′ kind′
       by nonterminal′ kind′ few′ fits′ (yes s) l =
           let en : nonterminal′ ≡ nonterminal = omega arith in
           let ek : kind′ ≡ kind = omega arith in
@@ -302,12 +401,12 @@ module _ (room : List ℕ) (nonterminal : ℕ) where
   unfolding kindsIn
   kinds-outside l = rw (le-ltb nonterminal 64 l, kindsIn)
 
-module _ {bs room : List ℕ} (held : Held bs room) where
+module _ {patterns : List Item → ℕ} {bs room : List ℕ} (held : HeldFor patterns bs room) where
   abbrev nulls : ℕ
   nulls = nullables (productionsIn bs)
 
   abbrev E : Place → Entry
-  E = entryAt bs nulls (firstSetsOf bs)
+  E = entryFor patterns bs nulls (firstSetsOf bs)
 
   abbrev placed : Place → Production
   placed p = productionAt bs (p .nonterminal) (p .start)
@@ -319,15 +418,15 @@ module _ {bs room : List ℕ} (held : Held bs room) where
   few = held .grammar .few
 
   -- As many entries as productions.
-  pub entries-count : length (entriesOf bs) ≡ length (placesOf bs)
-  unfolding entriesOf
+  pub entries-count : length (entriesFor patterns bs) ≡ length (placesOf bs)
+  unfolding entriesFor
   entries-count = length-map (placesOf bs) E
 
-  entry-is : (spot : ℕ) → spot < length (placesOf bs) → getD (entriesOf bs) spot noEntry ≡ E (getD (placesOf bs) spot somewhere)
-  unfolding entriesOf
+  entry-is : (spot : ℕ) → spot < length (placesOf bs) → getD (entriesFor patterns bs) spot noEntry ≡ E (getD (placesOf bs) spot somewhere)
+  unfolding entriesFor
   entry-is spot l = map-at E (placesOf bs) spot somewhere noEntry l
 
-  entries-near : (spot : ℕ) → getD (entriesOf bs) spot noEntry .start < 65536
+  entries-near : (spot : ℕ) → getD (entriesFor patterns bs) spot noEntry .start < 65536
   entries-near spot =
       by-test (ltb spot (length (placesOf bs)))
       (λ t.
@@ -335,53 +434,94 @@ module _ {bs room : List ℕ} (held : Held bs room) where
       let w : Whole bs (getD (placesOf bs) spot somewhere) = each-at (held .places) spot l in
       rw (entry-is spot l) (omega (arith, w .inside, held .grammar .small)))
       (λ t.
-      let l : length (entriesOf bs) ≤ spot = omega (arith, ltb-false spot (length (placesOf bs)) t, entries-count) in
-      rw (getD-past (entriesOf bs) spot noEntry l) (omega arith))
+      let l : length (entriesFor patterns bs) ≤ spot = omega (arith, ltb-false spot (length (placesOf bs)) t, entries-count) in
+      rw (getD-past (entriesFor patterns bs) spot noEntry l) (omega arith))
 
   -- They are 256 at most.
-  pub entries-few : length (entriesOf bs) ≤ 256
+  pub entries-few : length (entriesFor patterns bs) ≤ 256
   entries-few = omega (arith, entries-count, few)
 
   -- The room holds the entries of the table's productions.
-  pub entries-held : HoldsEntries (firstSetsOf bs) (entriesOf bs) room
-  unfolding tableRoom entriesOf firstSetsOf
+  pub entries-held : HoldsEntries (firstSetsOf bs) (entriesFor patterns bs) room
+  unfolding tableRoomFor entriesFor firstSetsOf
   entries-held =
       record { kinds = _; rest = held .grammar .rest; held = held .grammar .held; few = entries-few; near = entries-near }
 
   -- the walk over the places of one of the 64 nonterminals
-  module _ {nonterminal : ℕ} (small : nonterminal < 64) (kind : ℕ) where
+  module _ {nonterminal : ℕ} (small : nonterminal < 64) (test : Entry → Bool) where
     -- The walk begins at the first place that the room has.
-    pub walk-start : {spot : ℕ} → spot ≡ firstPlaceIn room nonterminal → Walking (entriesOf bs) nonterminal kind spot
-    walk-start e = walking-start (entriesOf bs) entries-few nonterminal kind (e ∙ first-place-in entries-held nonterminal small)
+    pub walk-start : {spot : ℕ} → spot ≡ firstPlaceIn room nonterminal → Walking (entriesFor patterns bs) nonterminal test spot
+    walk-start e = walking-start (entriesFor patterns bs) entries-few nonterminal test (e ∙ first-place-in entries-held nonterminal small)
 
-    module _ {spot : ℕ} (walking : Walking (entriesOf bs) nonterminal kind spot) (less : spot < 256) {set : ℕ} (es : set ≡ firstIn room spot) where
-      tested : {test : Bool} → hasKind set kind ≡ test → hasKind (getD (entriesOf bs) spot noEntry .first) kind ≡ test
-      tested t = rw (sym (es ∙ first-in entries-held spot (walking .inside less))) t
-
-      -- It ends where the first set in the room holds the kind.
-      pub walk-found : hasKind set kind ≡ true → spot ≡ placeFrom (opensOf nonterminal kind) (entriesOf bs) 0
-      walk-found t = walking-found (entriesOf bs) entries-few nonterminal kind walking less (tested t)
+    module _ {spot : ℕ} (walking : Walking (entriesFor patterns bs) nonterminal test spot) (less : spot < 256) where
+      -- It ends at a place that passes the test.
+      pub walk-found : test (getD (entriesFor patterns bs) spot noEntry) ≡ true → spot ≡ firstWith (entriesFor patterns bs) nonterminal test
+      walk-found t = walking-found (entriesFor patterns bs) entries-few nonterminal test walking less t
 
       -- Else it goes on at the next place that the room has, a later one.
-      pub walk-next : hasKind set kind ≡ false → {next-place : ℕ} → next-place ≡ nextPlaceIn room spot
-          → (spot < next-place) × Walking (entriesOf bs) nonterminal kind next-place
+      pub walk-next : test (getD (entriesFor patterns bs) spot noEntry) ≡ false → {next-place : ℕ} → next-place ≡ nextPlaceIn room spot
+          → (spot < next-place) × Walking (entriesFor patterns bs) nonterminal test next-place
       walk-next t e =
-          walking-next (entriesOf bs) entries-few nonterminal kind walking less (tested t) (e ∙ next-place-in entries-held spot (walking .inside less))
+          walking-next (entriesFor patterns bs) entries-few nonterminal test walking less t (e ∙ next-place-in entries-held spot (walking .inside less))
+
+      -- What the room has of the entry there: its first set,
+      pub first-here : {set : ℕ} → set ≡ firstIn room spot → set ≡ getD (entriesFor patterns bs) spot noEntry .first
+      first-here e = e ∙ first-in entries-held spot (walking .inside less)
+
+      -- and what reads a variable first.
+      pub patterns-here : {set : ℕ} → set ≡ patternsIn room spot → set ≡ getD (entriesFor patterns bs) spot noEntry .patterns
+      patterns-here e = e ∙ patterns-in entries-held spot (walking .inside less)
 
     -- At 256 nothing was found.
-    pub walk-end : {spot : ℕ} → Walking (entriesOf bs) nonterminal kind spot → 256 ≤ spot → 256 ≡ placeFrom (opensOf nonterminal kind) (entriesOf bs) 0
-    walk-end w l = walking-end (entriesOf bs) entries-few nonterminal kind w l
+    pub walk-end : {spot : ℕ} → Walking (entriesFor patterns bs) nonterminal test spot → 256 ≤ spot → 256 ≡ firstWith (entriesFor patterns bs) nonterminal test
+    walk-end w l = walking-end (entriesFor patterns bs) entries-few nonterminal test w l
 
-    -- the place that is chosen
-    module _ {spot : ℕ} (equal : spot ≡ placeFrom (opensOf nonterminal kind) (entriesOf bs) 0) where
-      -- A place that the walk found is chosen.
-      pub place-opened : spot < 256 → spot ≡ chosenPlace (entriesOf bs) nonterminal kind
-      place-opened l = chosen-opened (entriesOf bs) nonterminal kind equal l
+  abbrev null-of : ℕ → ℕ
+  null-of nonterminal = placeFrom (isNullableOf nonterminal) (entriesFor patterns bs) 0
+
+  -- the nullable place of the room is that of the entries
+  nullable-here : {nonterminal : ℕ} → nonterminal < 64 → {spot : ℕ} → spot ≡ nullablePlaceIn room nonterminal
+      → spot ≡ placeFrom (isNullableOf nonterminal) (entriesFor patterns bs) 0
+  nullable-here {nonterminal} small e = e ∙ nullable-place-in entries-held nonterminal small
+
+  -- the place that is chosen of one of the 64 nonterminals
+  module _ {nonterminal : ℕ} (small : nonterminal < 64) {kind : ℕ} where
+    module _ (formula : kind ≤ noKind) {opened : ℕ} (equal : opened ≡ firstWith (entriesFor patterns bs) nonterminal (holdsKind kind)) where
+      -- By a kind of a formula a place that the walk found is chosen.
+      pub place-opened : opened < 256 → opened ≡ chosenPlace (entriesFor patterns bs) nonterminal kind
+      place-opened l = or-first (null-of nonterminal) l ∙ rw equal (chosen-formula (entriesFor patterns bs) nonterminal kind formula)
 
       -- Where it found none, the nullable place of the room is.
-      pub place-nullable : 256 ≤ spot → {next-place : ℕ} → next-place ≡ nullablePlaceIn room nonterminal
-          → next-place ≡ chosenPlace (entriesOf bs) nonterminal kind
-      place-nullable l ek = ek ∙ nullable-place-in entries-held nonterminal small ∙ chosen-nullable (entriesOf bs) nonterminal kind equal l
+      pub place-nullable : 256 ≤ opened → {next-place : ℕ} → next-place ≡ nullablePlaceIn room nonterminal
+          → next-place ≡ chosenPlace (entriesFor patterns bs) nonterminal kind
+      place-nullable l e = nullable-here small e ∙ or-second (null-of nonterminal) l ∙ rw equal (chosen-formula (entriesFor patterns bs) nonterminal kind formula)
+
+    module _ (text : noKind < kind) (variable : kind ≡ outsideKind → ⊥) {by-ide : ℕ}
+        (ide-is : by-ide ≡ firstWith (entriesFor patterns bs) nonterminal (opensSort false (kind - 65))) where
+      chosen-by : {found : ℕ} → found ≡ orElse by-ide (orElse (firstWith (entriesFor patterns bs) nonterminal (opensSort true (kind - 65)))
+          (placeFrom (isNullableOf nonterminal) (entriesFor patterns bs) 0)) → found ≡ chosenPlace (entriesFor patterns bs) nonterminal kind
+      chosen-by e = e ∙ rw ide-is (chosen-variable (entriesFor patterns bs) nonterminal kind text variable)
+
+      -- By a variable a place is chosen that opens with an ide that it fits;
+      pub place-ide : by-ide < 256 → by-ide ≡ chosenPlace (entriesFor patterns bs) nonterminal kind
+      place-ide l = chosen-by (or-first (orElse (firstWith (entriesFor patterns bs) nonterminal (opensSort true (kind - 65))) (null-of nonterminal)) l)
+
+      module _ (none : 256 ≤ by-ide) {by-place : ℕ}
+          (place-is : by-place ≡ firstWith (entriesFor patterns bs) nonterminal (opensSort true (kind - 65))) where
+        -- where there is none, one that opens with a place of its sort;
+        pub place-place : by-place < 256 → by-place ≡ chosenPlace (entriesFor patterns bs) nonterminal kind
+        place-place l = chosen-by (rw (← place-is) (or-first (null-of nonterminal) l ∙ or-second (orElse by-place (null-of nonterminal)) none))
+
+        -- where there is none of these either, the nullable one.
+        pub place-left : 256 ≤ by-place → {found : ℕ} → found ≡ nullablePlaceIn room nonterminal
+            → found ≡ chosenPlace (entriesFor patterns bs) nonterminal kind
+        place-left l e = chosen-by (rw (← place-is) (nullable-here small e ∙ or-second (null-of nonterminal) l ∙ or-second (orElse by-place (null-of nonterminal)) none))
+
+  -- An outside name chooses as a word does.
+  pub place-outside : (nonterminal : ℕ) {kind spot : ℕ} → kind ≡ outsideKind → spot ≡ chosenPlace (entriesFor patterns bs) nonterminal wordKind
+      → spot ≡ chosenPlace (entriesFor patterns bs) nonterminal kind
+  place-outside nonterminal e f =
+      f ∙ chosen-outside-name (entriesFor patterns bs) nonterminal ∙ ap (chosenPlace (entriesFor patterns bs) nonterminal) (sym e)
 
   -- where no place passes a test, none is found
   none-passes : (test : Entry → Bool) (ps : List Place) → ((stands-at : Place) → Among ps stands-at → test (E stands-at) ≡ false) → (spot : ℕ)
@@ -406,15 +546,16 @@ module _ {bs room : List ℕ} (held : Held bs room) where
       none-passes test (placesOf bs)
       (λ p a. by-test (test (E p)) (λ t. absurd (omega (arith, own (E p) t, each-among (held .places) a .small))) (λ t. t)) 0
 
+  none-of : (nonterminal : ℕ) → 64 ≤ nonterminal → (test : Entry → Bool) → placeFrom (ofWith nonterminal test) (map E (placesOf bs)) 0 ≡ 256
+  none-of nonterminal l test = each-other (ofWith nonterminal test) nonterminal l (λ e t. eqb-true _ nonterminal (and-eq-true-iff _ _ .0 t .0))
+
   -- What is no nonterminal has no production.
-  pub chosen-outside : (nonterminal kind : ℕ) → 64 ≤ nonterminal → 256 ≡ chosenPlace (entriesOf bs) nonterminal kind
-  unfolding entriesOf
+  pub chosen-outside : (nonterminal kind : ℕ) → 64 ≤ nonterminal → 256 ≡ chosenPlace (entriesFor patterns bs) nonterminal kind
+  unfolding entriesFor
   chosen-outside nonterminal kind l =
-      let a : placeFrom (opensOf nonterminal kind) (map E (placesOf bs)) 0 ≡ 256
-      = each-other (opensOf nonterminal kind) nonterminal l (λ e t. eqb-true _ nonterminal (and-eq-true-iff _ _ .0 t .0)) in
-      let b : placeFrom (isNullableOf nonterminal) (map E (placesOf bs)) 0 ≡ 256
-      = each-other (isNullableOf nonterminal) nonterminal l (λ e t. eqb-true _ nonterminal (and-eq-true-iff _ _ .0 t .0)) in
-      sym b ∙ chosen-nullable (map E (placesOf bs)) nonterminal kind (sym a) (omega arith)
+      sym (none-of nonterminal l (λ e. e .nullable))
+      ∙ or-second _ (omega (arith, none-of nonterminal l (places kind)))
+      ∙ or-second _ (omega (arith, none-of nonterminal l (opens kind)))
 
   -- ---------------------------------------------------------------- the first set of a nonterminal says whether a place of it opens by a kind
 
@@ -423,14 +564,14 @@ module _ {bs room : List ℕ} (held : Held bs room) where
     in-set = rw (sym (first-set-in entries-held nonterminal small)) tested
 
     -- Where the set has the kind, some production opens by it.
-    pub opens-some : test ≡ true → placeFrom (opensOf nonterminal kind) (entriesOf bs) 0 < 256
-    unfolding entriesOf firstSetsOf productionAt
+    pub opens-some : test ≡ true → firstWith (entriesFor patterns bs) nonterminal (holdsKind kind) < 256
+    unfolding entriesFor firstSetsOf productionAt
     opens-some t = by (opens-exactly (productionsIn bs) nonterminal kind .0 (in-set ∙ t))
       where
-        by : Opens (productionsIn bs) nonterminal kind → placeFrom (opensOf nonterminal kind) (map E (placesOf bs)) 0 < 256
+        by : Opens (productionsIn bs) nonterminal kind → firstWith (map E (placesOf bs)) nonterminal (holdsKind kind) < 256
         by o =
             let p = among-mapped placed (placesOf bs) (o .of .member) in
-            one-passes (opensOf nonterminal kind) (p .member)
+            one-passes (ofWith nonterminal (holdsKind kind)) (p .member)
             (and-eq-true-iff _ _ .1 (
               eq-eqb _ nonterminal (ap (λ x. x .nonterminal) (p .equal) ∙ o .of .owned),
               ap (λ x. hasKind (firstOf nulls (firstSetsOf bs) x) kind) (p .equal)
@@ -440,13 +581,13 @@ module _ {bs room : List ℕ} (held : Held bs room) where
             (omega (arith, few))
 
     -- Where it does not, none does.
-    pub opens-none : test ≡ false → 256 ≡ placeFrom (opensOf nonterminal kind) (entriesOf bs) 0
-    unfolding entriesOf firstSetsOf productionAt
+    pub opens-none : test ≡ false → 256 ≡ firstWith (entriesFor patterns bs) nonterminal (holdsKind kind)
+    unfolding entriesFor firstSetsOf productionAt
     opens-none t =
         sym
-        (none-passes (opensOf nonterminal kind) (placesOf bs)
+        (none-passes (ofWith nonterminal (holdsKind kind)) (placesOf bs)
         (λ p a.
-        by-test (opensOf nonterminal kind (E p))
+        by-test (ofWith nonterminal (holdsKind kind) (E p))
         (λ e.
         let q = and-eq-true-iff _ _ .0 e in
         absurd
@@ -476,50 +617,74 @@ module _ {bs room : List ℕ} (held : Held bs room) where
       by (yes l) = sym (kinds-inside room nonterminal l) ∙ set-inside nonterminal l
       by (no n) = sym (kinds-outside room nonterminal (omega arith)) ∙ set-outside nonterminal (omega arith)
 
-  -- the search by first sets, and the search for a nullable production
+  -- a place among the entries, and another if it is none
+  module _ {spot : ℕ} (inside : spot < 256 → spot < length (placesOf bs)) (other : ℕ) where
+    or-choice : (left : Choice) → choiceAt R (placesOf bs) spot (choiceAt R (placesOf bs) other left) ≡ choiceAt R (placesOf bs) (orElse spot other) left
+    or-choice left =
+        by-test (ltb spot 256)
+        (λ t.
+        let l = ltb-true _ _ t in
+        choice-inside R _ (placesOf bs) spot (inside l) ∙ rw (← (or-first {place = spot} other l)) (sym (choice-inside R left (placesOf bs) spot (inside l))))
+        (λ t.
+        let l : 256 ≤ spot = ltb-false _ _ t in
+        choice-outside R _ (placesOf bs) spot (omega (arith, few)) ∙ ap (λ (j : ℕ). choiceAt R (placesOf bs) j left) (or-second {place = spot} other l))
+
+    or-inside : (other < 256 → other < length (placesOf bs)) → orElse spot other < 256 → orElse spot other < length (placesOf bs)
+    or-inside too =
+        by-test (ltb spot 256) (λ t. rw (← (or-first {place = spot} other (ltb-true _ _ t))) inside)
+        (λ t. rw (← (or-second {place = spot} other (ltb-false _ _ t))) too)
+
+  -- the searches of a choice
   module _ (nonterminal kind : ℕ) where
     abbrev opened-at : ℕ
-    opened-at = placeFrom (opensOf nonterminal kind) (entriesOf bs) 0
+    opened-at = firstWith (entriesFor patterns bs) nonterminal (opens kind)
+
+    abbrev placed-at : ℕ
+    placed-at = firstWith (entriesFor patterns bs) nonterminal (places kind)
 
     abbrev nullable-at : ℕ
-    nullable-at = placeFrom (isNullableOf nonterminal) (entriesOf bs) 0
+    nullable-at = placeFrom (isNullableOf nonterminal) (entriesFor patterns bs) 0
 
-    choice-is : choice (ready (productionsIn bs)) nonterminal kind
-        ≡ choiceAt R (placesOf bs) opened-at (choiceAt R (placesOf bs) nullable-at unfit)
-    unfolding ready productionAt entriesOf firstSetsOf
+    -- a search by a test of rules is one by a test of entries
+    searched-at : (te : Entry → Bool) (tr : Rule → Bool)
+        → ((stands-at : Place) → te (E stands-at) ≡ (eqb (R stands-at .nonterminal) nonterminal && tr (R stands-at))) → (other : Choice)
+        → firstRule tr nonterminal (map (ruleOf nulls (firstSetsOf bs)) (productionsIn bs)) other
+        ≡ choiceAt R (placesOf bs) (placeFrom te (entriesFor patterns bs) 0) other
+    unfolding productionAt entriesFor
+    searched-at te tr agree other =
+        searched E (λ p. productionAt bs (p .nonterminal) (p .start)) (ruleOf nulls (firstSetsOf bs)) te tr nonterminal agree other (placesOf bs) 0
+        (omega (arith, few))
+        ∙ rw (sub-zero (placeFrom te (map E (placesOf bs)) 0)) refl
+
+    choice-is : choice (readyFor patterns (productionsIn bs)) nonterminal kind
+        ≡ choiceAt R (placesOf bs) opened-at (choiceAt R (placesOf bs) placed-at (choiceAt R (placesOf bs) nullable-at unfit))
+    unfolding readyFor productionAt firstSetsOf
     choice-is =
-        searched E (λ p. productionAt bs (p .nonterminal) (p .start)) (ruleOf nulls (firstSetsOf bs)) (opensOf nonterminal kind) (λ r. hasKind (r .first) kind)
-        nonterminal
-        (λ p. refl) _ (placesOf bs) 0 (omega (arith, few))
-        ∙ rw (sub-zero opened-at)
-        (ap (choiceAt R (placesOf bs) opened-at)
-        (searched E (λ p. productionAt bs (p .nonterminal) (p .start)) (ruleOf nulls (firstSetsOf bs)) (isNullableOf nonterminal) (λ r. r .nullable) nonterminal
-        (λ p. refl) unfit (placesOf bs) 0 (omega (arith, few))
-        ∙ rw (sub-zero nullable-at) refl))
+        searched-at (ofWith nonterminal (opens kind)) (λ r. isOpened kind (r .first) (patterns (r .items))) (λ p. refl) _
+        ∙ ap (choiceAt R (placesOf bs) opened-at)
+        (searched-at (ofWith nonterminal (places kind)) (λ r. isPlaced kind (patterns (r .items))) (λ p. refl) _
+        ∙ ap (choiceAt R (placesOf bs) placed-at) (searched-at (isNullableOf nonterminal) (λ r. r .nullable) (λ p. refl) unfit))
+
+    found-inside : (te : Entry → Bool) → placeFrom te (entriesFor patterns bs) 0 < 256 → placeFrom te (entriesFor patterns bs) 0 < length (placesOf bs)
+    found-inside te l = omega (arith, place-inside te (entriesFor patterns bs) entries-few l, entries-count)
 
     -- The place that is chosen stands for the rule that is chosen.
-    chosen-is : choice (ready (productionsIn bs)) nonterminal kind ≡ choiceAt R (placesOf bs) (chosenPlace (entriesOf bs) nonterminal kind) unfit
-    unfolding chosenPlace
+    chosen-is : choice (readyFor patterns (productionsIn bs)) nonterminal kind
+        ≡ choiceAt R (placesOf bs) (chosenPlace (entriesFor patterns bs) nonterminal kind) unfit
     chosen-is =
-        by-test (ltb opened-at noPlace)
-        (λ t.
-        let l : opened-at < length (placesOf bs)
-        = omega (arith, place-inside (opensOf nonterminal kind) (entriesOf bs) entries-few (ltb-true _ _ t), entries-count) in
-        choice-is ∙ choice-inside R _ (placesOf bs) opened-at l ∙ rw (t, chosenPlace) (sym (choice-inside R unfit (placesOf bs) opened-at l)))
-        (λ t.
-        let l : length (placesOf bs) ≤ opened-at = omega (arith, ltb-false opened-at noPlace t, few) in
-        choice-is ∙ choice-outside R (choiceAt R (placesOf bs) nullable-at unfit) (placesOf bs) opened-at l ∙ rw (t, chosenPlace) refl)
+        choice-is
+        ∙ ap (choiceAt R (placesOf bs) opened-at) (or-choice (found-inside (ofWith nonterminal (places kind))) nullable-at unfit)
+        ∙ or-choice (found-inside (ofWith nonterminal (opens kind))) (orElse placed-at nullable-at) unfit
 
-    chosen-small : chosenPlace (entriesOf bs) nonterminal kind < 256 → chosenPlace (entriesOf bs) nonterminal kind < length (placesOf bs)
-    unfolding chosenPlace
+    chosen-small : chosenPlace (entriesFor patterns bs) nonterminal kind < 256
+        → chosenPlace (entriesFor patterns bs) nonterminal kind < length (placesOf bs)
     chosen-small =
-        by-test (ltb opened-at noPlace)
-        (λ t. rw (t, chosenPlace) (λ s. omega (arith, place-inside (opensOf nonterminal kind) (entriesOf bs) entries-few s, entries-count)))
-        (λ t. rw (t, chosenPlace) (λ s. omega (arith, place-inside (isNullableOf nonterminal) (entriesOf bs) entries-few s, entries-count)))
+        or-inside (found-inside (ofWith nonterminal (opens kind))) (orElse placed-at nullable-at)
+        (or-inside (found-inside (ofWith nonterminal (places kind))) nullable-at (found-inside (isNullableOf nonterminal)))
 
-    module _ {spot : ℕ} (equal : spot ≡ chosenPlace (entriesOf bs) nonterminal kind) where
+    module _ {spot : ℕ} (equal : spot ≡ chosenPlace (entriesFor patterns bs) nonterminal kind) where
       -- No place: no rule fits.
-      pub chosen-nowhere : 256 ≤ spot → choice (ready (productionsIn bs)) nonterminal kind ≡ unfit
+      pub chosen-nowhere : 256 ≤ spot → choice (readyFor patterns (productionsIn bs)) nonterminal kind ≡ unfit
       chosen-nowhere l = chosen-is ∙ choice-outside R unfit (placesOf bs) _ (omega (arith, equal, few))
 
       module _ (below : spot < 256) where
@@ -534,12 +699,12 @@ module _ {bs room : List ℕ} (held : Held bs room) where
         start-is = start-in entries-held spot (omega (arith, entries-count, at-place)) ∙ ap (λ x. x .start) (entry-is spot at-place)
 
         -- It is the offset of the production that is chosen.
-        pub start-chosen : startIn room spot ≡ chosenStart bs nonterminal kind
-        unfolding chosenStart
-        start-chosen = rw (sym equal, chosenStart) (start-in entries-held spot (omega (arith, entries-count, at-place)))
+        pub start-chosen : startIn room spot ≡ chosenStartFor patterns bs nonterminal kind
+        unfolding chosenStartFor
+        start-chosen = rw (sym equal, chosenStartFor) (start-in entries-held spot (omega (arith, entries-count, at-place)))
 
         -- A place: the rule whose items and result stand at its offset.
-        pub chosen-here : choice (ready (productionsIn bs)) nonterminal kind ≡ chosen (R (getD (placesOf bs) spot somewhere))
+        pub chosen-here : choice (readyFor patterns (productionsIn bs)) nonterminal kind ≡ chosen (R (getD (placesOf bs) spot somewhere))
         chosen-here =
             chosen-is ∙ rw (sym equal) (choice-inside R unfit (placesOf bs) spot at-place)
 

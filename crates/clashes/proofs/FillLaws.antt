@@ -77,7 +77,7 @@ module _ {bs : List ℕ} {all : ℕ} {owners starts sets room₀ : List ℕ} (pr
     pub fill-next : {start : ℕ} → start ≡ getD starts (place - 1) 0 → {found : Gathered} → found ≡ gathered nulls sets sets (itemsOf (fieldsAt bs start))
         → {room′ : List ℕ}
         → room′
-        ≡ laid (record { nonterminal = getD owners (place - 1) 0; start = getD starts (place - 1) 0; first = found .kinds; nullable = found .nullable })
+        ≡ laid (record { nonterminal = getD owners (place - 1) 0; start = getD starts (place - 1) 0; first = found .kinds; nullable = found .nullable; patterns = 0 })
         (place - 1) room → Filling kinds sets entries room₁ (place - 1) room′
     fill-next {start} es ef {room′} er =
         let z : 0 + (place - 1) ≡ place - 1 = omega arith in

@@ -11,7 +11,7 @@ use Rattle.expansion.specs.declared.Outcome.the-variants.{Value, Halted}
 use Rattle.expansion.specs.Run.{Result, done, halt}
 use Rattle.expansion.specs.Outcomes.{ran}
 use Rattle.expansion.specs.Expansion.{Input, runCall, run}
-use Rattle.choices.specs.Chosen.{Remembers}
+use Rattle.choices.specs.Chosen.{RemembersFor}
 use Rattle.steps.specs.declared.Activation.{Activation}
 use Rattle.steps.specs.Source.{Source, GoesOn}
 use Rattle.steps.specs.Steps.{body, weight, mostWeight}
@@ -34,7 +34,7 @@ pub record RootEntered (S : Source) (call : Activation) (s : State) : Type 0 whe
 -- what is lent, and the root's call is entered
 pub record MayBeginRoot (S : Source) (room memory tokens stack : List ℕ) (call : Activation) (s : State) : Type 0 where
   pub lent : Lent S room tokens stack
-  pub remembers : Remembers (S .bytes) memory
+  pub remembers : RemembersFor (S .patterns) (S .bytes) memory
   pub entered : RootEntered S call s
 
 -- an expansion stands in a room that is not for all calls, and may have no level more

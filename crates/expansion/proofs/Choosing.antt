@@ -1,5 +1,5 @@
 -- The rule that an expansion chooses is of the production that Figure 3 takes.
-use Prim.Native.Nat.{ℕ, zero, suc, _<_}
+use Prim.Native.Nat.{ℕ, zero, suc, _<_, _≤_}
 use mathlib.Core.Path.{_≡_, refl, sym, subst, _∙_}
 use mathlib.Core.Logic.{_⊎_, inl, inr}
 use mathlib.Core.Bool.{Bool, true, false, _&&_, true≢false, and-eq-true-iff}
@@ -19,8 +19,9 @@ use Rattle.decoding.specs.Within.{Among, among-first, among-later}
 use Rattle.firsts.specs.Rules.{First, first-own, first-call, first-past, Reads, reads}
 use Rattle.firsts.proofs.FirstsTheorems.{production-opens-exactly, production-nullable-exactly}
 use Rattle.clashes.proofs.ClashTheorems.{one-production}
-use Rattle.expansion.specs.Expansion.{Rule, ruleOf, ready, Choice, unfit, chosen, firstRule, choice}
+use Rattle.expansion.specs.Expansion.{Rule, ruleOf, readyFor, ready, Choice, unfit, chosen, firstRule, choice}
 use Rattle.tokens.specs.Tokens.{endToken}
+use Rattle.expansion.proofs.AsBefore.{choiceOf01, choice-as-before}
 use Rattle.expansion.specs.Figure3.{Next, next, Opened, Taken, taken-opened, taken-nullable}
 
 -- ------------------------------------------------------------------ the kind of the next token
@@ -134,17 +135,16 @@ module _ (g : List Production) where
   none-taken m k p (taken-opened o h) = m .none-passed p (o .member) (o .owned) (opened-first h)
   none-taken m k p (taken-nullable o h z) = k .none-passed p (o .member) (o .owned) (production-nullable-exactly g p .1 z)
 
-  -- the choice by the next kind picks the production that the tokens take
-  pub choice-picks : (nonterminal : ℕ) → nonterminal < 64 → (s : List Token) → Picks nonterminal s (choice (ready g) nonterminal (nextKind s))
-  unfolding ready
-  choice-picks nonterminal l s =
+  kind-picks : (nonterminal : ℕ) → nonterminal < 64 → (s : List Token) → Picks nonterminal s (choiceOf01 (ready g) nonterminal (nextKind s))
+  unfolding readyFor
+  kind-picks nonterminal l s =
       go (first-rule rule (λ p. refl) (λ r. hasKind (r .first) (nextKind s)) nonterminal (firstRule (λ r. r .nullable) nonterminal (map rule g) unfit) g)
       (first-rule rule (λ p. refl) (λ r. r .nullable) nonterminal unfit g)
     where
       go : Found rule (λ p. refl) (λ r. hasKind (r .first) (nextKind s)) nonterminal (firstRule (λ r. r .nullable) nonterminal (map rule g) unfit) g
           ⊎ Missing rule (λ p. refl) (λ r. hasKind (r .first) (nextKind s)) nonterminal (firstRule (λ r. r .nullable) nonterminal (map rule g) unfit) g
           → Found rule (λ p. refl) (λ r. r .nullable) nonterminal unfit g ⊎ Missing rule (λ p. refl) (λ r. r .nullable) nonterminal unfit g
-          → Picks nonterminal s (choice (ready g) nonterminal (nextKind s))
+          → Picks nonterminal s (choiceOf01 (ready g) nonterminal (nextKind s))
       go (inl f) k =
           picks (f .production) (taken-opened (record { member = f .member; owned = f .of; small = l }) (first-opened s (f .production) (f .passed)))
           (f .answer)
@@ -154,6 +154,12 @@ module _ (g : List Production) where
           (production-nullable-exactly g (f .production) .0 (f .passed)))
           (m .answer ∙ f .answer)
       go (inr m) (inr k) = picks-none (none-taken m k) (m .answer ∙ k .answer)
+
+  -- the choice by the next kind, one of a formula, picks the production that the tokens take
+  pub choice-picks : (nonterminal : ℕ) → nonterminal < 64 → (s : List Token) → nextKind s ≤ noKind
+      → Picks nonterminal s (choice (ready g) nonterminal (nextKind s))
+  choice-picks nonterminal l s small =
+      subst (Picks nonterminal s) (sym (choice-as-before (ready g) nonterminal (nextKind s) small)) (kind-picks nonterminal l s)
 
   -- one production is taken at most
   module _ (passed : checkFirsts g ≡ ok tt) where

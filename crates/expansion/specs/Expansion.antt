@@ -5,7 +5,7 @@ use mathlib.Core.Bool.{Bool, true, false, _&&_}
 use mathlib.Core.List.{List, [], _∷_, _++_, map}
 use lib.{Dec.eqb, Dec.ltb, ListN.length, ListN.getD, Seq.sets, Count.ones}
 use Rattle.answers.specs.Refusals.{refusal}
-use Rattle.kinds.specs.Kinds.{hasKind, only}
+use Rattle.kinds.specs.Kinds.{only}
 use Rattle.grammar.specs.Table.{Template, Templates, variable, outsideVar, outsideLabel, make, none, more, Terminal, kindOf, Item, terminal, local, call}
 use Rattle.terms.specs.Cells.{columns, rowNumbers, rowsLent, freshName, outsideName}
 use Rattle.tokens.specs.declared.Token.{Token}
@@ -13,7 +13,7 @@ use Rattle.tokens.specs.Tokens.{endToken}
 use Rattle.productions.specs.Normal.{Production}
 use Rattle.firsts.specs.FirstSets.{nullables, firstSets, firstOf, allNullable}
 use Rattle.expansion.specs.declared.State.{State}
-use Rattle.expansion.specs.TextTokens.{readValue, meets, textValue}
+use Rattle.expansion.specs.TextTokens.{readValue, meets, textValue, isOpened, isPlaced}
 use Rattle.expansion.specs.Run.{Result, done, halt, Run, return, after, _>>=_}
 use Rattle.expansion.specs.Limits.{mostCalls, mostOpen}
 
@@ -27,20 +27,25 @@ pub record Rule : Type 0 where
   pub first : ℕ
   pub nullable : Bool
 
--- the rules in order, and the first set of each nonterminal
+-- the rules in order, the first set of each nonterminal, and what reads a `$` variable first in items (02, C-14)
 pub record Grammar : Type 0 where
   pub rules : List Rule
   pub firsts : List ℕ
+  pub patterns : List Item → ℕ
 
 abbrev pub ruleOf : ℕ → List ℕ → Production → Rule
 ruleOf nulls firsts p =
     record { nonterminal = p .nonterminal; items = p .items; result = p .result; first = firstOf nulls firsts p; nullable = allNullable nulls (p .items) }
 
-abbrev pub readyBy : List Production → ℕ → List ℕ → Grammar
-readyBy g nulls firsts = record { rules = map (ruleOf nulls firsts) g; firsts = firsts }
+abbrev pub readyBy : (List Item → ℕ) → List Production → ℕ → List ℕ → Grammar
+readyBy patterns g nulls firsts = record { rules = map (ruleOf nulls firsts) g; firsts = firsts; patterns = patterns }
 
-unfoldable pub ready : List Production → Grammar
-ready g = readyBy g (nullables g) (firstSets (nullables g) g)
+unfoldable pub readyFor : (List Item → ℕ) → List Production → Grammar
+readyFor patterns g = readyBy patterns g (nullables g) (firstSets (nullables g) g)
+
+-- for a formula, which has no variables
+abbrev pub ready : List Production → Grammar
+ready g = readyFor (λ is. 0) g
 
 -- what an expansion reads: the grammar, the tokens, and how many cells may be made
 pub record Input : Type 0 where
@@ -67,8 +72,7 @@ misfit kinds s cells = halt (refusal 17 (s .at) kinds (ones kinds)) cells
 -- takes a token of one kind, with a value made of the token's
 abbrev pub takeToken : Input → ℕ → (ℕ → ℕ) → Run ℕ
 takeToken I kind value s cells =
-    elim (eqb (nextToken I s .kind) kind)
-    [ true ↦ done (value (nextToken I s .value)) (tokenTaken s) cells | false ↦ misfit (only kind) s cells ]
+    elim (eqb (nextToken I s .kind) kind) [ true ↦ done (value (nextToken I s .value)) (tokenTaken s) cells | false ↦ misfit (only kind) s cells ]
 
 -- ------------------------------------------------------------------ templates
 
@@ -104,10 +108,7 @@ freshMade s cells = done (freshName (s .fresh)) (record { at = s .at; fresh = s 
 -- takes what a terminal reads: a token of its kind, or of a text one that meets it (02, C-14)
 abbrev pub takeTerminal : Input → Terminal → Run ℕ
 takeTerminal I t s cells =
-    elim (meets (nextToken I s .kind) t) [
-      | true ↦ done (textValue (nextToken I s .kind) t (nextToken I s .value)) (tokenTaken s) cells
-      | false ↦ takeToken I (kindOf t) (readValue t) s cells
-    ]
+    elim (meets t (nextToken I s)) [ true ↦ done (textValue t (nextToken I s)) (tokenTaken s) cells | false ↦ takeToken I (kindOf t) (readValue t) s cells ]
 
 -- an item under the values of the variables; `callee` is what a call does
 abbrev pub runItem : (ℕ → List ℕ → Run ℕ) → Input → Item → List ℕ → Run ℕ
@@ -132,9 +133,11 @@ unfoldable pub firstRule : (Rule → Bool) → ℕ → List Rule → Choice → 
 firstRule test n [] other = other
 firstRule test n (r ∷ rs) other = elim (eqb (r .nonterminal) n && test r) [ true ↦ chosen r | false ↦ firstRule test n rs other ]
 
--- Choice: the rule whose first set holds the next token, else the nullable one
+-- Choice: the rule that opens with the next token, of a text else the one with a place for it (02, C-14), else the nullable one
 abbrev pub choice : Grammar → ℕ → ℕ → Choice
-choice g n kind = firstRule (λ r. hasKind (r .first) kind) n (g .rules) (firstRule (λ r. r .nullable) n (g .rules) unfit)
+choice g n kind =
+    firstRule (λ r. isOpened kind (r .first) (g .patterns (r .items))) n (g .rules)
+    (firstRule (λ r. isPlaced kind (g .patterns (r .items))) n (g .rules) (firstRule (λ r. r .nullable) n (g .rules) unfit))
 
 abbrev pub callBegun : State → State
 callBegun s = record { at = s .at; fresh = s .fresh; calls = s .calls + 1; made = s .made }

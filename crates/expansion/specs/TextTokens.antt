@@ -9,6 +9,8 @@ use Rattle.grammar.specs.Sorts.{binder, label}
 use Rattle.grammar.specs.SortTests.{fits}
 use Rattle.grammar.specs.Table.{Terminal, keyword, ide, number}
 use Rattle.terms.specs.Cells.{wordName, outsideName}
+use Rattle.tokens.specs.declared.Token.{Token}
+use Rattle.firsts.specs.Patterns.{opensIde, opensPlace}
 
 -- a word read at a sort: a label is its spelling number, a Var or Binder a name
 abbrev pub wordValue : ℕ → ℕ → ℕ
@@ -34,16 +36,31 @@ unfoldable pub meetsIde : ℕ → ℕ → Bool
 meetsIde kind B = (isTextKind kind && not (isOutsideKind kind) && fits (sortOfKind kind) B) || (isOutsideKind kind && not (eqb B binder))
 
 -- no other terminal reads one
-abbrev pub meets : ℕ → Terminal → Bool
-meets kind (keyword k) = false
-meets kind (ide B) = meetsIde kind B
-meets kind number = false
+abbrev pub meets : Terminal → Token → Bool
+meets (keyword k) token = false
+meets (ide B) token = meetsIde (token .kind) B
+meets number token = false
 
 -- what it gives at sort B: a variable its own number, an outside name that name, or its number at Label
 unfoldable pub ideValue : ℕ → ℕ → ℕ → ℕ
 ideValue kind B v = elim (isOutsideKind kind && not (eqb B label)) [ true ↦ outsideName v | false ↦ v ]
 
-abbrev pub textValue : ℕ → Terminal → ℕ → ℕ
-textValue kind (keyword k) v = v
-textValue kind (ide B) v = ideValue kind B v
-textValue kind number v = v
+abbrev pub textValue : Terminal → Token → ℕ
+textValue (keyword k) token = token .value
+textValue (ide B) token = ideValue (token .kind) B (token .value)
+textValue number token = token .value
+
+-- ------------------------------------------------------------------ what opens with a token
+
+-- An alternative opens with the next token by its first set and by what reads a variable first in it: a token of a formula by the set, a text's word as any
+-- word, a variable by an ide that it fits,
+unfoldable pub isOpened : ℕ → ℕ → ℕ → Bool
+isOpened kind first patterns =
+    elim (isTextKind kind) [
+      | false ↦ hasKind first kind
+      | true ↦ elim (isOutsideKind kind) [ true ↦ hasKind first wordKind | false ↦ opensIde patterns (sortOfKind kind) ]
+    ]
+
+-- or by a pattern place of its sort
+unfoldable pub isPlaced : ℕ → ℕ → Bool
+isPlaced kind patterns = isTextKind kind && not (isOutsideKind kind) && opensPlace patterns (sortOfKind kind)

@@ -18,7 +18,7 @@ use Rattle.lexicon.specs.LexiconRoom.{lexiconBy}
 use Rattle.productions.specs.Index.{Place, placesOf, rootIn}
 use Rattle.productions.specs.Room.{roomOf, kindsIn}
 use Rattle.firsts.specs.Reach.{kindsReached}
-use Rattle.firsts.specs.Room.{productionsIn, tableRoom, HoldsGrammar}
+use Rattle.firsts.specs.Room.{productionsIn, tableRoom, tableRoomFor, HoldsGrammar}
 use Rattle.tokens.specs.declared.Scanned.{Scanned}
 use Rattle.tokens.specs.declared.Scanned.the-variants.{Tokens, Unscanned}
 use Rattle.scanner.specs.Rooms.{Filled, filled, scanInto, RoomFor}
@@ -78,7 +78,7 @@ module _ {bs : List ℕ} (bytes : Bytes bs) where
     module _ {room : List ℕ} (holds : HoldsGrammar bs room) where
       -- the kinds that the room has are those that the root reaches
       kinds-held : kindsIn room ≡ kindsReached (productionsIn bs) (rootIn bs)
-      unfolding tableRoom roomOf
+      unfolding tableRoomFor roomOf
       kinds-held = ap kindsIn (holds .held)
 
       -- The scanner finds the keywords and outside names of a passed table in its bytes, and in its room which keywords count.

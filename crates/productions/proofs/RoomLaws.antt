@@ -1,5 +1,5 @@
 -- What each reader gives of the room of some entries, whatever stands behind it.
-use Prim.Native.Nat.{ℕ, zero, suc, _+_, _*_, _-_, _/_, _<_, _≤_}
+use Prim.Native.Nat.{ℕ, zero, suc, _+_, _*_, _-_, _/_, _%_, _<_, _≤_}
 use mathlib.Core.Path.{_≡_, refl, sym, ap, _∙_}
 use mathlib.Core.Bool.{Bool, true, false}
 use mathlib.Core.List.{List, [], _∷_, _++_, append-assoc}
@@ -12,7 +12,7 @@ use Rattle.grammar.specs.Limits.{most}
 use Rattle.productions.specs.Room.{Entry, noEntry, HoldsEntries, placeFrom, isOf, isNullableOf, valuesOf, placesNumber, flagNumber}
 use Rattle.productions.specs.Room.{linkNumber, entryNumbers, roomOf, firstSetIn, firstPlaceIn, nullablePlaceIn}
 use Rattle.productions.specs.Room.{setsAt, placesAt, productionsAt, linksAt, nullableBase}
-use Rattle.productions.specs.Room.{firstIn, startIn, nextPlaceIn, nullableIn}
+use Rattle.productions.specs.Room.{firstIn, startIn, nextPlaceIn, nullableIn, patternsIn}
 
 -- ------------------------------------------------------------------ values
 
@@ -233,9 +233,17 @@ module _ {sets : List ℕ} {es : List Entry} {room : List ℕ} (holds-entries : 
     flag-test true = refl
     flag-test false = refl
 
+    flag-small : (test : Bool) → flagNumber test < 2
+    flag-small true = omega arith
+    flag-small false = omega arith
+
     -- Whether it is nullable.
     pub nullable-in : nullableIn room place ≡ getD es place noEntry .nullable
     nullable-in =
-        let z : linkNumber (getD es place noEntry) (drop (place + 1) es) place / nullableBase ≡ flagNumber (getD es place noEntry .nullable) =
-        omega (arith, holds-entries .near place, next-small) in
+        let z : linkNumber (getD es place noEntry) (drop (place + 1) es) place / nullableBase % 2 ≡ flagNumber (getD es place noEntry .nullable) =
+        omega (arith, holds-entries .near place, next-small, flag-small (getD es place noEntry .nullable)) in
         rw (link-in, z) (flag-test (getD es place noEntry .nullable))
+
+    -- What reads a variable first in it.
+    pub patterns-in : patternsIn room place ≡ getD es place noEntry .patterns
+    patterns-in = omega (arith, link-in, holds-entries .near place, next-small, flag-small (getD es place noEntry .nullable))

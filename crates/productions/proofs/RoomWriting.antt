@@ -4,6 +4,7 @@ use mathlib.Core.Path.{_≡_, refl, sym, ap, _∙_}
 use mathlib.Core.Bool.{Bool, true, false}
 use mathlib.Core.List.{List, [], _∷_, _++_, append-assoc}
 use native.Mathlib.Decide.{ℕ-discrete, decLt}
+use native.Mathlib.Nat.{add-zero}
 use native.Mathlib.Omega.{arith}
 use lib.ListN.{length, getD, set, drop, length-append, length-set, length-drop, List·getD-append}
 use lib.Seq.{drop-cons, getD-append-add, getD-set-same, getD-set-other, getD-drop, drop-set-lt, drop-length, drop-append-add, drop-drop}
@@ -11,7 +12,7 @@ use borrow.Author.Tests.{eq-eqb, ne-eqb}
 use Rattle.grammar.specs.Limits.{most}
 use Rattle.productions.specs.Room.{Entry, noEntry, placesNumber, flagNumber, linkNumber, placeFrom, isOf, isNullableOf, entryNumbers, roomOf}
 use Rattle.productions.specs.Room.{overwritten, valuesOf, begun, laid, RoomAndSets, RoomAt}
-use Rattle.productions.specs.Room.{setsAt, placesAt, productionsAt, linksAt, roomSize, placeBase, startBase, nullableBase, noPlaces}
+use Rattle.productions.specs.Room.{setsAt, placesAt, productionsAt, linksAt, roomSize, placeBase, startBase, nullableBase, patternsBase, noPlaces}
 use Rattle.productions.proofs.RoomLaws.{length-values, length-room, place-small, entry-first, entry-link, length-entries, first-part}
 use Rattle.productions.proofs.RoomLaws.{second-part, length-parts, parts-are}
 
@@ -119,7 +120,9 @@ module _ (entry : Entry) (index : ℕ) {room : List ℕ} (at : RoomAt index (ent
   one = set room (productionsAt + 2 * index) (entry .first)
 
   abbrev linking : ℕ
-  linking = entry .start + startBase * (getD room (placesAt + entry .nonterminal) 0 % placeBase) + nullableBase * flagNumber (entry .nullable)
+  linking =
+      entry .start + startBase * (getD room (placesAt + entry .nonterminal) 0 % placeBase) + nullableBase * flagNumber (entry .nullable)
+      + patternsBase * entry .patterns
 
   abbrev two : List ℕ
   two = set one (linksAt + 2 * index) linking
@@ -165,6 +168,18 @@ module _ (entry : Entry) (index : ℕ) {room : List ℕ} (at : RoomAt index (ent
       getD-set-same two (placesAt + entry .nonterminal) number 0
       (omega (arith, at .size, at .small, length-set one (linksAt + 2 * index) linking, length-set room (productionsAt + 2 * index) (entry .first)))
 
+-- An entry of a room for a formula has no patterns to add.
+pub laid-plain : (owner start first : ℕ) (nullable : Bool) (index : ℕ) (room : List ℕ)
+    → set
+    (set (set room (productionsAt + 2 * index) first) (linksAt + 2 * index)
+    (start + startBase * (getD room (placesAt + owner) 0 % placeBase) + nullableBase * flagNumber nullable))
+    (placesAt + owner)
+    (index + placeBase * (elim nullable [ true ↦ index | false ↦ getD room (placesAt + owner) 0 / placeBase ]))
+    ≡ laid (record { nonterminal = owner; start = start; first = first; nullable = nullable; patterns = 0 }) index room
+unfolding laid
+laid-plain owner start first nullable index room =
+    rw (add-zero (start + startBase * (getD room (placesAt + owner) 0 % placeBase) + nullableBase * flagNumber nullable)) refl
+
 -- ------------------------------------------------------------------ entries laid from the last to the first
 
 -- The entries behind number `index` are laid. `es` has all of them.
@@ -187,7 +202,7 @@ pub record Filling (kinds : ℕ) (sets : List ℕ) (es : List Entry) (room₀ : 
       ≡ placeFrom (isOf nonterminal) (drop index es) index + placeBase * placeFrom (isNullableOf nonterminal) (drop index es) index
   -- each entry laid has its first set
   pub first : (at-place : ℕ) → index ≤ at-place → at-place < length es → getD room (productionsAt + 2 * at-place) 0 ≡ getD es at-place noEntry .first
-  -- each entry laid has its offset, its next entry and its flag
+  -- each entry laid has its offset, its next entry, its flag and what reads a variable first
   pub link : (at-place : ℕ) → index ≤ at-place → at-place < length es
       → getD room (linksAt + 2 * at-place) 0 ≡ linkNumber (getD es at-place noEntry) (drop (at-place + 1) es) at-place
   -- the numbers behind all entries are as before

@@ -4,7 +4,8 @@
 --   1 + n        the first set of nonterminal n
 --   65 + n       the place of its first production, and 512 times that of its nullable one
 --   129 + 2 j    the first set of production j
---   130 + 2 j    the offset of its first item, 2^16 times the place of the next production of its nonterminal, and 2^25 if it is nullable
+--   130 + 2 j    the offset of its first item, 2^16 times the place of the next production of its nonterminal, 2^25 if it is nullable, and 2^26 times
+--                what reads a `$` variable first in it (document 02, C-14), which only the room for a text has
 --
 -- A place that is not there is 256.
 use Prim.Native.Nat.{ℕ, zero, suc, _+_, _*_, _/_, _%_, _<_, _≤_}
@@ -15,12 +16,13 @@ use lib.Dec.{eqb}
 use lib.ListN.{length, getD, set, drop}
 use Rattle.grammar.specs.Limits.{most}
 
--- a production in the room: its nonterminal, the offset of its first item or result, its first set, and whether it is nullable
+-- a production in the room: its nonterminal, the offset of its first item or result, its first set, whether it is nullable, and what reads a variable first
 pub record Entry : Type 0 where
   pub nonterminal : ℕ
   pub start : ℕ
   pub first : ℕ
   pub nullable : Bool
+  pub patterns : ℕ
 
 -- where the room has the first sets of nonterminals, the places of their productions, and the first set and the link of each production
 abbrev pub setsAt : ℕ
@@ -47,6 +49,9 @@ startBase = 65536
 
 abbrev pub nullableBase : ℕ
 nullableBase = startBase * placeBase
+
+abbrev pub patternsBase : ℕ
+patternsBase = nullableBase * 2
 
 abbrev pub noPlace : ℕ
 noPlace = most .alternatives
@@ -81,7 +86,8 @@ flagNumber false = 0
 
 -- an entry at place j, before the entries es
 abbrev pub linkNumber : Entry → List Entry → ℕ → ℕ
-linkNumber e es j = e .start + startBase * placeFrom (isOf (e .nonterminal)) es (j + 1) + nullableBase * flagNumber (e .nullable)
+linkNumber e es j =
+    e .start + startBase * placeFrom (isOf (e .nonterminal)) es (j + 1) + nullableBase * flagNumber (e .nullable) + patternsBase * e .patterns
 
 unfoldable pub entryNumbers : List Entry → ℕ → List ℕ
 entryNumbers [] j = []
@@ -117,13 +123,13 @@ unfoldable pub laid : Entry → ℕ → List ℕ → List ℕ
 laid e j room =
     set
     (set (set room (productionsAt + 2 * j) (e .first)) (linksAt + 2 * j)
-    (e .start + startBase * (getD room (placesAt + e .nonterminal) 0 % placeBase) + nullableBase * flagNumber (e .nullable)))
+    (e .start + startBase * (getD room (placesAt + e .nonterminal) 0 % placeBase) + nullableBase * flagNumber (e .nullable) + patternsBase * e .patterns))
     (placesAt + e .nonterminal)
     (j + placeBase * (elim (e .nullable) [ true ↦ j | false ↦ getD room (placesAt + e .nonterminal) 0 / placeBase ]))
 
 -- what stands past the last entry
 abbrev pub noEntry : Entry
-noEntry = record { nonterminal = 0; start = 0; first = 0; nullable = false }
+noEntry = record { nonterminal = 0; start = 0; first = 0; nullable = false; patterns = 0 }
 
 -- a room with some entries at its front, as many as there may be, each at an offset that fits
 pub record HoldsEntries (sets : List ℕ) (es : List Entry) (room : List ℕ) : Type 0 where
@@ -157,4 +163,7 @@ abbrev pub nextPlaceIn : List ℕ → ℕ → ℕ
 nextPlaceIn room j = getD room (linksAt + 2 * j) 0 / startBase % placeBase
 
 abbrev pub nullableIn : List ℕ → ℕ → Bool
-nullableIn room j = eqb (getD room (linksAt + 2 * j) 0 / nullableBase) 1
+nullableIn room j = eqb (getD room (linksAt + 2 * j) 0 / nullableBase % 2) 1
+
+abbrev pub patternsIn : List ℕ → ℕ → ℕ
+patternsIn room j = getD room (linksAt + 2 * j) 0 / patternsBase

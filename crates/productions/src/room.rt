@@ -8,7 +8,7 @@ ghost use lib.ListN.{length, getD};
 ghost use mathlib.Core.Bool.{true, false};
 ghost use Rattle.grammar.specs.Limits.{most};
 ghost use Rattle.productions.specs.Room.{roomSize, productionsAt, linksAt, placeBase, nullableBase, flagNumber, begun, laid, RoomAndSets, RoomAt};
-ghost use Rattle.productions.specs.Room.{kindsIn, firstSetIn, firstPlaceIn, nullablePlaceIn, firstIn, startIn, nextPlaceIn, nullableIn};
+ghost use Rattle.productions.specs.Room.{kindsIn, firstSetIn, firstPlaceIn, nullablePlaceIn, firstIn, startIn, nextPlaceIn, nullableIn, patternsIn};
 
 // Where the room has the first sets of nonterminals, the places of their productions, and two numbers for each production: its first set
 // and its link.
@@ -31,10 +31,12 @@ const PLACE_BASE: u64 = 512;
 
 const NO_PLACES: u64 = NO_PLACE as u64 * (PLACE_BASE + 1);
 
-// Offsets are below this; a link is an offset, a place, and whether the production is nullable.
+// Offsets are below this; a link is an offset, a place, whether the production is nullable, and what reads a variable first in it.
 const START_BASE: u64 = 65536;
 
 const NULLABLE: u64 = START_BASE * PLACE_BASE;
+
+const PATTERNS: u64 = NULLABLE * 2;
 
 fn size(x: u64) -> usize
     ensures { λ r. ⌜ r ≡ x ⌝ }
@@ -85,7 +87,7 @@ pub fn first(room: &[u64; ROOM], j: usize) -> u64
     number(room, PRODUCTIONS, j)
 }
 
-// The offset, the next place and the nullability of the production at a place, in one number.
+// The offset, the next place, the nullability and the patterns of the production at a place, in one number.
 fn link(room: &[u64; ROOM], j: usize) -> u64
     ensures { λ r. ⌜ r ≡ getD (now (room .entry)) (linksAt + 2 * j) 0 ⌝ }
 {
@@ -110,7 +112,14 @@ pub fn next_place(room: &[u64; ROOM], j: usize) -> usize
 pub fn is_nullable(room: &[u64; ROOM], j: usize) -> bool
     ensures { λ r. ⌜ r ≡ nullableIn (now (room .entry)) j ⌝ }
 {
-    link(room, j) / NULLABLE == 1
+    link(room, j) / NULLABLE % 2 == 1
+}
+
+// What reads a variable first in it (document 02, C-14): 0 in the room for a formula.
+pub fn patterns(room: &[u64; ROOM], j: usize) -> u64
+    ensures { λ r. ⌜ r ≡ patternsIn (now (room .entry)) j ⌝ }
+{
+    link(room, j) / PATTERNS
 }
 
 // Begins a room: the kinds that are reached, and the first sets of the nonterminals, which have no production yet.
@@ -146,10 +155,10 @@ fn places_from(nullable: bool, place: u64, old: u64) -> u64
     }
 }
 
-// Lays a production at a place, in front of those at later places.
+// Lays a production at a place, in front of those at later places. Nothing reads a variable in a room for a formula.
 pub fn lay(room: &mut [u64], j: usize, owner: u8, start: u16, first: u64, nullable: bool)
     requires { ⌜ RoomAt j owner (now room) ⌝ }
-    ensures { λ r. ⌜ now (room .exit) ≡ laid (record { nonterminal = owner; start = start; first = first; nullable = nullable }) j (now (room .entry)) ⌝ }
+    ensures { λ r. ⌜ now (room .exit) ≡ laid (record { nonterminal = owner; start = start; first = first; nullable = nullable; patterns = 0 }) j (now (room .entry)) ⌝ }
 {
     let own = PLACES + owner as usize;
     let old = room[own];

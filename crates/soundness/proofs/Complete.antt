@@ -32,12 +32,12 @@ use Rattle.expansion.specs.Figure3.{by-local, Derives, by-end, by-terminal, by-
 use Rattle.expansion.specs.Costs.{rowsOf, rowsOfAll, openIn, callsIn, rowsIn, Affords}
 use Rattle.expansion.proofs.Shows.{Grown, grown-not, grown-trans, Shows, shows-unit, shows-var, shows-binder, shows-label, shows-num, ShowAll}
 use Rattle.expansion.proofs.Shows.{show-none, show-more, all-later, all-and, word-named, fresh-named}
-use Rattle.soundness.proofs.Setting.{Setting, Provides, provides-whole, provides-inner, choice-is, take-is, root-body}
+use Rattle.soundness.proofs.Setting.{Setting, Provides, provides-whole, provides-inner, choice-is, picks-at, take-is, root-body}
 use Rattle.expansion.proofs.Endings.{Ends, ends-after, ends-map, Full}
 use Rattle.soundness.proofs.Building.{Built, BuiltAll, build-ends, build-all-ends}
 use Rattle.soundness.proofs.Typing.{FitAll, taken-of, result-sorted}
 use Rattle.expansion.proofs.CallLaws.{inner, Ran, call-full, call-chosen}
-use Rattle.expansion.proofs.Choosing.{nextKind, Picks, picks, picks-none, choice-picks, rule, taken-one}
+use Rattle.expansion.proofs.Choosing.{nextKind, Picks, picks, picks-none, rule, taken-one}
 use Rattle.expansion.specs.Parsing.{input}
 use Rattle.soundness.proofs.Sound.{token-here, Kept, kept-made, kept-less, shown}
 use Rattle.terms.specs.Cells.{columns}
@@ -230,7 +230,7 @@ module _ {g : List Production} (setting : Setting g) where
       call-along : {lent : Input} → Provides setting lent → (depth : ℕ) → Called depth (runCall depth lent nonterminal xs state cells)
       unfolding runCall
       call-along provides zero = too-deep refl (omega arith)
-      call-along {lent} provides (suc depth) = go (ltb (state .calls) mostCalls) refl (choice-picks g nonterminal (taken-of taken .small) (from state))
+      call-along {lent} provides (suc depth) = go (ltb (state .calls) mostCalls) refl (picks-at setting state nonterminal (taken-of taken .small))
         where
           go : (test : Bool) → ltb (state .calls) mostCalls ≡ test → Picks g nonterminal (from state) (choice (ready g) nonterminal (nextKind (from state)))
               → Called (suc depth) (runCall (suc depth) lent nonterminal xs state cells)

@@ -21,7 +21,7 @@ use Rattle.expansion.specs.Parsing.{input, SmallWords, FormulaKinds}
 use Rattle.expansion.specs.ValueSorts.{Matches, matches-none}
 use Rattle.expansion.proofs.AsBefore.{terminal-as-before}
 use Rattle.expansion.proofs.CallLaws.{inner, inner-grammar, inner-tokens, inner-rows}
-use Rattle.expansion.proofs.Choosing.{nextKind, kind-next}
+use Rattle.expansion.proofs.Choosing.{nextKind, kind-next, Picks, choice-picks}
 use Rattle.soundness.proofs.Typing.{FitAll}
 
 -- A grammar that passed, the tokens to parse and the rows that there are.
@@ -81,6 +81,12 @@ module _ {g : List Production} (setting : Setting g) where
       → choice (lent .grammar) nonterminal (nextToken lent state .kind) ≡ choice (ready g) nonterminal (nextKind (drop (state .at) (setting .tokens)))
   choice-is provides state nonterminal =
       rw (provides .grammar-is, provides .tokens-are) (ap (choice (ready g) nonterminal) (kind-next (state .at) (setting .tokens)))
+
+  -- the choice picks the production that the tokens left take
+  pub picks-at : (state : State) (nonterminal : ℕ) → nonterminal < 64
+      → Picks g nonterminal (drop (state .at) (setting .tokens)) (choice (ready g) nonterminal (nextKind (drop (state .at) (setting .tokens))))
+  picks-at state nonterminal small =
+      choice-picks g nonterminal small (drop (state .at) (setting .tokens)) (omega (arith, kind-next (state .at) (setting .tokens), setting .formula (state .at)))
 
   -- a token is taken as the whole run takes it, by the terminal's kind
   pub take-is : {lent : Input} → Provides setting lent → (t : Terminal) (state : State) (cells : List ℕ)

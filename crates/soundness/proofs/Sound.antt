@@ -35,13 +35,13 @@ use Rattle.expansion.specs.Parsing.{input}
 use Rattle.expansion.specs.Costs.{rowsOf, rowsOfAll}
 use Rattle.expansion.proofs.Shows.{Grown, grown-not, grown-trans, Shows, shows-unit, shows-var, shows-binder, shows-label, shows-num, shows-term, ShowAll}
 use Rattle.expansion.proofs.Shows.{show-none, all-later, all-and, word-named, fresh-named}
-use Rattle.soundness.proofs.Setting.{Setting, Provides, provides-whole, provides-inner, choice-is, take-is, no-arguments}
+use Rattle.soundness.proofs.Setting.{Setting, Provides, provides-whole, provides-inner, choice-is, picks-at, take-is, no-arguments}
 use Rattle.expansion.proofs.Endings.{Ends, ends-after, ends-map, Made, Full}
 use Rattle.soundness.proofs.Building.{Built, BuiltAll, build-ends, build-all-ends}
 use Rattle.expansion.specs.ValueSorts.{Typed, typed-unit, typed-var, typed-binder, typed-label, typed-num, typed-term, Matches}
 use Rattle.soundness.proofs.Typing.{matches-and, gives-exists, give-all-exist, items-typed, FitAll, body-of, taken-of}
 use Rattle.expansion.proofs.CallLaws.{inner, Ran, call-full, call-unfit, call-chosen}
-use Rattle.expansion.proofs.Choosing.{nextKind, Picks, picks, picks-none, choice-picks, rule}
+use Rattle.expansion.proofs.Choosing.{nextKind, Picks, picks, picks-none, rule}
 use Rattle.terms.specs.Cells.{columns}
 
 -- ------------------------------------------------------------------ the tokens from a place on
@@ -330,7 +330,7 @@ module _ {g : List Production} (setting : Setting g) where
   -- ------------------------------------------------------------------ calls
 
   call-step : {lent : Input} → Provides setting lent → (depth : ℕ) → Callee (runCall depth lent) → Callee (runCall (suc depth) lent)
-  call-step {lent} provides depth callee k n S vs xs s cells w l m h a = go (ltb (s .calls) mostCalls) refl (choice-picks g n l (from s))
+  call-step {lent} provides depth callee k n S vs xs s cells w l m h a = go (ltb (s .calls) mostCalls) refl (picks-at setting s n l)
     where
       Goal : Result ℕ → Type 0
       Goal r = Ends (Called k n vs s cells) Any r

@@ -20,7 +20,7 @@ use Rattle.productions.specs.Normal.{Production}
 use Rattle.firsts.specs.Rules.{Reads, reads}
 use Rattle.expansion.specs.declared.State.{State}
 use Rattle.expansion.specs.Run.{Result, done, halt, Run, after}
-use Rattle.expansion.specs.Expansion.{Input, ready, choice, nextToken, buildAll, build, runItem, runItems, callBegun, runCall, initialState, ended}
+use Rattle.expansion.specs.Expansion.{Input, readyFor, ready, choice, nextToken, buildAll, build, runItem, runItems, callBegun, runCall, initialState, ended}
 use Rattle.expansion.specs.Expansion.{run}
 use Rattle.expansion.specs.Limits.{mostCalls, mostOpen}
 use Rattle.expansion.specs.Expansion as Expansion
@@ -28,12 +28,12 @@ use Rattle.expansion.specs.Figure3.{Value, Gives, GiveAll, Taken, Derives}
 use Rattle.expansion.specs.Costs.{rowsOf, rowsOfAll, openIn, callsIn, rowsIn, Affords}
 use Rattle.expansion.specs.Parsing.{input}
 use Rattle.expansion.proofs.Shows.{ShowAll, show-none}
-use Rattle.soundness.proofs.Setting.{Setting, Provides, provides-whole, provides-inner, choice-is, item-body, root-body, root-within}
+use Rattle.soundness.proofs.Setting.{Setting, Provides, provides-whole, provides-inner, choice-is, picks-at, item-body, root-body, root-within}
 use Rattle.expansion.proofs.Endings.{Ends, ends-both, Full}
 use Rattle.soundness.proofs.Building.{Built, BuiltAll, build-ends, build-all-ends}
 use Rattle.soundness.proofs.Typing.{FitAll, taken-of, result-sorted}
 use Rattle.expansion.proofs.CallLaws.{inner, Ran, call-full, call-unfit, call-chosen}
-use Rattle.expansion.proofs.Choosing.{nextKind, Picks, picks, picks-none, choice-picks, rule, taken-one}
+use Rattle.expansion.proofs.Choosing.{nextKind, Picks, picks, picks-none, rule, taken-one}
 use Rattle.soundness.proofs.Sound.{Kept, kept-made, kept-less}
 use Rattle.soundness.proofs.Complete.{Beyond, items-along, Reached, root-along}
 use Rattle.soundness.proofs.Complete as Complete
@@ -175,7 +175,7 @@ module _ {g : List Production} (setting : Setting g) where
 
   start-fails : {opened begun made nonterminal i : ℕ} {left : List Token} {vs : List Value} {cause : Refusal} {total : ℕ}
       → Fails g spell rows tokens opened begun made left (begins nonterminal) cause total → Calls opened begun made nonterminal vs left i cause total
-  unfolding runCall ready
+  unfolding runCall readyFor
   start-fails {opened} {begun} {made} {nonterminal} {i} {left} {vs} (too-deep l) = record { calls = go }
     where
       go : {lent : Input} → Provides setting lent → (depth names-left : ℕ) (ys : List ℕ) (state : State) (cells : List ℕ) → depth + opened ≡ mostOpen
@@ -201,7 +201,7 @@ module _ {g : List Production} (setting : Setting g) where
           → Kept rows names-left state cells → ShowAll spell (state .made) cells ys vs
           → HaltsWith made (state .made) cells (refusal 17 (nextIndex tokens left) set (ones set)) (runCall depth lent nonterminal ys state cells)
       go provides zero names-left ys state cells e b p h a = absurd (omega arith)
-      go {lent} provides (suc depth) names-left ys state cells e b p h a = by (choice-picks g nonterminal b (rest state))
+      go {lent} provides (suc depth) names-left ys state cells e b p h a = by (picks-at setting state nonterminal b)
         where
           by : Picks g nonterminal (rest state) (choice (ready g) nonterminal (nextKind (rest state)))
               → HaltsWith made (state .made) cells (refusal 17 (nextIndex tokens left) set (ones set)) (runCall (suc depth) lent nonterminal ys state cells)
@@ -223,7 +223,7 @@ module _ {g : List Production} (setting : Setting g) where
         → At begun made left i state → begun < mostCalls
         → HaltsWith total (state .made) cells cause (Ran depth lent nonterminal ys state cells (rule g p))
         → HaltsWith total (state .made) cells cause (runCall (suc depth) lent nonterminal ys state cells)
-    enter {lent} provides cause {total} depth ys state cells q l h = by (choice-picks g nonterminal (taken-of taken .small) (rest state))
+    enter {lent} provides cause {total} depth ys state cells q l h = by (picks-at setting state nonterminal (taken-of taken .small))
       where
         by : Picks g nonterminal (rest state) (choice (ready g) nonterminal (nextKind (rest state)))
             → HaltsWith total (state .made) cells cause (runCall (suc depth) lent nonterminal ys state cells)

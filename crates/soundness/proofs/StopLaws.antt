@@ -29,12 +29,12 @@ use Rattle.expansion.specs.Expansion.{runItem, runItems, callBegun, runCall}
 use Rattle.expansion.specs.Limits.{mostCalls}
 use Rattle.expansion.specs.Figure3.{Next, next}
 use Rattle.expansion.specs.Parsing.{input}
-use Rattle.soundness.proofs.Setting.{Setting, Provides, provides-inner, choice-is, take-is}
+use Rattle.soundness.proofs.Setting.{Setting, Provides, provides-inner, choice-is, picks-at, take-is}
 use Rattle.expansion.proofs.Endings.{Ends}
 use Rattle.soundness.proofs.Typing.{FitAll, sorted-kind, taken-of}
 use Rattle.expansion.proofs.CellLaws.{cell-by}
 use Rattle.expansion.proofs.CallLaws.{inner, call-full, call-unfit, call-chosen}
-use Rattle.expansion.proofs.Choosing.{nextKind, kind-next, Picks, picks, picks-none, choice-picks, rule}
+use Rattle.expansion.proofs.Choosing.{nextKind, kind-next, Picks, picks, picks-none, rule}
 use Rattle.soundness.proofs.Sound.{token-before}
 use Rattle.soundness.specs.Stopping.{nextIndex, FirstSet}
 
@@ -199,7 +199,7 @@ module _ {g : List Production} (setting : Setting g) where
   unfolding runCall
   call-bounded provides zero nonterminal vs state cells l h = tt
   call-bounded {lent} provides (suc depth) nonterminal vs state cells l h =
-      go (call-bounded provides depth) (ltb (state .calls) mostCalls) refl (choice-picks g nonterminal l (rest state))
+      go (call-bounded provides depth) (ltb (state .calls) mostCalls) refl (picks-at setting state nonterminal l)
     where
       go : ((callee : ℕ) (ws : List ℕ) (state′ : State) (cells′ : List ℕ) → callee < 64 → state′ .at ≤ length tokens
           → Bounded (runCall depth lent callee ws state′ cells′)) → (test : Bool)

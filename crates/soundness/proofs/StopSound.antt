@@ -22,7 +22,7 @@ use Rattle.firsts.specs.Rules.{Reads, reads}
 use Rattle.firsts.proofs.FirstsTheorems.{opens-exactly}
 use Rattle.expansion.specs.declared.State.{State}
 use Rattle.expansion.specs.Run.{Result, done, halt, after}
-use Rattle.expansion.specs.Expansion.{Input, ready, choice, nextToken, tokenTaken, takeTerminal, misfit, buildAll, build, runItem, runItems, callBegun}
+use Rattle.expansion.specs.Expansion.{Input, readyFor, ready, choice, nextToken, tokenTaken, takeTerminal, misfit, buildAll, build, runItem, runItems, callBegun}
 use Rattle.expansion.specs.TextTokens.{readValue}
 use Rattle.expansion.specs.Expansion.{runCall, initialState, ended, run}
 use Rattle.expansion.specs.Limits.{mostCalls, mostOpen}
@@ -31,12 +31,12 @@ use Rattle.expansion.specs.ValueSorts.{Matches}
 use Rattle.expansion.specs.Costs.{rowsOf, rowsOfAll, openIn, callsIn, rowsIn, Affords}
 use Rattle.expansion.specs.Parsing.{input}
 use Rattle.expansion.proofs.Shows.{ShowAll, show-none, all-later, all-and}
-use Rattle.soundness.proofs.Setting.{Setting, Provides, provides-whole, provides-inner, choice-is, take-is, no-arguments, item-body}
+use Rattle.soundness.proofs.Setting.{Setting, Provides, provides-whole, provides-inner, choice-is, picks-at, take-is, no-arguments, item-body}
 use Rattle.expansion.proofs.Endings.{Ends, after-by, ends-both, ends-after, ends-map, Made, Full}
 use Rattle.soundness.proofs.Building.{Built, BuiltAll, build-ends, build-all-ends}
 use Rattle.soundness.proofs.Typing.{matches-and, give-all-exist, gives-exists, FitAll, sorted-kind, body-of, taken-of}
 use Rattle.expansion.proofs.CallLaws.{inner, Ran, call-full, call-unfit, call-chosen}
-use Rattle.expansion.proofs.Choosing.{nextKind, Picks, picks, picks-none, choice-picks, rule}
+use Rattle.expansion.proofs.Choosing.{nextKind, Picks, picks, picks-none, rule}
 use Rattle.soundness.proofs.Sound.{token-here, Kept, kept-made, kept-less, Stepped, Derived, item-sound}
 use Rattle.soundness.proofs.Sound.{items-sound, call-sound, Root, root-called, root-derived}
 use Rattle.soundness.proofs.Complete.{items-along, items-after, root-along}
@@ -267,8 +267,8 @@ module _ {g : List Production} (setting : Setting g) where
         (x .0, in-items deeper c t (x .1)))
 
     call-step : Goal (runCall (suc depth) lent nonterminal xs state cells)
-    unfolding ready
-    call-step = go (ltb (state .calls) mostCalls) refl (choice-picks g nonterminal below (rest state))
+    unfolding readyFor
+    call-step = go (ltb (state .calls) mostCalls) refl (picks-at setting state nonterminal below)
       where
         go : (test : Bool) → ltb (state .calls) mostCalls ≡ test → Picks g nonterminal (rest state) (choice (ready g) nonterminal (nextKind (rest state)))
             → Goal (runCall (suc depth) lent nonterminal xs state cells)

@@ -6,19 +6,21 @@ use mathlib.Core.Bool.{Bool, true, false, _&&_}
 use mathlib.Core.List.{List, map}
 use lib.Dec.{eqb, leb}
 use lib.ListN.{length, getD, drop}
-use Rattle.grammar.specs.Table.{Alternative}
+use Rattle.grammar.specs.Table.{Alternative, Item}
 use Rattle.grammar.specs.Fields.{RawFields, end, cut, next}
 use Rattle.grammar.specs.Lookup.{fieldsAt}
 use Rattle.decoding.specs.Prefix.{templatesOf, isTemplates, isTemplate}
 use Rattle.productions.specs.Normal.{Production}
 use Rattle.productions.specs.Index.{Place, placesOf, itemsOf, resultOf}
 
--- the bytes of a table
+-- the bytes of a table, and what reads a `$` variable first in items (document 02, C-14)
 pub record Source : Type 0 where
   pub bytes : List ℕ
+  pub patterns : List Item → ℕ
 
+-- for a formula, which has no variables
 abbrev pub source : List ℕ → Source
-source bs = record { bytes = bs }
+source bs = record { bytes = bs; patterns = λ is. 0 }
 
 -- what is left of a production at an offset: its items from there on, and its result
 unfoldable pub alternativeAt : Source → ℕ → Alternative

@@ -17,11 +17,11 @@ use Rattle.productions.specs.Room.{startIn}
 use Rattle.firsts.specs.Room.{productionsIn}
 use Rattle.expansion.specs.declared.State.{State}
 use Rattle.expansion.specs.Run.{Result, halt, after}
-use Rattle.expansion.specs.Expansion.{Input, nextToken, misfit, build, runItems, Choice, unfit, ready, chosen, choice, callBegun, runCall}
+use Rattle.expansion.specs.Expansion.{Input, nextToken, misfit, build, runItems, Choice, unfit, readyFor, chosen, choice, callBegun, runCall}
 use Rattle.tokens.specs.Tokens.{endToken}
 use Rattle.expansion.specs.Limits.{mostCalls}
-use Rattle.choices.specs.Held.{Held}
-use Rattle.choices.specs.Chosen.{firstSetsOf, entriesOf, chosenPlace, chosenStart, Remembers, Chooses}
+use Rattle.choices.specs.Held.{HeldFor}
+use Rattle.choices.specs.Chosen.{firstSetsOf, entriesFor, chosenPlace, chosenStartFor, RemembersFor, ChoosesFor}
 use Rattle.choices.proofs.ChoiceLaws.{chosen-nowhere, chosen-here, chosen-each, start-is, start-chosen}
 use Rattle.steps.specs.Source.{Source, alternativeAt, GoesOn}
 use Rattle.steps.specs.Steps.{body, tokensLent, weight}
@@ -90,7 +90,7 @@ starts-refused : {lent : Input} {S : Source} {depth nonterminal given : ℕ} {st
     → ((vs cells : List ℕ) → halt other cells ≡ runCall depth lent nonterminal vs state cells)
     → other ≡ callRefusal lent depth nonterminal state
     → {memory : List ℕ}
-    → Remembers (S .bytes) memory
+    → RemembersFor (S .patterns) (S .bytes) memory
     → Starts lent S depth nonterminal given state (Refused cause) memory
 starts-refused e h due m =
     record { begins = λ vs cells. rw e (h vs cells); refuses = e ∙ due; enters = tt; entered-chosen = tt; remembers = m }
@@ -99,21 +99,21 @@ module _ {S : Source} {room : List ℕ} (ready-room : Ready S room) (tokens : Li
   abbrev input : Input
   input = lentInput S tokens rows
 
-  abbrev held : Held (S .bytes) room
+  abbrev held : HeldFor (S .patterns) (S .bytes) room
   held = ready-room .held
 
   abbrev Ends : Begun → List ℕ → Type 0
   Ends b memory = Starts input S depth nonterminal given state b memory
 
   -- Refusal 19: no more calls may be open.
-  pub starts-closed : {memory : List ℕ} → Remembers (S .bytes) memory → depth ≡ 0 → {cause : Refusal} → cause ≡ refusal 19 (state .at) 0 0
+  pub starts-closed : {memory : List ℕ} → RemembersFor (S .patterns) (S .bytes) memory → depth ≡ 0 → {cause : Refusal} → cause ≡ refusal 19 (state .at) 0 0
       → Ends (Refused cause) memory
   starts-closed m e er =
       starts-refused er (λ vs cells. call-closed input nonterminal vs state cells depth e) (due-closed input nonterminal state depth e) m
 
   module _ (may-open : depth ≡ 0 → ⊥) where
     -- Refusal 20: no more calls may be begun.
-    pub starts-spent : {memory : List ℕ} → Remembers (S .bytes) memory → mostCalls ≤ state .calls → {cause : Refusal} → cause ≡ refusal 20 (state .at) 0 0
+    pub starts-spent : {memory : List ℕ} → RemembersFor (S .patterns) (S .bytes) memory → mostCalls ≤ state .calls → {cause : Refusal} → cause ≡ refusal 20 (state .at) 0 0
         → Ends (Refused cause) memory
     starts-spent m l er =
         starts-refused er (λ vs cells. call-by input nonterminal vs state cells depth may-open false (le-ltb (state .calls) mostCalls l))
@@ -121,21 +121,21 @@ module _ {S : Source} {room : List ℕ} (ready-room : Ready S room) (tokens : Li
 
     -- by the place that is chosen
     module _ (may-call : state .calls < mostCalls) {kind : ℕ} (ekind : kind ≡ getD (tokensLent tokens) (state .at) endToken .kind) {place : ℕ}
-        {memory : List ℕ} (ch : Chooses (S .bytes) nonterminal kind place memory) where
+        {memory : List ℕ} (ch : ChoosesFor (S .patterns) (S .bytes) nonterminal kind place memory) where
       abbrev productions : List Production
       productions = productionsIn (S .bytes)
 
       firsts-are : input .grammar .firsts ≡ firstSetsOf (S .bytes)
-      unfolding ready firstSetsOf
+      unfolding readyFor firstSetsOf
       firsts-are = rw (productions-from S)
 
-      by-choice : {given-choice : Choice} → choice (ready productions) nonterminal kind ≡ given-choice → (vs cells : List ℕ)
+      by-choice : {given-choice : Choice} → choice (readyFor (S .patterns) productions) nonterminal kind ≡ given-choice → (vs cells : List ℕ)
           → entered (depth - 1) input nonterminal vs state cells given-choice ≡ runCall depth input nonterminal vs state cells
       by-choice e vs cells =
           ap (entered (depth - 1) input nonterminal vs state cells)
           (sym
-          (ap (λ (g : List Production). choice (ready g) nonterminal (nextToken input state .kind)) (productions-from S)
-          ∙ ap (choice (ready productions) nonterminal) (sym ekind)
+          (ap (λ (g : List Production). choice (readyFor (S .patterns) g) nonterminal (nextToken input state .kind)) (productions-from S)
+          ∙ ap (choice (readyFor (S .patterns) productions) nonterminal) (sym ekind)
           ∙ e))
           ∙ call-by input nonterminal vs state cells depth may-open true (lt-ltb (state .calls) mostCalls may-call)
 
@@ -168,10 +168,10 @@ module _ {S : Source} {room : List ℕ} (ready-room : Ready S room) (tokens : Li
                   begun = et;
                 };
             entered-chosen =
-                let at-start : start ≡ chosenStart (S .bytes) nonterminal (nextToken input state .kind)
-                = es ∙ start-chosen held nonterminal kind (ch .place-is) l ∙ ap (chosenStart (S .bytes) nonterminal) ekind in
-                let at-place : place ≡ chosenPlace (entriesOf (S .bytes)) nonterminal (nextToken input state .kind)
-                = ch .place-is ∙ ap (chosenPlace (entriesOf (S .bytes)) nonterminal) ekind in
+                let at-start : start ≡ chosenStartFor (S .patterns) (S .bytes) nonterminal (nextToken input state .kind)
+                = es ∙ start-chosen held nonterminal kind (ch .place-is) l ∙ ap (chosenStartFor (S .patterns) (S .bytes) nonterminal) ekind in
+                let at-place : place ≡ chosenPlace (entriesFor (S .patterns) (S .bytes)) nonterminal (nextToken input state .kind)
+                = ch .place-is ∙ ap (chosenPlace (entriesFor (S .patterns) (S .bytes)) nonterminal) ekind in
                 cc (at-start, at-place);
             remembers = ch .memory-is;
           }

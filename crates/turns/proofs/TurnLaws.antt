@@ -14,7 +14,7 @@ use Rattle.expansion.specs.Outcomes.{ran}
 use Rattle.expansion.specs.Expansion.{Input, build, runItems, runCall}
 use Rattle.templates.specs.Built.{Holds}
 use Rattle.templates.proofs.VariableLaws.{holds-more}
-use Rattle.choices.specs.Chosen.{Remembers}
+use Rattle.choices.specs.Chosen.{RemembersFor}
 use Rattle.steps.specs.declared.ItemStep.{ItemStep}
 use Rattle.steps.specs.declared.ItemStep.the-variants.{Finished, Stopped, Taken, Opened}
 use Rattle.steps.specs.Source.{Source, alternativeAt, GoesOn}
@@ -460,12 +460,12 @@ pub record Turning (input : Input) (S : Source) (place other : Place) (memory : 
   -- the room of frames keeps its length
   pub frames-long : length (other .frames) ≡ length (place .frames)
   -- the choices remembered are the table's
-  pub remembers : Remembers (S .bytes) memory
+  pub remembers : RemembersFor (S .patterns) (S .bytes) memory
   -- what gave `result` at the first place gives it here
   pub stands : (result : Result ℕ) → Stood input S result place → Stood input S result other
 
 -- The loop begins.
-pub turning-start : {input : Input} {S : Source} (place : Place) {memory : List ℕ} → Remembers (S .bytes) memory → Turning input S place place memory
+pub turning-start : {input : Input} {S : Source} (place : Place) {memory : List ℕ} → RemembersFor (S .patterns) (S .bytes) memory → Turning input S place place memory
 turning-start place m = record { cells-long = refl; stack-long = refl; frames-long = refl; remembers = m; stands = λ R s. s }
 
 -- What the room of frames says gives what the first place says.
@@ -482,7 +482,7 @@ pub turning-next : {input : Input} {S : Source} {place other : Place} {memory : 
     → (next : Place) {memory′ : List ℕ} → length (next .cells) ≡ length (other .cells)
     → length (next .stack) ≡ length (other .stack)
     → length (next .frames) ≡ length (other .frames)
-    → Remembers (S .bytes) memory′
+    → RemembersFor (S .patterns) (S .bytes) memory′
     → ((result : Result ℕ) → Stood input S result place → Stood input S result next)
     → Turning input S place next memory′
 turning-next w next ec es ef m stands =

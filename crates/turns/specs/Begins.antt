@@ -13,7 +13,7 @@ use Rattle.expansion.specs.Run.{halt}
 use Rattle.expansion.specs.Expansion.{Input, nextToken, callBegun, runCall}
 use Rattle.expansion.specs.Limits.{mostCalls}
 use Rattle.productions.specs.Room.{noPlace}
-use Rattle.choices.specs.Chosen.{entriesOf, chosenPlace, chosenStart, Remembers}
+use Rattle.choices.specs.Chosen.{entriesFor, chosenPlace, chosenStartFor, RemembersFor}
 use Rattle.steps.specs.Source.{Source, GoesOn}
 use Rattle.steps.specs.Steps.{body}
 use Rattle.steps.specs.declared.Activation.{Activation}
@@ -64,10 +64,10 @@ CallEntered S depth s (Entered call t) = CallBegunAt S depth s call t
 abbrev pub chosenCall : Input → Source → ℕ → ℕ → State → Activation
 chosenCall I S n given s =
     record {
-      production = chosenPlace (entriesOf (S .bytes)) n (nextToken I s .kind);
+      production = chosenPlace (entriesFor (S .patterns) (S .bytes)) n (nextToken I s .kind);
       began = s .at;
       count = given;
-      next = chosenStart (S .bytes) n (nextToken I s .kind);
+      next = chosenStartFor (S .patterns) (S .bytes) n (nextToken I s .kind);
     }
 
 abbrev pub EntersChosen : Input → Source → ℕ → ℕ → State → Begun → Type 0
@@ -80,10 +80,10 @@ pub record Starts (I : Input) (S : Source) (depth n given : ℕ) (s : State) (b 
   pub refuses : RefusesDuly I depth n s b
   pub enters : CallEntered S depth s b
   pub entered-chosen : EntersChosen I S n given s b
-  pub remembers : Remembers (S .bytes) memory
+  pub remembers : RemembersFor (S .patterns) (S .bytes) memory
 
 -- it is so for every source whose grammar the room holds, and any number of rows
 pub record StartsFor (room memory tokens : List ℕ) (depth n given : ℕ) (s : State) (b : Begun) (memory′ : List ℕ) : Type 0 where
   pub starts :
-      (S : Source) (rows : ℕ) → Ready S room → Remembers (S .bytes) memory
+      (S : Source) (rows : ℕ) → Ready S room → RemembersFor (S .patterns) (S .bytes) memory
       → Starts (lentInput S tokens rows) S depth n given s b memory′

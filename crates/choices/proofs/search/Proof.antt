@@ -8,19 +8,20 @@ use Rattle.choices.proofs.search.Tie as tie
 
 returns : tie.Need-returns
 returns c =
-    λ bs h.
+    λ P bs h.
     let tested-place = c .before .before in
-    let small = tested-place .before .before .pre .1 in
+    let pre = tested-place .before .before .pre in
     let tested = sym (rw (tested-place .before .first-set .ensures) at (tested-place .has-kind .ensures)) in
-    laws.place-opened h small _ (c .opened .ensures bs h) (rw (c .opened .ensures bs h) (laws.opens-some h small _ tested (c .before .if1 .taken)))
+    let opened-is = c .opened .ensures P bs h in
+    laws.place-opened h (pre .1) (pre .2) opened-is (rw opened-is (laws.opens-some h (pre .1) _ tested (c .before .if1 .taken)))
 
 returns-2 : tie.Need-returns-2
 returns-2 c =
-    λ bs h.
+    λ P bs h.
     let tested-place = c .before .before in
-    let small = tested-place .before .before .pre .1 in
+    let pre = tested-place .before .before .pre in
     let tested = sym (rw (tested-place .before .first-set .ensures) at (tested-place .has-kind .ensures)) in
-    laws.place-nullable h small _ (laws.opens-none h small _ tested (c .before .if1 .left)) (omega arith) (c .nullable-place .ensures)
+    laws.place-nullable h (pre .1) (pre .2) (laws.opens-none h (pre .1) _ tested (c .before .if1 .left)) (omega arith) (c .nullable-place .ensures)
 
 -- the function meets its contract
 pub search-spec : {M : Type 1} → statement M

@@ -27,7 +27,7 @@ module _ (point : tie.After-begin-root) where
   input = reading table (entry .args .tokens .now) (entry .args .cells .now)
 
   starts : Starts input table mostOpen (entry .args .root) 0 initialState (point .begin-root .result) (point .begin-root .last .0)
-  starts = point .begin-root .ensures .starts table _ (entry .pre .ready) (remembers-none (table .bytes))
+  starts = point .begin-root .ensures .starts table _ (entry .pre .ready) (remembers-none (table .patterns) (table .bytes))
 
   runs : {result : Result ℕ} → result ≡ runCall mostOpen input (entry .args .root) [] initialState (entry .args .cells .now)
       → after result (ended input) ≡ run input (entry .args .root) (entry .args .cells .now)
@@ -36,7 +36,7 @@ module _ (point : tie.After-begin-root) where
 begin-root-requires : tie.Need-begin-root-requires
 begin-root-requires c κs =
     let given = c .before .before .before .before .before .pre in
-    record { may-choose = record { bs = _; held = given .ready .held; remembers = remembers-none _ }; tokens-fit = given .tokens-fit }
+    record { may-choose = record { patterns = _; bs = _; held = given .ready .held; remembers = remembers-none _ _ }; tokens-fit = given .tokens-fit }
 
 root-items-requires : tie.Need-root-items-requires
 root-items-requires c κs =

@@ -1,8 +1,7 @@
 -- `lay`: three numbers are written.
-use mathlib.Core.Path.{refl}
 use native.Mathlib.Omega.{arith}
 use lib.ListN.{length-set}
-use Rattle.productions.specs.Room.{laid}
+use Rattle.productions.proofs.RoomWriting.{laid-plain}
 use borrow.Author.Needs.{needs}
 use Rattle.productions.proofs.room.lay.Statement.{statement}
 use Rattle.productions.proofs.room.lay.Tie as tie
@@ -14,8 +13,7 @@ slice-write-room-3 : tie.Need-slice-write-room-3
 slice-write-room-3 c = simp length-set (omega arith)
 
 returns : tie.Need-returns
-unfolding laid
-returns c = rw (c .before .flag .ensures, c .places-from .ensures) refl
+returns c = rw (c .before .flag .ensures, c .places-from .ensures) (laid-plain _ _ _ _ _ _)
 
 -- the function meets its contract
 pub lay-spec : {M : Type 1} → statement M

@@ -28,7 +28,7 @@ returns-3 c =
       starts =
           λ S rows h m.
           laws.starts-at h (entry .args .tokens .now) rows _ _ _ _ (tested .before .if1 .left) (tested .if2 .left) (kind-place .kind-at .ensures)
-          (choose-place .choose .ensures (S .bytes) (h .held) m) (c .before .before .if3 .taken) (c .before .start .ensures) (c .with-call .ensures);
+          (choose-place .choose .ensures (S .patterns) (S .bytes) (h .held) m) (c .before .before .if3 .taken) (c .before .start .ensures) (c .with-call .ensures);
     }
 
 returns-4 : tie.Need-returns-4
@@ -41,7 +41,7 @@ returns-4 c =
       starts =
           λ S rows h m.
           laws.starts-nowhere h (entry .args .tokens .now) rows _ _ _ _ (tested .before .if1 .left) (tested .if2 .left) (kind-place .kind-at .ensures)
-          (choose-place .choose .ensures (S .bytes) (h .held) m) (c .before .before .if3 .left) (c .before .kinds-of .ensures ∙ kinds-are (h .held) _)
+          (choose-place .choose .ensures (S .patterns) (S .bytes) (h .held) m) (c .before .before .if3 .left) (c .before .kinds-of .ensures ∙ kinds-are (h .held) _)
           (c .misfit .ensures);
     }
 

@@ -16,7 +16,7 @@ returns c =
       starts =
           λ S rows h m.
           laws.starts-at h (entry .args .tokens .now) rows _ _ _ _ (λ e. omega arith) (omega arith) (kind-place .kind-at .ensures)
-          (choose-place .choose .ensures (S .bytes) (h .held) m) (c .before .before .if1 .taken) (c .before .start .ensures) (c .with-call .ensures);
+          (choose-place .choose .ensures (S .patterns) (S .bytes) (h .held) m) (c .before .before .if1 .taken) (c .before .start .ensures) (c .with-call .ensures);
     }
 
 returns-2 : tie.Need-returns-2
@@ -28,7 +28,7 @@ returns-2 c =
       starts =
           λ S rows h m.
           laws.starts-nowhere h (entry .args .tokens .now) rows _ _ _ _ (λ e. omega arith) (omega arith) (kind-place .kind-at .ensures)
-          (choose-place .choose .ensures (S .bytes) (h .held) m) (c .before .before .if1 .left) (c .before .kinds-of .ensures ∙ kinds-are (h .held) _)
+          (choose-place .choose .ensures (S .patterns) (S .bytes) (h .held) m) (c .before .before .if1 .left) (c .before .kinds-of .ensures ∙ kinds-are (h .held) _)
           (c .misfit .ensures);
     }
 
