@@ -1,6 +1,7 @@
 pub mod Examples
 pub mod LexemeLaws
 pub mod WordLaws
+pub mod VariableLaws
 pub mod FoundLaws
 pub mod StepLaws
 pub mod LexLaws
@@ -10,5 +11,6 @@ pub mod TokenLaws
 pub mod TilingLaws
 pub mod SpellingLaws
 pub mod WordsOfScan
+pub mod FormulaKinds
 pub mod FollowLaws
 pub mod ScannerTheorems
