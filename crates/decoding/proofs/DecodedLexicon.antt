@@ -151,7 +151,7 @@ leading-decoded bs table h =
 
 -- The lexicon of bytes that are decoded as a table is the table's.
 pub lexicon-decoded : (bs : List ℕ) (table : Table) → decode bs ≡ ok table
-    → lexiconOf bs ≡ record { keywords = table .keywords; outsides = table .outsides }
+    → lexiconOf bs ≡ record { keywords = table .keywords; outsides = table .outsides; variables = [] }
 unfolding lexiconOf
 lexicon-decoded bs table h =
     let right = decoded-layout bs table h in

@@ -55,4 +55,5 @@ lexiconOf bs =
     record {
       keywords = take (most .keywords) (leading 1 (fieldsOf bs));
       outsides = take (most .outsides) (leading 2 (afterLeading 1 (fieldsOf bs)));
+      variables = [];
     }

@@ -1,4 +1,4 @@
--- The phrase table as data: a sequence of grammars over keywords and outside names, with a root.
+-- The phrase table as data: a sequence of grammars, its blocks, over keywords and outside names, with a root.
 -- Document 01, "Phrase table"; 001, section 4.1: productions p, definitions with their operators a, grammars g, sequences gseq.
 use Prim.Native.Nat.{ℕ}
 use mathlib.Core.List.{List}
@@ -59,7 +59,6 @@ pub record DefinitionOf (R : Type 0) : Type 0 where
 abbrev pub Definition : Type 0
 Definition = DefinitionOf Template
 
--- a block is one grammar of the sequence
 pub record TableOf (R : Type 0) : Type 0 where
   pub keywords : List (List ℕ)
   pub outsides : List (List ℕ)
@@ -69,7 +68,8 @@ pub record TableOf (R : Type 0) : Type 0 where
 abbrev pub Table : Type 0
 Table = TableOf Template
 
--- what a table gives the scanner: its keywords and its outside names, each in table order
+-- what a scan goes by: a table's keywords and its outside names, each in table order, and the sorts of `$` variables (document 02, C-14), none for a formula
 pub record Lexicon : Type 0 where
   pub keywords : List (List ℕ)
   pub outsides : List (List ℕ)
+  pub variables : List ℕ

@@ -74,8 +74,8 @@ module _ {bs : List ℕ} (bytes : Bytes bs) (passes : Passes bs) {formula tokens
   abbrev spell : ℕ → List ℕ
   spell = spelled lex (lexed .words)
 
-  holds : Holds lex few formula tokens′ words′ (value .many) count
-  holds = scan-holds lex few formula room (value .fills)
+  holds : Holds lex formula tokens′ words′ (value .many) count
+  holds = scan-holds lex few (omega arith) formula room (value .fills)
 
   -- the words are few, and lie in their room
   few-words : count ≤ mostTokens

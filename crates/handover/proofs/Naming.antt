@@ -119,7 +119,9 @@ module _ (bs : List ℕ) (bytes : Bytes bs) (passes : Passes bs) where
     pub spelled-by : spelledBy bs formula words count ≡ spelled (syntaxOf (passes .table) .lexicon) (scan (syntaxOf (passes .table) .lexicon) formula .words)
     spelled-by =
         spelled-lists bs formula words (scan (syntaxOf (passes .table) .lexicon) formula .words) words-list
-        ∙ ap (λ (names : List (List ℕ)). spelled (record { keywords = []; outsides = names }) (scan (syntaxOf (passes .table) .lexicon) formula .words))
+        ∙ ap
+        (λ (names : List (List ℕ)).
+        spelled (record { keywords = []; outsides = names; variables = [] }) (scan (syntaxOf (passes .table) .lexicon) formula .words))
         (outsides-passed bytes passes)
 
     -- So has a word of the formula.

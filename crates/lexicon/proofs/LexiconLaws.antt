@@ -352,14 +352,14 @@ module _ (kinds : ℕ) {table room₀ links₀ : List ℕ} (given-blank : Blank 
   module _ {room₁ links₁ : List ℕ} {number : ℕ}
       (spellings-entered₁ : SpellingsEntered table room₀ room₁ links₁ number
       (wordsIn table room₀ 0 ++ keptIf false kinds 0 (take (most .keywords) (leading 1 (fieldsAt table 0))))) where
-    keywords-listed : wordsIn table room₁ number ≡ lexiconBy kinds table .keywords
+    keywords-listed : wordsIn table room₁ number ≡ lexiconBy kinds [] table .keywords
     unfolding wordsFrom
     keywords-listed = spellings-entered₁ .listed ∙ ap (spellingsKept kinds 0) (sym (keywords-at table))
 
-    keywords-few : length (lexiconBy kinds table .keywords) ≤ most .keywords
+    keywords-few : length (lexiconBy kinds [] table .keywords) ≤ most .keywords
     keywords-few = omega (arith, kept-many kinds 0 (lexiconOf table .keywords), few-keywords table)
 
-    keywords-counted : number ≡ length (lexiconBy kinds table .keywords)
+    keywords-counted : number ≡ length (lexiconBy kinds [] table .keywords)
     keywords-counted = sym (words-length number table room₁ 0) ∙ ap length keywords-listed
 
     -- the keywords entered are no more than there may be
@@ -411,21 +411,21 @@ module _ (kinds : ℕ) {table room₀ links₀ : List ℕ} (given-blank : Blank 
           spelling-count = getD-set-same (set room₃ keywordCountAt number) spellingCountAt total 0
               (omega (arith, long₃, length-set room₃ keywordCountAt number))
 
-          listed₃ : wordsIn table room₃ total ≡ lexiconBy kinds table .keywords ++ lexiconBy kinds table .outsides
+          listed₃ : wordsIn table room₃ total ≡ lexiconBy kinds [] table .keywords ++ lexiconBy kinds [] table .outsides
           listed₃ =
               cc (spellings-entered₂ .listed, same-keywords, keywords-listed, outsides-at table names equal)
 
           listed₄ : wordsIn table room₄ total ≡ wordsIn table room₃ total
           listed₄ = words-alike total table room₃ room₄ 0 (λ j l. before₄ j (omega (arith, spellings-entered₂ .few)))
 
-          symbols₄ : (byte : ℕ) → byte < symbolEnd → getD room₄ (symbolsAt + byte) 0 ≡ kindFrom 0 (lexiconBy kinds table .keywords) (byte ∷ [])
+          symbols₄ : (byte : ℕ) → byte < symbolEnd → getD room₄ (symbolsAt + byte) 0 ≡ kindFrom 0 (lexiconBy kinds [] table .keywords) (byte ∷ [])
           symbols₄ byte l =
               cc (before₄ (symbolsAt + byte) (omega arith), spellings-entered₂ .behind (symbolsAt + byte) (omega arith), marked .0 byte l, keywords-listed)
 
-          lexical₄ : Lexical (lexiconBy kinds table) table room₄ links₃
+          lexical₄ : Lexical (lexiconBy kinds [] table) table room₄ links₃
           unfolding room₄
           lexical₄ =
-              let lex : Lexicon = lexiconBy kinds table in
+              let lex : Lexicon = lexiconBy kinds [] table in
               record {
                 long = length-set (set room₃ keywordCountAt number) spellingCountAt total ∙ length-set room₃ keywordCountAt number ∙ long₃;
                 wide = spellings-entered₂ .spelled .wide;
@@ -440,6 +440,6 @@ module _ (kinds : ℕ) {table room₀ links₀ : List ℕ} (given-blank : Blank 
               }
 
           -- with both counts stored, the rooms hold the table's lexicon
-          pub lexical : Lexical (lexiconBy kinds table) table (set (set room₃ keywordCountAt number) spellingCountAt total) links₃
+          pub lexical : Lexical (lexiconBy kinds [] table) table (set (set room₃ keywordCountAt number) spellingCountAt total) links₃
           unfolding room₄
           lexical = lexical₄

@@ -3,3 +3,4 @@ pub mod PlaceLaws
 pub mod PathLaws
 pub mod TreeLaws
 pub mod LexiconLaws
+pub mod SortLaws

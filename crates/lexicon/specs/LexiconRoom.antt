@@ -6,6 +6,7 @@ use mathlib.Core.List.{List, [], _∷_, _++_}
 use lib.ListN.{length, getD, take, drop}
 use Rattle.grammar.specs.declared.Found.the-variants.{At, Absent}
 use Rattle.grammar.specs.Limits.{most}
+use Rattle.grammar.specs.Variables.{mostVariables}
 use Rattle.grammar.specs.Table.{Lexicon}
 use Rattle.grammar.specs.Lookup.{lexiconOf}
 use Rattle.grammar.specs.Found.{foundIn}
@@ -22,7 +23,8 @@ mostSpellings = most .keywords + most .outsides
 abbrev pub symbolEnd : ℕ
 symbolEnd = 128
 
--- where a room has the kinds of symbols, behind two numbers for each spelling; the number of keywords; the number of spellings
+-- where a room has the kinds of symbols, behind two numbers for each spelling; the number of keywords; the number of spellings; the number of variables, and
+-- their sorts
 abbrev pub symbolsAt : ℕ
 symbolsAt = mostSpellings * 2
 
@@ -32,8 +34,14 @@ keywordCountAt = symbolsAt + symbolEnd
 abbrev pub spellingCountAt : ℕ
 spellingCountAt = keywordCountAt + 1
 
+abbrev pub variableCountAt : ℕ
+variableCountAt = spellingCountAt + 1
+
+abbrev pub variablesAt : ℕ
+variablesAt = variableCountAt + 1
+
 abbrev pub lexiconSize : ℕ
-lexiconSize = spellingCountAt + 1
+lexiconSize = variablesAt + mostVariables
 
 -- the trees of the spellings are one more than this
 abbrev pub treeMask : ℕ
@@ -95,11 +103,11 @@ pub record Blank (room links : List ℕ) : Type 0 where
   pub unmarked : Unmarked room
   pub unlinked : (i : ℕ) → getD links i 0 ≡ 0
 
--- the keywords and outside names that any bytes begin with, where only keywords among some kinds count
-abbrev pub lexiconBy : ℕ → List ℕ → Lexicon
-lexiconBy kinds bs = record { keywords = spellingsKept kinds 0 (lexiconOf bs .keywords); outsides = lexiconOf bs .outsides }
+-- the keywords and outside names that any bytes begin with, where only keywords among some kinds count, with variables of some sorts
+abbrev pub lexiconBy : ℕ → List ℕ → List ℕ → Lexicon
+lexiconBy kinds sorts bs = record { keywords = spellingsKept kinds 0 (lexiconOf bs .keywords); outsides = lexiconOf bs .outsides; variables = sorts }
 
--- the rooms hold a lexicon whose spellings stand in a table
+-- the rooms hold the spellings of a lexicon, which stand in a table
 pub record Lexical (lex : Lexicon) (table room links : List ℕ) : Type 0 where
   pub long : length room ≡ lexiconSize
   pub wide : length links ≡ treeSize
@@ -111,14 +119,33 @@ pub record Lexical (lex : Lexicon) (table room links : List ℕ) : Type 0 where
   pub symbols : (b : ℕ) → b < symbolEnd → getD room (symbolsAt + b) 0 ≡ kindFrom 0 (lex .keywords) (b ∷ [])
   pub tree : SearchTree treeMask (lex .keywords ++ lex .outsides) links
 
+-- the sorts of variables that a room holds
+abbrev pub sortsIn : List ℕ → List ℕ
+sortsIn room = take (getD room variableCountAt 0) (drop variablesAt room)
+
+-- they are no more than an alternative's, and each is a byte
+pub record SortsFit (room : List ℕ) : Type 0 where
+  pub few : getD room variableCountAt 0 ≤ mostVariables
+  pub small : (n : ℕ) → n < getD room variableCountAt 0 → getD room (variablesAt + n) 0 < 256
+
+-- the sorts of variables are stored in a room, which is the same before them
+pub record SortsEntered (sorts room room′ : List ℕ) : Type 0 where
+  pub before : (i : ℕ) → i < variableCountAt → getD room′ i 0 ≡ getD room i 0
+  pub counted : getD room′ variableCountAt 0 ≡ length sorts
+  pub each : (n : ℕ) → n < length sorts → getD room′ (variablesAt + n) 0 ≡ getD sorts n 0
+  pub small : (n : ℕ) → n < length sorts → getD sorts n 0 < 256
+  pub same-length : length room′ ≡ length room
+
 -- the lexicon that rooms hold: what a scan by these rooms goes by
 abbrev pub lexiconIn : List ℕ → List ℕ → Lexicon
 lexiconIn table room =
     record {
       keywords = take (getD room keywordCountAt 0) (wordsIn table room (getD room spellingCountAt 0));
       outsides = drop (getD room keywordCountAt 0) (wordsIn table room (getD room spellingCountAt 0));
+      variables = sortsIn room;
     }
 
 -- so the rooms hold the lexicon that they have
-abbrev pub LexicalIn : List ℕ → List ℕ → List ℕ → Type 0
-LexicalIn table room links = Lexical (lexiconIn table room) table room links
+pub record LexicalIn (table room links : List ℕ) : Type 0 where
+  pub held : Lexical (lexiconIn table room) table room links
+  pub sorts-fit : SortsFit room

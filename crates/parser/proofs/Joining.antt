@@ -1,7 +1,8 @@
 -- What the promises of check, scan and run come to, joined.
 use Prim.Native.Nat.{ℕ, _*_, _≤_}
 use mathlib.Core.Path.{_≡_, refl, sym, ap, _∙_}
-use mathlib.Core.List.{List}
+use mathlib.Core.List.{List, []}
+use native.Mathlib.Omega.{arith}
 use lib.ListN.{length, take}
 use Rattle.grammar.specs.Limits.{most}
 use Rattle.answers.specs.declared.Refusal.{Refusal}
@@ -68,7 +69,7 @@ module _ {bs : List ℕ} (bytes : Bytes bs) where
     abbrev few : length (lex .outsides) ≤ most .outsides
     few = passes .within .outsideCount
 
-    spellings : lexiconOf bs ≡ record { keywords = passes .table .keywords; outsides = passes .table .outsides }
+    spellings : lexiconOf bs ≡ record { keywords = passes .table .keywords; outsides = passes .table .outsides; variables = [] }
     spellings = lexicon-decoded bs (passes .table) (decode-exactly bs bytes (passes .table) .1 (passes .encoded, passes .within))
 
     -- The outside names of a passed table stand in its bytes.
@@ -82,17 +83,17 @@ module _ {bs : List ℕ} (bytes : Bytes bs) where
       kinds-held = ap kindsIn (holds .held)
 
       -- The scanner finds the keywords and outside names of a passed table in its bytes, and in its room which keywords count.
-      pub lexicon-passed : lexiconBy (kindsIn room) bs ≡ lex
+      pub lexicon-passed : lexiconBy (kindsIn room) [] bs ≡ lex
       lexicon-passed = rw (spellings, kinds-held, passed-grammar bytes passes, root-last (passes .table) (passes .encoded)) refl
 
     -- ------------------------------------------------------------------ the scan
 
     module _ {room : List ℕ} (holds : HoldsGrammar bs room) {kinds : ℕ} (reached : kinds ≡ kindsIn room) (formula tokens words : List ℕ) where
-      in-lexicon : {given-filled : Filled} → given-filled ≡ scanInto (lexiconBy kinds bs) formula tokens words
+      in-lexicon : {given-filled : Filled} → given-filled ≡ scanInto (lexiconBy kinds [] bs) formula tokens words
           → given-filled ≡ scanInto lex formula tokens words
       in-lexicon e = rw (reached, lexicon-passed holds) at e
 
-      module _ {scanned : Scanned} {tokens′ words′ : List ℕ} (fills : filled scanned tokens′ words′ ≡ scanInto (lexiconBy kinds bs) formula tokens words)
+      module _ {scanned : Scanned} {tokens′ words′ : List ℕ} (fills : filled scanned tokens′ words′ ≡ scanInto (lexiconBy kinds [] bs) formula tokens words)
         where
           -- A scan that refuses is the end of the parse.
           pub stops-whole : (cells : List ℕ) {refusal : Refusal} {parsed : Parsed} → scanned ≡ Unscanned refusal → parsed ≡ haltedParse refusal
@@ -101,8 +102,8 @@ module _ {bs : List ℕ} (bytes : Bytes bs) where
 
           module _ {many count : ℕ} (rooms : RoomFor formula tokens words) (accepts : scanned ≡ Tokens many count) where
             -- One that does not leaves its tokens and words in the rooms.
-            pub scan-fills : Holds lex few formula tokens′ words′ many count
-            scan-fills = scan-holds lex few formula rooms (rw accepts at (in-lexicon fills))
+            pub scan-fills : Holds lex formula tokens′ words′ many count
+            scan-fills = scan-holds lex few (omega arith) formula rooms (rw accepts at (in-lexicon fills))
 
             -- ------------------------------------------------------------------ the run
 

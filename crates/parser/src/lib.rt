@@ -92,7 +92,8 @@ pub fn parse_passed(
     ensures { λ r. ⌜ ((P : Passes (now (table .entry))) → parsedInto r (now (tokens .exit)) (now (words .exit)) (now (cells .exit))
         ≡ parseInto (syntaxOf (P .table)) (now (formula .entry)) (now (tokens .entry)) (now (words .entry)) (now (cells .entry))) ⌝ }
 {
-    let scanned = scanner::scan(table, reached(room), formula, tokens, words);
+    let no_variables = [0u8; 0];
+    let scanned = scanner::scan(table, reached(room), &no_variables, formula, tokens, words);
     match scanned {
         Scanned::Unscanned(r) => halted(r),
         Scanned::Tokens(n, count) => {

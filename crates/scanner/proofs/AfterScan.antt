@@ -13,12 +13,13 @@ use Rattle.kinds.specs.Kinds.{wordKind}
 use Rattle.answers.specs.declared.Refusal.{Refusal}
 use Rattle.grammar.specs.Table.{Lexicon}
 use Rattle.grammar.specs.Limits.{most}
+use Rattle.grammar.specs.Variables.{mostVariables}
 use Rattle.tokens.specs.declared.Token.{Token}
 use Rattle.tokens.specs.declared.Scanned.the-variants.{Tokens, Unscanned}
 use Rattle.tokens.specs.Scan.{Lexed, scan}
 use Rattle.tokens.specs.Tokens.{endToken, mostTokens}
 use Rattle.scanner.specs.Rooms.{tokenRows, rowOf, tokensIn, wordPlaces, wordsIn, RoomFor, TokensFit, filled, scanInto}
-use Rattle.tokens.specs.Tiling.{Stands, a-keyword, a-keyword-symbol, an-outside-name, a-word-again, a-new-word, a-number, a-symbol}
+use Rattle.tokens.specs.Tiling.{Stands, a-keyword, a-keyword-symbol, an-outside-name, a-word-again, a-new-word, a-number, a-symbol, a-variable}
 use Rattle.tokens.proofs.TokenLaws.{Kept, scan-kept}
 use Rattle.tokens.proofs.SpellingLaws.{Every, every-at, scan-spelled}
 use Rattle.tokens.proofs.TilingLaws.{scan-counted}
@@ -31,16 +32,18 @@ largest-fits = lit≤ tt
 
 -- a token's value, by its rule
 value-small : {lex : Lexicon} {at : ℕ} {rest : List ℕ} {met met′ : List (List ℕ)} {token : Token} → length (lex .outsides) ≤ 64
+    → length (lex .variables) ≤ mostVariables
     → length met ≤ mostTokens
     → Stands lex at rest met token met′
     → token .value ≤ largest
-value-small few h (a-keyword w f) = omega arith
-value-small few h (a-keyword-symbol y f) = omega arith
-value-small few h (an-outside-name w n f) = omega (arith, f .there)
-value-small few h (a-word-again w n o f) = omega (arith, f .there)
-value-small few h (a-new-word w n o f) = omega arith
-value-small few h (a-number d) = d .small
-value-small few h (a-symbol y n) = omega arith
+value-small few named h (a-keyword w f) = omega arith
+value-small few named h (a-keyword-symbol y f) = omega arith
+value-small few named h (an-outside-name w n f) = omega (arith, f .there)
+value-small few named h (a-word-again w n o f) = omega (arith, f .there)
+value-small few named h (a-new-word w n o f) = omega arith
+value-small few named h (a-number d) = d .small
+value-small few named h (a-symbol y n) = omega arith
+value-small few named h (a-variable f) = omega (arith, f .below)
 
 -- a token adds one word at most
 one-more : {lex : Lexicon} {at : ℕ} {rest : List ℕ} {met met′ : List (List ℕ)} {token : Token} → Stands lex at rest met token met′
@@ -52,8 +55,24 @@ one-more (a-word-again w n o f) = omega arith
 one-more {met = met} (a-new-word {s = s} w n o f) = omega (arith, length-append met (s ∷ []))
 one-more (a-number d) = omega arith
 one-more (a-symbol y n) = omega arith
+one-more (a-variable f) = omega arith
 
-module _ (lex : Lexicon) (few : length (lex .outsides) ≤ 64) (formula : List ℕ) where
+-- the rooms of an accepted scan hold its tokens and its words
+pub record Holds (lex : Lexicon) (formula tokens words : List ℕ) (many count : ℕ) : Type 0 where
+  -- the scan accepts `many` tokens and as many words of the formula's own as counted
+  pub answered : scan lex formula .answer ≡ Tokens many count
+  -- the first `many` rows are its tokens
+  pub tokens-are : tokensIn tokens many ≡ scan lex formula .tokens
+  -- they can be read off the room
+  pub tokens-fit : TokensFit tokens many
+  -- and are no more than the formula has bytes
+  pub few-tokens : many ≤ length formula
+  -- the places stored name its words
+  pub words-are : wordsIn formula words count ≡ scan lex formula .words
+  -- there are no more words than tokens
+  pub few-words : count ≤ many
+
+module _ (lex : Lexicon) (few : length (lex .outsides) ≤ 64) (named : length (lex .variables) ≤ mostVariables) (formula : List ℕ) where
   -- at most as many tokens as bytes and at most 4,096, small values, and at most as many words as tokens
   record Sized (many : ℕ) (lexed : Lexed) : Type 0 where
     bytes : many + length (lexed .tokens) ≤ length formula
@@ -77,7 +96,7 @@ module _ (lex : Lexicon) (few : length (lex .outsides) ≤ 64) (formula : List �
             record {
               bytes = omega (arith, q .bytes);
               tokens = omega (arith, q .tokens);
-              values = (value-small few (omega arith) (told .stands), q .values);
+              values = (value-small few named (omega arith) (told .stands), q .values);
               words = omega (arith, q .words);
             };
       }
@@ -86,26 +105,9 @@ module _ (lex : Lexicon) (few : length (lex .outsides) ≤ 64) (formula : List �
   unfolding SizedFrom
   scan-sized = scan-kept lex few formula SizedFrom sized-kept (omega arith) (omega arith) (omega arith) (omega arith)
 
-  -- ------------------------------------------------------------------ the rooms after a scan
-
-  -- the rooms of an accepted scan hold its tokens and its words
-  pub record Holds (tokens words : List ℕ) (many count : ℕ) : Type 0 where
-    -- the scan accepts `many` tokens and as many words of the formula's own as counted
-    pub answered : scan lex formula .answer ≡ Tokens many count
-    -- the first `many` rows are its tokens
-    pub tokens-are : tokensIn tokens many ≡ scan lex formula .tokens
-    -- they can be read off the room
-    pub tokens-fit : TokensFit tokens many
-    -- and are no more than the formula has bytes
-    pub few-tokens : many ≤ length formula
-    -- the places stored name its words
-    pub words-are : wordsIn formula words count ≡ scan lex formula .words
-    -- there are no more words than tokens
-    pub few-words : count ≤ many
-
   module _ {tokens words : List ℕ} (room : RoomFor formula tokens words) where
     stored : {many count : ℕ} → scan lex formula .answer ≡ Tokens many count
-        → Holds (sets tokens 0 (tokenRows (scan lex formula .tokens))) (sets words 0 (wordPlaces 0 (scan lex formula .tokens))) many count
+        → Holds lex formula (sets tokens 0 (tokenRows (scan lex formula .tokens))) (sets words 0 (wordPlaces 0 (scan lex formula .tokens))) many count
     stored {many} {count} e =
         let ts : List Token = scan lex formula .tokens in
         let c = scan-counted lex few formula e in
@@ -132,7 +134,8 @@ module _ (lex : Lexicon) (few : length (lex .outsides) ≤ 64) (formula : List �
 
     module _ {tokens′ words′ : List ℕ} where
       -- A scan that is not refused leaves rooms that hold its tokens and its words.
-      pub scan-holds : {many count : ℕ} → filled (Tokens many count) tokens′ words′ ≡ scanInto lex formula tokens words → Holds tokens′ words′ many count
+      pub scan-holds : {many count : ℕ} → filled (Tokens many count) tokens′ words′ ≡ scanInto lex formula tokens words
+          → Holds lex formula tokens′ words′ many count
       unfolding scanInto
       scan-holds {many} {count} e =
           let a : scan lex formula .answer ≡ Tokens many count = cc in

@@ -5,3 +5,4 @@ pub mod ScanningLaws
 pub mod RoomLaws
 pub mod AfterScan
 pub mod NumberLaws
+pub mod DollarLaws

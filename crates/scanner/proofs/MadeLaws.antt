@@ -18,6 +18,7 @@ use Rattle.spellings.specs.Numbers.{numberOf}
 use Rattle.spellings.specs.declared.Number.the-variants.{Value, TooLarge}
 use Rattle.tokens.specs.declared.Token.{Token}
 use Rattle.tokens.specs.Scan.{Number, Fault, lexemeOf, isNew, kindOf}
+use Rattle.tokens.specs.Variables.{isVariable}
 use Rattle.tokens.specs.declared.Step.{Step}
 use Rattle.tokens.specs.declared.Step.the-variants.{Skip, Stop, Emit}
 use Rattle.scanner.specs.declared.Made.{Made}
@@ -37,7 +38,8 @@ use Rattle.lexicon.specs.LexiconRoom.{kindFrom, Lexical}
 use Rattle.grammar.specs.declared.Found.{Found}
 use Rattle.grammar.specs.declared.Found.the-variants.{At, Absent}
 use Rattle.grammar.specs.Found.{foundIn}
-use Rattle.scanner.specs.Stepping.{Named, named-keyword, an-outside, neither, made, OwnWord, met-before, first-met, Marks, Stepped, Agrees, Ready}
+use Rattle.scanner.specs.Stepping.{Named, named-keyword, an-outside, neither, made}
+use Rattle.scanner.specs.Stepping.{OwnWord, met-before, first-met, SymbolHere, Marks, Stepped, Agrees, Ready}
 use Rattle.scanner.proofs.StoreLaws.{place-new, place-old, count-new, count-old}
 use Rattle.lexicon.proofs.PlaceLaws.{words-length}
 use Rattle.lexicon.proofs.TreeLaws.{free-set}
@@ -191,7 +193,7 @@ module _ {lex : Lexicon} (few : length (lex .outsides) ≤ most .outsides) {mask
       → Stepped lex mask met links at rest (made Stop (Node 0))
   long-stepped l long =
       record {
-        step-is = step-by lex met at rest (lexeme-fault rest (long-word l long));
+        step-is = step-by lex met at rest (lexeme-fault _ rest (long-word l long));
         agrees = λ t e. let z : _≡_ {A = ℕ} 0 1 = cc in absurd (omega arith);
         free = λ t e. tt;
       }
@@ -202,11 +204,11 @@ module _ {lex : Lexicon} {at : ℕ} {rest : List ℕ} where
   separator-marks : isSeparator (getD rest 0 0) ≡ true → Marks lex at rest Skip
   separator-marks s =
       record {
-        step-is = λ met. step-by lex met at rest (lexeme-separator rest s);
+        step-is = λ met. step-by lex met at rest (lexeme-separator _ rest s);
         no-word = λ t e. let z : _≡_ {A = ℕ} 0 1 = cc in absurd (omega arith);
       }
 
-  fault-lexeme : Fault ≡ lexemeOf rest → Marks lex at rest Stop
+  fault-lexeme : Fault ≡ lexemeOf (length (lex .variables)) rest → Marks lex at rest Stop
   fault-lexeme f =
       record {
         step-is = λ met. step-by lex met at rest f;
@@ -217,9 +219,9 @@ module _ {lex : Lexicon} {at : ℕ} {rest : List ℕ} where
   pub bad-marks : isSeparator (getD rest 0 0) ≡ false → isLetter (getD rest 0 0) ≡ false → isDigit (getD rest 0 0) ≡ false
       → isSymbol (getD rest 0 0) ≡ false
       → Marks lex at rest Stop
-  bad-marks s l d y = fault-lexeme (lexeme-fault rest (bad-byte s (no-symbol (getD rest 0 0) l d y)))
+  bad-marks s l d y = fault-lexeme (lexeme-fault _ rest (bad-byte s (no-symbol (getD rest 0 0) l d y)))
 
-  number-lexeme : {size value : ℕ} → Number size value ≡ lexemeOf rest → Marks lex at rest (Emit (token numberKind at size value))
+  number-lexeme : {size value : ℕ} → Number size value ≡ lexemeOf (length (lex .variables)) rest → Marks lex at rest (Emit (token numberKind at size value))
   number-lexeme e =
       record {
         step-is = λ met. step-by lex met at rest e;
@@ -228,19 +230,20 @@ module _ {lex : Lexicon} {at : ℕ} {rest : List ℕ} where
 
   module _ (equal : isDigit (getD rest 0 0) ≡ true) {size : ℕ} (agrees : size ≡ length (longestRun isDigit rest)) where
     number-marks : {value : ℕ} → Value value ≡ numberOf (take size rest) → Marks lex at rest (Emit (token numberKind at size value))
-    number-marks {value} f = number-lexeme (sym (lexeme-digits rest equal ∙ number-is rest (Value value) agrees f))
+    number-marks {value} f = number-lexeme (sym (lexeme-digits _ rest equal ∙ number-is rest (Value value) agrees f))
 
     large-marks : TooLarge ≡ numberOf (take size rest) → Marks lex at rest Stop
-    large-marks f = fault-lexeme (sym (lexeme-digits rest equal ∙ number-is rest TooLarge agrees f))
+    large-marks f = fault-lexeme (sym (lexeme-digits _ rest equal ∙ number-is rest TooLarge agrees f))
 
-  symbol-marks : {kind : ℕ} → 0 < length rest → isSymbol (getD rest 0 0) ≡ true → kind ≡ kindOf lex (getD rest 0 0 ∷ []) noKind
+  symbol-marks : {kind : ℕ} → 0 < length rest → isVariable (length (lex .variables)) rest ≡ false → isSymbol (getD rest 0 0) ≡ true
+      → kind ≡ kindOf lex (getD rest 0 0 ∷ []) noKind
       → Marks lex at rest (Emit (token kind at 1 0))
-  symbol-marks {kind} h y e =
+  symbol-marks {kind} h v y e =
       record {
         step-is =
             λ met.
             emit-symbol lex met at {spelling = getD rest 0 0 ∷ []} (cc) (sym (one-byte rest h))
-            ∙ step-by lex met at rest (lexeme-symbol rest y);
+            ∙ step-by lex met at rest (lexeme-symbol _ rest v y);
         no-word =
             λ t z k.
             let q : kind ≡ t .kind = cc in
@@ -466,11 +469,12 @@ module _ {lex : Lexicon} {table room tree : List ℕ} (lexical : Lexical lex tab
   symbol-inside byte y = omega (arith, symbol-below byte y, lexical .long)
 
   -- a symbol makes a token of the kind that the room holds for it
-  pub symbol-at : (formula : List ℕ) (at : ℕ) → at < length formula → isSymbol (getD formula at 0) ≡ true
+  pub symbol-at : {formula : List ℕ} {at : ℕ} → SymbolHere lex formula at
       → Marks lex at (drop at formula) (Emit (token (getD room (symbolsAt + getD formula at 0) 0) at 1 0))
-  symbol-at formula at h y =
+  symbol-at {formula} {at} here =
+      let y = here .symbol in
       let z : getD (drop at formula) 0 0 ≡ getD formula at 0 = front-byte formula at in
-      symbol-marks (omega (arith, length-drop at formula)) (ap isSymbol z ∙ y)
+      symbol-marks (omega (arith, length-drop at formula, here .inside)) (here .unnamed) (ap isSymbol z ∙ y)
       (cc (
         lexical .symbols (getD formula at 0) (omega (arith, symbol-below (getD formula at 0) y)),
         kind-all lex (getD formula at 0 ∷ []),

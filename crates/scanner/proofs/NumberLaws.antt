@@ -13,9 +13,9 @@ use Rattle.tokens.proofs.ScannerTheorems.{accepted-exactly, refused-exactly, to
 use Rattle.scanner.specs.Rooms.{filled, scanInto}
 use Rattle.scanner.specs.Numbered.{numberedScan, Numbers, no-refusal, a-refusal, Scans}
 
-module _ (kinds : ℕ) (table formula : List ℕ) where
+module _ (kinds : ℕ) (sorts table formula : List ℕ) where
   lex : Lexicon
-  lex = lexiconBy kinds table
+  lex = lexiconBy kinds sorts table
 
   numbered-by : (scanned : Scanned) → scan lex formula .answer ≡ scanned → Numbers lex formula (numberedScan scanned)
   unfolding lex
@@ -29,7 +29,7 @@ module _ (kinds : ℕ) (table formula : List ℕ) where
 
   -- An answer and rooms that are those of the definition are what a scan promises.
   pub scans : {tokens words tokens′ words′ : List ℕ} {scanned : Scanned}
-      → filled scanned tokens′ words′ ≡ scanInto (lexiconBy kinds table) formula tokens words
-      → Scans (lexiconBy kinds table) formula tokens words scanned tokens′ words′
+      → filled scanned tokens′ words′ ≡ scanInto (lexiconBy kinds sorts table) formula tokens words
+      → Scans (lexiconBy kinds sorts table) formula tokens words scanned tokens′ words′
   unfolding lex scanInto
   scans {scanned = scanned} e = record { fills = e; numbered-is = numbered-by scanned cc }

@@ -6,7 +6,9 @@ use native.Mathlib.Omega.{arith}
 use lib.ListN.{length, getD, take, drop, replicate, length-drop, length-replicate}
 use lib.Seq.{sets, length-sets, take-append-seam, drop-append-seam}
 use Rattle.grammar.specs.Table.{Lexicon}
-use Rattle.lexicon.specs.LexiconRoom.{keywordCountAt, spellingCountAt, Lexical, lexiconIn, LexicalIn}
+use Rattle.lexicon.specs.LexiconRoom.{keywordCountAt, spellingCountAt, Lexical, SortsEntered, lexiconIn, LexicalIn}
+use Rattle.grammar.specs.Variables.{mostVariables}
+use Rattle.lexicon.proofs.SortLaws.{sorts-in, sorts-fit, lexical-with}
 use Rattle.tokens.specs.declared.Token.{Token}
 use Rattle.tokens.specs.declared.Step.{Step}
 use Rattle.tokens.specs.declared.Step.the-variants.{Skip, Stop, Emit}
@@ -212,26 +214,34 @@ scannable {mask = mask} words short enough =
       enough = λ n a b. omega (arith, length-replicate {A = ℕ} room 0, enough n a b);
     }
 
--- the lexicon that rooms hold is the one that was entered
-pub lexicon-held : {lex : Lexicon} {table room links : List ℕ} → Lexical lex table room links → lexiconIn table room ≡ lex
-lexicon-held {lex} {table} {room} x =
-    let ks : List (List ℕ) = lex .keywords in
-    let os : List (List ℕ) = lex .outsides in
-    let front : take (getD room keywordCountAt 0) (wordsIn table room (getD room spellingCountAt 0)) ≡ ks
-    = ap₂ (λ (n : ℕ) (ws : List (List ℕ)). take n ws) (x .keywords) (x .spelled) ∙ take-append-seam ks os in
-    let back : drop (getD room keywordCountAt 0) (wordsIn table room (getD room spellingCountAt 0)) ≡ os
-    = ap₂ (λ (n : ℕ) (ws : List (List ℕ)). drop n ws) (x .keywords) (x .spelled) ∙ drop-append-seam ks os in
-    lexicon-is front back
-  where
-    lexicon-is : {ks ks′ os os′ : List (List ℕ)} → ks ≡ ks′ → os ≡ os′
-        → _≡_ {A = Lexicon} (record { keywords = ks; outsides = os }) (record { keywords = ks′; outsides = os′ })
-    lexicon-is a b = cc
+-- the rooms of a lexicon, with the sorts of variables entered after its spellings
+module _ {lex : Lexicon} {table room room′ links sorts : List ℕ} (lexical : Lexical lex table room links) (entered : SortsEntered sorts room room′)
+    (few : length sorts ≤ mostVariables) where
+  -- it is the one that was entered
+  pub lexicon-held : lexiconIn table room′ ≡ record { keywords = lex .keywords; outsides = lex .outsides; variables = sorts }
+  lexicon-held =
+      let x = lexical-with lexical entered in
+      let ks : List (List ℕ) = lex .keywords in
+      let os : List (List ℕ) = lex .outsides in
+      let front : take (getD room′ keywordCountAt 0) (wordsIn table room′ (getD room′ spellingCountAt 0)) ≡ ks
+      = ap₂ (λ (n : ℕ) (ws : List (List ℕ)). take n ws) (x .keywords) (x .spelled) ∙ take-append-seam ks os in
+      let back : drop (getD room′ keywordCountAt 0) (wordsIn table room′ (getD room′ spellingCountAt 0)) ≡ os
+      = ap₂ (λ (n : ℕ) (ws : List (List ℕ)). drop n ws) (x .keywords) (x .spelled) ∙ drop-append-seam ks os in
+      lexicon-is front back (sorts-in entered (lexical .long) few)
+    where
+      lexicon-is : {ks ks′ os os′ : List (List ℕ)} {vs vs′ : List ℕ} → ks ≡ ks′ → os ≡ os′ → vs ≡ vs′
+          → _≡_ {A = Lexicon} (record { keywords = ks; outsides = os; variables = vs }) (record { keywords = ks′; outsides = os′; variables = vs′ })
+      lexicon-is a b c = cc
 
--- so the rooms hold it
-pub lexical-held : {lex : Lexicon} {table room links : List ℕ} → Lexical lex table room links → LexicalIn table room links
-lexical-held {lex} {table} {room} {links} x = subst (λ (l : Lexicon). Lexical l table room links) (sym (lexicon-held x)) x
+  -- so the rooms hold it
+  pub lexical-held : LexicalIn table room′ links
+  lexical-held =
+      record {
+        held = subst (λ (l : Lexicon). Lexical l table room′ links) (sym lexicon-held) (lexical-with lexical entered);
+        sorts-fit = sorts-fit entered (lexical .long) few;
+      }
 
--- and a scan by the rooms is a scan by it
-pub scanned-held : {lex : Lexicon} {table room links : List ℕ} → Lexical lex table room links → (formula tokens words : List ℕ) {result : Filled}
-    → result ≡ scanInto (lexiconIn table room) formula tokens words → result ≡ scanInto lex formula tokens words
-scanned-held x formula tokens words e = e ∙ ap (λ (l : Lexicon). scanInto l formula tokens words) (lexicon-held x)
+  -- and a scan by the rooms is a scan by it
+  pub scanned-held : (formula tokens words : List ℕ) {result : Filled} → result ≡ scanInto (lexiconIn table room′) formula tokens words
+      → result ≡ scanInto (record { keywords = lex .keywords; outsides = lex .outsides; variables = sorts }) formula tokens words
+  scanned-held formula tokens words e = e ∙ ap (λ (l : Lexicon). scanInto l formula tokens words) lexicon-held

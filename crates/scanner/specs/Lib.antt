@@ -1,3 +1,4 @@
 pub mod Rooms
 pub mod Stepping
 pub mod Numbered
+pub mod Dollars

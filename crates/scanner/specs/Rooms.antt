@@ -10,6 +10,7 @@ use Rattle.tokens.specs.declared.Scanned.{Scanned}
 use Rattle.grammar.specs.Table.{Lexicon}
 use Rattle.tokens.specs.Scan.{isNew, scan}
 use Rattle.tokens.specs.Tokens.{token, mostTokens}
+use Rattle.grammar.specs.Variables.{mostVariables}
 pub use Rattle.lexicon.specs.Places.{wordAt, wordsIn}
 unfoldable pub use Rattle.lexicon.specs.Places.{wordsFrom}
 
@@ -53,9 +54,10 @@ pub record RoomFor (formula tokens words : List ℕ) : Type 0 where
   pub for-tokens : (n : ℕ) → n ≤ length formula → n ≤ mostTokens → n * 4 ≤ length tokens
   pub for-words : (n : ℕ) → n ≤ length formula → n ≤ mostTokens → n * 2 ≤ length words
 
--- What a scan asks of what it is given: the offsets of a table fit a number of a room, and there is room.
-pub record LentToScan (table formula tokens words : List ℕ) : Type 0 where
+-- What a scan asks of what it is given: the offsets of a table fit a number of a room, the variables are no more than an alternative's, and there is room.
+pub record LentToScan (table sorts formula tokens words : List ℕ) : Type 0 where
   pub short : length table < 2 ^ 32
+  pub few : length sorts ≤ mostVariables
   pub room : RoomFor formula tokens words
 
 -- What those who read n tokens off a room ask: they lie in it, they are at most 4,096, and each value leaves room for a name's class.

@@ -4,7 +4,8 @@ use Prim.Native.Nat.{ℕ, _+_, _*_, _<_, _≤_}
 use mathlib.Core.Path.{_≡_}
 use mathlib.Core.Bool.{true, false}
 use mathlib.Core.List.{List}
-use lib.ListN.{length, getD, take}
+use lib.ListN.{length, getD, take, drop}
+use Rattle.spellings.specs.Bytes.{isSymbol}
 use Rattle.grammar.specs.Limits.{most}
 use Rattle.grammar.specs.Table.{Lexicon}
 use Rattle.kinds.specs.Kinds.{wordKind}
@@ -18,6 +19,7 @@ use Rattle.lexicon.specs.declared.trees.Spot.{Spot}
 use Rattle.lexicon.specs.declared.trees.Spot.the-variants.{Node, Free}
 use Rattle.tokens.specs.Scan.{isNew, stepOf}
 use Rattle.tokens.specs.Tokens.{token, mostTokens, longestFormula}
+use Rattle.tokens.specs.Variables.{isVariable}
 use Rattle.tokens.specs.Tiling.{FirstAt, NotIn}
 use Rattle.scanner.specs.Rooms.{wordsIn, LentToScan}
 use Rattle.lexicon.specs.Trees.{SearchTree, FreeFor}
@@ -37,6 +39,13 @@ pub data OwnWord (mask : ℕ) (met : List (List ℕ)) (links : List ℕ) (at siz
   met-before : {k : ℕ} → FirstAt s met k → OwnWord mask met links at size s (made (Emit (token wordKind at size (most .outsides + k))) (Node 0))
   first-met : {slot : ℕ} → FreeFor mask met links s slot
       → OwnWord mask met links at size s (made (Emit (token wordKind at size (most .outsides + length met))) (Free slot))
+
+-- at an offset stands a symbol that begins no variable
+pub record SymbolHere (lex : Lexicon) (formula : List ℕ) (at : ℕ) : Type 0 where
+  pub inside : at < length formula
+  pub short : length formula ≤ longestFormula
+  pub symbol : isSymbol (getD formula at 0) ≡ true
+  pub unnamed : isVariable (length (lex .variables)) (drop at formula) ≡ false
 
 -- a step at what is no word, whatever words were met
 pub record Marks (lex : Lexicon) (at : ℕ) (rest : List ℕ) (r : Step) : Type 0 where
@@ -80,7 +89,7 @@ abbrev pub middleFormula : ℕ
 middleFormula = 512
 
 -- what a scan with a room of links for formulas up to a size asks: a formula that is not empty and not longer
-pub record LentWithin (longest : ℕ) (table formula tokens words : List ℕ) : Type 0 where
-  pub lent : LentToScan table formula tokens words
+pub record LentWithin (longest : ℕ) (table sorts formula tokens words : List ℕ) : Type 0 where
+  pub lent : LentToScan table sorts formula tokens words
   pub some : 0 < length formula
   pub within : length formula ≤ longest

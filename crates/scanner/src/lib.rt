@@ -1,6 +1,10 @@
 // The scanner: from the bytes of a formula to its tokens.
+pub mod dollars;
 pub mod room;
 
+use crate::dollars::DOLLAR;
+use crate::dollars::Variable;
+use crate::dollars::variable_at;
 use crate::room::LENGTH;
 use crate::room::OFFSET;
 use crate::room::PLACE;
@@ -15,6 +19,7 @@ use grammar::reader::part;
 use kinds::KEYWORD_KIND;
 use kinds::NO_KIND;
 use kinds::NUMBER_KIND;
+use kinds::VARIABLE_KIND;
 use kinds::WORD_KIND;
 use lexicon::KEYWORD_COUNT;
 use lexicon::MASK;
@@ -22,13 +27,17 @@ use lexicon::ROOM;
 use lexicon::SPELLING_COUNT;
 use lexicon::SYMBOLS;
 use lexicon::TREE;
+use lexicon::VARIABLE_COUNT;
+use lexicon::VARIABLES;
 use lexicon::trees::Spot;
 use lexicon::trees::seek;
 use lexicon::trees::settle;
 use lexicon::trees::word_at;
+use lexicon::variables::enter_sorts;
 use spellings::LONGEST_WORD;
 use spellings::Number;
 use spellings::wide_number;
+use terms::VARIABLE;
 use tokens::LONGEST_FORMULA;
 use tokens::MOST_TOKENS;
 use tokens::Scanned;
@@ -43,9 +52,10 @@ ghost use lib.Seq.{sets};
 ghost use Rattle.spellings.specs.Bytes.{isLetter, isDigit};
 ghost use Rattle.grammar.specs.Table.{Lexicon};
 ghost use Rattle.tokens.specs.Tokens.{token, mostTokens, longestFormula};
+ghost use Rattle.tokens.specs.Variables.{dollar};
 ghost use Rattle.lexicon.specs.Trees.{hashOf, Planted, Linkable, linksWith};
 ghost use Rattle.lexicon.specs.LexiconRoom.{lexiconBy, lexiconIn, LexicalIn};
-ghost use Rattle.scanner.specs.Stepping.{Named, Ready, OwnWord, made, Marks, Stepped, Agrees, Scannable, middleFormula, LentWithin};
+ghost use Rattle.scanner.specs.Stepping.{Named, Ready, OwnWord, made, SymbolHere, Marks, Stepped, Agrees, Scannable, middleFormula, LentWithin};
 ghost use Rattle.answers.specs.Refusals.{refusal};
 ghost use Rattle.scanner.specs.Rooms.{rowThen, placeThen, countWith, wordsIn, RoomFor, LentToScan, filled, scanInto};
 ghost use Rattle.scanner.specs.Numbered.{Scans};
@@ -106,6 +116,42 @@ fn number_step(formula: &[u8], at: usize) -> Step
     }
 }
 
+// What is done at a symbol, which is no variable's `$`.
+fn symbol_step(table: &[u8], room: &[u32], tree: &[u32], formula: &[u8], at: usize) -> Step
+    requires { ⌜ LexicalIn (now table) (now room) (now tree) × SymbolHere (lexiconIn (now table) (now room)) (now formula) at ⌝ }
+    ensures { λ r. ⌜ Marks (lexiconIn (now (table .entry)) (now (room .entry))) at (drop at (now (formula .entry))) r ⌝ }
+{
+    let b = formula[at];
+    Step::Emit(Token {
+        kind: room[SYMBOLS + b as usize],
+        at: at as u32,
+        size: 1,
+        value: 0,
+    })
+}
+
+// What is done at a `$`.
+fn dollar_step(table: &[u8], room: &[u32], tree: &[u32], formula: &[u8], at: usize) -> Step
+    requires { ⌜ LexicalIn (now table) (now room) (now tree) × (getD (now formula) at 0 ≡ dollar) ⌝ }
+    requires { ⌜ (at < length (now formula)) × (length (now formula) ≤ longestFormula) ⌝ }
+    ensures { λ r. ⌜ Marks (lexiconIn (now (table .entry)) (now (room .entry))) at (drop at (now (formula .entry))) r ⌝ }
+{
+    let count = wide_number(room[VARIABLE_COUNT]);
+    let variable = variable_at(formula, at, count);
+    match variable {
+        Variable::Named(n, size) => {
+            let sort = room[VARIABLES + n as usize];
+            Step::Emit(Token {
+                kind: VARIABLE_KIND + sort,
+                at: at as u32,
+                size: size as u32,
+                value: VARIABLE + n,
+            })
+        }
+        Variable::Unnamed => symbol_step(table, room, tree, formula, at),
+    }
+}
+
 // What is done at what is no word.
 fn mark_step(table: &[u8], room: &[u32], tree: &[u32], formula: &[u8], at: usize) -> Step
     requires { ⌜ LexicalIn (now table) (now room) (now tree) × (isLetter (getD (now formula) at 0) ≡ false) ⌝ }
@@ -119,13 +165,11 @@ fn mark_step(table: &[u8], room: &[u32], tree: &[u32], formula: &[u8], at: usize
     if spellings::is_digit(b) {
         return number_step(formula, at);
     }
+    if b == DOLLAR {
+        return dollar_step(table, room, tree, formula, at);
+    }
     if spellings::is_symbol(b) {
-        return Step::Emit(Token {
-            kind: room[SYMBOLS + b as usize],
-            at: at as u32,
-            size: 1,
-            value: 0,
-        });
+        return symbol_step(table, room, tree, formula, at);
     }
     Step::Stop
 }
@@ -357,19 +401,21 @@ fn scan_loop(
 fn scan_with(
     table: &[u8],
     kinds: u64,
+    variables: &[u8],
     formula: &[u8],
     tokens: &mut [u32],
     words: &mut [u32],
     links: &mut [u32],
     mask: usize,
 ) -> Scanned
-    requires { ⌜ LentToScan (now table) (now formula) (now tokens) (now words) × Scannable (now formula) (now links) mask ⌝ }
+    requires { ⌜ LentToScan (now table) (now variables) (now formula) (now tokens) (now words) × Scannable (now formula) (now links) mask ⌝ }
     ensures { λ r. ⌜ filled r (now (tokens .exit)) (now (words .exit))
-        ≡ scanInto (lexiconBy kinds (now (table .entry))) (now (formula .entry)) (now (tokens .entry)) (now (words .entry)) ⌝ }
+        ≡ scanInto (lexiconBy kinds (now (variables .entry)) (now (table .entry))) (now (formula .entry)) (now (tokens .entry)) (now (words .entry)) ⌝ }
 {
     let mut room = [NO_KIND; ROOM];
     let mut tree = [0u32; TREE];
     lexicon::enter_table(table, kinds, &mut room, &mut tree);
+    enter_sorts(variables, &mut room);
     scan_loop(table, &room, &tree, formula, tokens, words, links, mask)
 }
 
@@ -378,22 +424,24 @@ fn scan_with(
 fn scan_middle(
     table: &[u8],
     kinds: u64,
+    variables: &[u8],
     formula: &[u8],
     tokens: &mut [u32],
     words: &mut [u32],
 ) -> Scanned
-    requires { ⌜ LentWithin middleFormula (now table) (now formula) (now tokens) (now words) ⌝ }
+    requires { ⌜ LentWithin middleFormula (now table) (now variables) (now formula) (now tokens) (now words) ⌝ }
     ensures { λ r. ⌜ filled r (now (tokens .exit)) (now (words .exit))
-        ≡ scanInto (lexiconBy kinds (now (table .entry))) (now (formula .entry)) (now (tokens .entry)) (now (words .entry)) ⌝ }
+        ≡ scanInto (lexiconBy kinds (now (variables .entry)) (now (table .entry))) (now (formula .entry)) (now (tokens .entry)) (now (words .entry)) ⌝ }
 {
     if formula.len() == 0 {
         let blank = [32u8; 1];
-        return scan_middle(table, kinds, &blank, tokens, words);
+        return scan_middle(table, kinds, variables, &blank, tokens, words);
     }
     let mut links = [0u32; MIDDLE_LINKS];
     scan_with(
         table,
         kinds,
+        variables,
         formula,
         tokens,
         words,
@@ -406,22 +454,24 @@ fn scan_middle(
 fn scan_long(
     table: &[u8],
     kinds: u64,
+    variables: &[u8],
     formula: &[u8],
     tokens: &mut [u32],
     words: &mut [u32],
 ) -> Scanned
-    requires { ⌜ LentWithin longestFormula (now table) (now formula) (now tokens) (now words) ⌝ }
+    requires { ⌜ LentWithin longestFormula (now table) (now variables) (now formula) (now tokens) (now words) ⌝ }
     ensures { λ r. ⌜ filled r (now (tokens .exit)) (now (words .exit))
-        ≡ scanInto (lexiconBy kinds (now (table .entry))) (now (formula .entry)) (now (tokens .entry)) (now (words .entry)) ⌝ }
+        ≡ scanInto (lexiconBy kinds (now (variables .entry)) (now (table .entry))) (now (formula .entry)) (now (tokens .entry)) (now (words .entry)) ⌝ }
 {
     if formula.len() == 0 {
         let blank = [32u8; 1];
-        return scan_long(table, kinds, &blank, tokens, words);
+        return scan_long(table, kinds, variables, &blank, tokens, words);
     }
     let mut links = [0u32; LINKS];
     scan_with(
         table,
         kinds,
+        variables,
         formula,
         tokens,
         words,
@@ -430,21 +480,22 @@ fn scan_long(
     )
 }
 
-// The scan of a formula by the outside names of a table and those of its keywords whose kinds are among some. Four numbers a token are stored from the front of
-// `tokens`: kind, offset, length, value; two numbers a word from the front of `words`: the offset and the length of the first
-// token that has it, for the spelling numbers from 64 on. Numbers behind these stay as they were, on a refusal too. The answer's number,
-// 0 or 14 to 16, and its values are those of the rules.
-// Ruled out are, among others, a scanner that takes a keyword for a word, one that refuses one byte beside the fault, one that
-// numbers words from 65, and one that clears a room before it refuses.
+// The scan of a formula by the outside names of a table and those of its keywords whose kinds are among some. The text of a result is scanned as a formula is,
+// with the sorts of its `$` variables; a formula has none. Four numbers a token are stored from the front of `tokens`: kind, offset, length, value; two
+// numbers a word from the front of `words`: the offset and the length of the first token that has it, for the spelling numbers from 64 on. Numbers behind
+// these stay as they were, on a refusal too. The answer's number, 0 or 14 to 16, and its values are those of the rules.
+// Ruled out are, among others, a scanner that takes a keyword for a word, or the `$` of a variable for a keyword, one that refuses one byte beside the fault,
+// one that numbers words from 65, and one that clears a room before it refuses.
 pub fn scan(
     table: &[u8],
     kinds: u64,
+    variables: &[u8],
     formula: &[u8],
     tokens: &mut [u32],
     words: &mut [u32],
 ) -> Scanned
-    requires { ⌜ LentToScan (now table) (now formula) (now tokens) (now words) ⌝ }
-    ensures { λ r. ⌜ Scans (lexiconBy kinds (now (table .entry))) (now (formula .entry)) (now (tokens .entry)) (now (words .entry)) r
+    requires { ⌜ LentToScan (now table) (now variables) (now formula) (now tokens) (now words) ⌝ }
+    ensures { λ r. ⌜ Scans (lexiconBy kinds (now (variables .entry)) (now (table .entry))) (now (formula .entry)) (now (tokens .entry)) (now (words .entry)) r
         (now (tokens .exit)) (now (words .exit)) ⌝ }
 {
     let size = formula.len();
@@ -453,10 +504,19 @@ pub fn scan(
     }
     if size <= SHORT {
         let mut links = [0u32; SHORT_LINKS];
-        return scan_with(table, kinds, formula, tokens, words, &mut links, SHORT_MASK);
+        return scan_with(
+            table,
+            kinds,
+            variables,
+            formula,
+            tokens,
+            words,
+            &mut links,
+            SHORT_MASK,
+        );
     }
     if size <= MIDDLE {
-        return scan_middle(table, kinds, formula, tokens, words);
+        return scan_middle(table, kinds, variables, formula, tokens, words);
     }
-    scan_long(table, kinds, formula, tokens, words)
+    scan_long(table, kinds, variables, formula, tokens, words)
 }

@@ -61,7 +61,7 @@ module _ (lex : Lexicon) (few : length (lex .outsides) ≤ 64) (formula : List �
   follow {at} {met = met} (past-separator h s d) (suc fuel) before enough small =
       let some : 0 < length (drop at formula) = omega (arith, length-drop at formula) in
       let e : Skip ≡ stepOf lex met at (drop at formula)
-      = step-by lex met at (drop at formula) (lexeme-separator (drop at formula) (ap isSeparator (front-byte formula at) ∙ s)) in
+      = step-by lex met at (drop at formula) (lexeme-separator _ (drop at formula) (ap isSeparator (front-byte formula at) ∙ s)) in
       let l : lexFrom (suc fuel) lex at (drop at formula) before met ≡ lexFrom fuel lex (at + 1) (drop (at + 1) formula) before met
       = cc (lex-step fuel lex at (drop at formula) before met Skip some e, drop-drop 1 at formula) in
       let f = follow d fuel before (omega arith) small in
@@ -110,7 +110,7 @@ module _ (lex : Lexicon) (few : length (lex .outsides) ≤ 64) (formula : List �
       → lexFrom fuel lex at (drop at formula) before met .answer ≡ Unscanned (refusal 15 at 0 0)
   fault-answer zero at before met enough h f = absurd (omega arith)
   fault-answer (suc fuel) at before met enough h f =
-      let e : Stop ≡ stepOf lex met at (drop at formula) = step-by lex met at (drop at formula) (lexeme-fault (drop at formula) f) in
+      let e : Stop ≡ stepOf lex met at (drop at formula) = step-by lex met at (drop at formula) (lexeme-fault _ (drop at formula) f) in
       cc (lex-step fuel lex at (drop at formula) before met Stop (omega (arith, length-drop at formula)) e)
 
   token-answer : (fuel at before : ℕ) (met met′ : List (List ℕ)) (token : Token) → length formula ≤ at + fuel → at < length formula → before ≡ mostTokens

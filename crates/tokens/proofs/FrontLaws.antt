@@ -9,11 +9,13 @@ use lib.ListN.{length, getD}
 use borrow.Author.Tests.{ne-eqb, le-leb, lt-leb, leb-true, not-true}
 use Rattle.spellings.specs.Bytes.{isLetter, isDigit, isWordByte, isSeparator, isSymbol, longestRun, largest, valueOf}
 use Rattle.spellings.proofs.BytesLaws.{by-test}
-use Rattle.tokens.specs.Scan.{Separator, Word, Number, Symbol, Fault}
+use Rattle.tokens.specs.Variables.{dollar, isVariable, VariableFront}
+use Rattle.tokens.specs.Scan.{Separator, Word, Number, Variable, Symbol, Fault}
 use Rattle.tokens.specs.Scan.{numberLexeme, lexemeOf}
 use Rattle.tokens.specs.Unscanned.{Faulty, bad-byte, long-word, large-number}
 use Rattle.tokens.proofs.LexemeLaws.{word-fits, word-long, lexeme-is}
 use Rattle.tokens.proofs.WordLaws.{both}
+use Rattle.tokens.proofs.VariableLaws.{front-variable, none-found}
 
 -- ------------------------------------------------------------------ the classes of bytes are apart
 
@@ -91,50 +93,58 @@ module _ (byte : ℕ) (out : 33 ≤ byte → byte ≤ 126 → ⊥) where
 
 -- ------------------------------------------------------------------ the lexeme that the bytes at the front tell
 
-module _ (rest : List ℕ) where
+module _ (count : ℕ) (rest : List ℕ) where
   -- a separator byte is a separator
-  pub lexeme-separator : isSeparator (getD rest 0 0) ≡ true → Separator ≡ lexemeOf rest
-  lexeme-separator s = sym (lexeme-is rest true _ _ _ refl s refl refl refl)
+  pub lexeme-separator : isSeparator (getD rest 0 0) ≡ true → Separator ≡ lexemeOf count rest
+  lexeme-separator s = sym (lexeme-is count rest true _ _ _ _ refl s refl refl refl refl)
 
   -- a letter begins the word of all word bytes from it on, if they are not too many
-  pub lexeme-word : isLetter (getD rest 0 0) ≡ true → length (longestRun isWordByte rest) ≤ 31 → Word (length (longestRun isWordByte rest)) ≡ lexemeOf rest
+  pub lexeme-word : isLetter (getD rest 0 0) ≡ true → length (longestRun isWordByte rest) ≤ 31
+      → Word (length (longestRun isWordByte rest)) ≡ lexemeOf count rest
   lexeme-word l h =
       let s : isSeparator (getD rest 0 0) ≡ false = separator-low (getD rest 0 0) (omega (arith, letter-high (getD rest 0 0) l)) in
-      sym (lexeme-is rest false true _ _ refl s l refl refl ∙ word-fits (length (longestRun isWordByte rest)) h)
+      sym (lexeme-is count rest false true _ _ _ refl s l refl refl refl ∙ word-fits (length (longestRun isWordByte rest)) h)
 
   -- a digit begins the number of all digits from it on, if it is not too large
   pub lexeme-number : isDigit (getD rest 0 0) ≡ true → valueOf (longestRun isDigit rest) ≤ largest
-      → Number (length (longestRun isDigit rest)) (valueOf (longestRun isDigit rest)) ≡ lexemeOf rest
+      → Number (length (longestRun isDigit rest)) (valueOf (longestRun isDigit rest)) ≡ lexemeOf count rest
   lexeme-number d h =
       let s : isSeparator (getD rest 0 0) ≡ false = separator-low (getD rest 0 0) (omega (arith, digit-range (getD rest 0 0) d .0)) in
       let f : numberLexeme (longestRun isDigit rest) ≡ Number (length (longestRun isDigit rest)) (valueOf (longestRun isDigit rest))
       = rw (le-leb (valueOf (longestRun isDigit rest)) largest h, numberLexeme) refl in
-      sym (lexeme-is rest false false true _ refl s (digit-no-letter (getD rest 0 0) d) d refl ∙ f)
+      sym (lexeme-is count rest false false true _ _ refl s (digit-no-letter (getD rest 0 0) d) d refl refl ∙ f)
 
   -- a digit begins a number or a fault
-  pub lexeme-digits : isDigit (getD rest 0 0) ≡ true → lexemeOf rest ≡ numberLexeme (longestRun isDigit rest)
+  pub lexeme-digits : isDigit (getD rest 0 0) ≡ true → lexemeOf count rest ≡ numberLexeme (longestRun isDigit rest)
   lexeme-digits d =
       let s : isSeparator (getD rest 0 0) ≡ false = separator-low (getD rest 0 0) (omega (arith, digit-range (getD rest 0 0) d .0)) in
-      lexeme-is rest false false true _ refl s (digit-no-letter (getD rest 0 0) d) d refl
+      lexeme-is count rest false false true _ _ refl s (digit-no-letter (getD rest 0 0) d) d refl refl
 
-  -- a symbol byte is a symbol
-  pub lexeme-symbol : isSymbol (getD rest 0 0) ≡ true → Symbol ≡ lexemeOf rest
-  lexeme-symbol y =
+  -- a symbol byte that begins no variable is a symbol
+  pub lexeme-symbol : isVariable count rest ≡ false → isSymbol (getD rest 0 0) ≡ true → Symbol ≡ lexemeOf count rest
+  lexeme-symbol v y =
       let o = symbol-only (getD rest 0 0) y in
-      sym (lexeme-is rest false false false true refl (separator-low (getD rest 0 0) (o .high)) (o .no-letter) (o .no-digit) y)
+      sym (lexeme-is count rest false false false false true refl (separator-low (getD rest 0 0) (o .high)) (o .no-letter) (o .no-digit) v y)
+
+  -- `$` and the digits of a variable are the variable
+  pub lexeme-variable : {digits : List ℕ} → VariableFront count rest digits → Variable ≡ lexemeOf count rest
+  lexeme-variable f =
+      let z : dollar ≡ getD rest 0 0 = sym (f .front .begins) in
+      sym (lexeme-is count rest false false false true true z refl refl refl (front-variable f) refl)
 
   -- a bad byte, a long word or a large number is a fault
-  pub lexeme-fault : Faulty rest → Fault ≡ lexemeOf rest
+  pub lexeme-fault : Faulty rest → Fault ≡ lexemeOf count rest
   lexeme-fault (bad-byte s out) =
       let b : ℕ = getD rest 0 0 in
       let l : isLetter b ≡ false = outside-letter b out in
       let d : isDigit b ≡ false = outside-digit b out in
       let y : isSymbol b ≡ false = outside-symbol b out in
-      sym (lexeme-is rest false false false false refl s l d y)
+      let v : isVariable count rest ≡ false = none-found (λ digits f. out (omega (arith, f .front .begins)) (omega (arith, f .front .begins))) in
+      sym (lexeme-is count rest false false false false false refl s l d v y)
   lexeme-fault (long-word l h) =
       let s : isSeparator (getD rest 0 0) ≡ false = separator-low (getD rest 0 0) (omega (arith, letter-high (getD rest 0 0) l)) in
-      sym (lexeme-is rest false true _ _ refl s l refl refl ∙ word-long (length (longestRun isWordByte rest)) h)
+      sym (lexeme-is count rest false true _ _ _ refl s l refl refl refl ∙ word-long (length (longestRun isWordByte rest)) h)
   lexeme-fault (large-number d h) =
       let s : isSeparator (getD rest 0 0) ≡ false = separator-low (getD rest 0 0) (omega (arith, digit-range (getD rest 0 0) d .0)) in
       let f : numberLexeme (longestRun isDigit rest) ≡ Fault = rw (lt-leb (valueOf (longestRun isDigit rest)) largest h, numberLexeme) refl in
-      sym (lexeme-is rest false false true _ refl s (digit-no-letter (getD rest 0 0) d) d refl ∙ f)
+      sym (lexeme-is count rest false false true _ _ refl s (digit-no-letter (getD rest 0 0) d) d refl refl ∙ f)

@@ -17,7 +17,9 @@ use Rattle.grammar.specs.declared.Found.the-variants.{At, Absent}
 use Rattle.grammar.specs.Table.{Lexicon}
 use Rattle.grammar.specs.Found.{foundIn}
 use Rattle.kinds.specs.Kinds.{wordKind, keywordKind}
-use Rattle.tokens.specs.Scan.{Lexeme, Separator, Word, Number, Symbol, Fault, wordLexeme, numberLexeme, lexemeOf, kindOf, numberOr, spellingOf}
+use Rattle.tokens.specs.Variables.{isVariable}
+use Rattle.tokens.specs.Scan.{Lexeme, Separator, Word, Number, Variable, Symbol, Fault}
+use Rattle.tokens.specs.Scan.{wordLexeme, numberLexeme, lexemeOf, kindOf, numberOr, spellingOf}
 
 -- ------------------------------------------------------------------ words and numbers
 
@@ -52,26 +54,28 @@ digits-within rest e = omega (arith, run-length isDigit rest)
 
 -- ------------------------------------------------------------------ the lexeme by its first byte
 
--- by the classes of the first byte
-abbrev chosen : List ℕ → Bool → Bool → Bool → Bool → Lexeme
-chosen rest separator letter digit symbol =
+-- by the classes of the first byte, and whether it begins a variable
+abbrev chosen : List ℕ → Bool → Bool → Bool → Bool → Bool → Lexeme
+chosen rest separator letter digit variable symbol =
     elim separator [
       | true ↦ Separator
       | false ↦
           elim letter [
             | true ↦ wordLexeme (length (longestRun isWordByte rest))
             | false ↦
-                elim digit
-                [ true ↦ numberLexeme (longestRun isDigit rest) | false ↦ elim symbol [ true ↦ Symbol | false ↦ Fault ] ]
+                elim digit [
+                  | true ↦ numberLexeme (longestRun isDigit rest)
+                  | false ↦ elim variable [ true ↦ Variable | false ↦ elim symbol [ true ↦ Symbol | false ↦ Fault ] ]
+                ]
           ]
     ]
 
--- the lexeme, by the four tests of the first byte
-pub lexeme-is : (rest : List ℕ) {byte : ℕ} (separator letter digit symbol : Bool) → byte ≡ getD rest 0 0
-    → isSeparator byte ≡ separator → isLetter byte ≡ letter → isDigit byte ≡ digit → isSymbol byte ≡ symbol
-    → lexemeOf rest ≡ chosen rest separator letter digit symbol
+-- the lexeme, by the four tests of the first byte and the test of a variable
+pub lexeme-is : (count : ℕ) (rest : List ℕ) {byte : ℕ} (separator letter digit variable symbol : Bool) → byte ≡ getD rest 0 0
+    → isSeparator byte ≡ separator → isLetter byte ≡ letter → isDigit byte ≡ digit → isVariable count rest ≡ variable → isSymbol byte ≡ symbol
+    → lexemeOf count rest ≡ chosen rest separator letter digit variable symbol
 unfolding lexemeOf
-lexeme-is rest {byte} separator letter digit symbol e s l d y =
+lexeme-is count rest {byte} separator letter digit variable symbol e s l d v y =
     cc
 
 -- ------------------------------------------------------------------ kinds and spelling numbers by what a search finds

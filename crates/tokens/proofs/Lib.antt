@@ -1,6 +1,7 @@
 pub mod Examples
 pub mod LexemeLaws
 pub mod WordLaws
+pub mod VariableLaws
 pub mod FoundLaws
 pub mod StepLaws
 pub mod LexLaws
@@ -11,5 +12,6 @@ pub mod TilingLaws
 pub mod SpellingLaws
 pub mod KindLaws
 pub mod WordsOfScan
+pub mod FormulaKinds
 pub mod FollowLaws
 pub mod ScannerTheorems

@@ -1,29 +1,33 @@
 -- What a scan gives, for every lexicon with at most 64 outside names, as every table's is, and every formula. Each statement has one
 -- sentence above it; the proofs cite the laws.
 use Prim.Native.Nat.{ℕ, _≤_}
-use mathlib.Core.Path.{_≡_, sym, ap, _∙_}
+use mathlib.Core.Path.{_≡_, refl, sym, ap, _∙_}
 use mathlib.Core.Logic.{_↔_}
-use mathlib.Core.Bool.{true}
+use mathlib.Core.Bool.{true, false}
 use mathlib.Core.List.{List, []}
 use native.Mathlib.Omega.{arith}
 use lib.Dec.{leb, ltb}
 use lib.ListN.{length, getD, List·getD-eq-default}
 use borrow.Author.Tests.{leb-true, leb-false, ltb-true, ltb-false}
-use Rattle.spellings.specs.Bytes.{isWord}
+use Rattle.spellings.specs.Bytes.{isLetter, isDigit, isWordByte, isSeparator, isSymbol, longestRun, isWord}
 use Rattle.spellings.proofs.BytesLaws.{by-test}
-use Rattle.kinds.specs.Kinds.{wordKind}
+use Rattle.kinds.specs.Kinds.{wordKind, noKind}
 use Rattle.answers.specs.declared.Refusal.{Refusal}
 use Rattle.answers.specs.Refusals.{refusal}
 use Rattle.grammar.specs.Table.{Lexicon}
+use Rattle.grammar.specs.Limits.{most}
 use Rattle.tokens.specs.declared.Token.{Token}
 use Rattle.tokens.specs.declared.Scanned.the-variants.{Tokens, Unscanned}
-use Rattle.tokens.specs.Scan.{spellingOf, scan}
+use Rattle.tokens.specs.Scan.{Separator, Symbol, Fault, wordLexeme, numberLexeme, lexemeOf, spellingOf, scan}
 use Rattle.tokens.specs.Tokens.{endToken, mostTokens, longestFormula, spelled}
 use Rattle.tokens.specs.Tiling.{bytesOf, Tiled}
 use Rattle.tokens.specs.Unscanned.{Unscans}
+use Rattle.tokens.proofs.LexemeLaws.{lexeme-is}
+use Rattle.tokens.proofs.VariableLaws.{no-variables}
 use Rattle.tokens.proofs.LexLaws.{scan-long}
 use Rattle.tokens.proofs.TilingLaws.{scan-tiled, scan-counted}
 use Rattle.tokens.proofs.FollowLaws.{tiled-scanned, answer-unscans, unscans-answer}
+use Rattle.tokens.proofs.FormulaKinds.{scan-kinds}
 use Rattle.tokens.proofs.SpellingLaws.{Spelled, every-at, scan-spelled, spelled-number}
 
 -- token i; past the last there is one of no kind
@@ -96,3 +100,30 @@ module _ (lex : Lexicon) (few : length (lex .outsides) ≤ 64) (formula : List �
     λ e.
         word-at place ki .numbered ∙ ap (spellingOf lex (scan lex formula .words)) e ∙ sym (word-at other kj .numbered),
   )
+
+-- Where there are no variables, as in a formula, the lexeme at the front is told by document 01 alone.
+pub formula-lexeme : (rest : List ℕ)
+    → lexemeOf 0 rest
+    ≡ elim (isSeparator (getD rest 0 0)) [
+      | true ↦ Separator
+      | false ↦
+          elim (isLetter (getD rest 0 0)) [
+            | true ↦ wordLexeme (length (longestRun isWordByte rest))
+            | false ↦
+                elim (isDigit (getD rest 0 0))
+                [ true ↦ numberLexeme (longestRun isDigit rest) | false ↦ elim (isSymbol (getD rest 0 0)) [ true ↦ Symbol | false ↦ Fault ] ]
+          ]
+    ]
+formula-lexeme rest = lexeme-is 0 rest _ _ _ false _ refl refl refl refl (no-variables rest) refl
+
+-- No token of a formula is a variable: its kind is one of a set, or the one that is in no set.
+pub formula-kinds : (lex : Lexicon) → length (lex .outsides) ≤ 64 → length (lex .keywords) ≤ most .keywords → lex .variables ≡ [] → (formula : List ℕ)
+    (place : ℕ)
+    → tokenAt (scan lex formula .tokens) place .kind ≤ noKind
+formula-kinds lex few keywords none formula place =
+    by-test (ltb place (length (scan lex formula .tokens)))
+    (λ e. every-at _ (scan lex formula .tokens) place _ (scan-kinds lex few keywords none formula) (ltb-true place _ e))
+    (λ e.
+    let z : tokenAt (scan lex formula .tokens) place ≡ endToken
+    = List·getD-eq-default (scan lex formula .tokens) endToken (ltb-false place _ e) in
+    omega (arith, ap (λ (t : Token). t .kind) z))

@@ -18,7 +18,8 @@ use Rattle.grammar.proofs.LookupLaws.{found-within, found-spells}
 use Rattle.kinds.specs.Kinds.{wordKind}
 use Rattle.tokens.specs.declared.Token.{Token}
 use Rattle.tokens.specs.Scan.{Lexed, isNew, wordsWith, spellingOf, scan}
-use Rattle.tokens.specs.Tiling.{WordFront, Stands, a-keyword, a-keyword-symbol, an-outside-name, a-word-again, a-new-word, a-number, a-symbol, bytesOf}
+use Rattle.tokens.specs.Tiling.{WordFront, bytesOf}
+use Rattle.tokens.specs.Tiling.{Stands, a-keyword, a-keyword-symbol, an-outside-name, a-word-again, a-new-word, a-number, a-symbol, a-variable}
 use Rattle.tokens.specs.Tokens.{spelled}
 use Rattle.tokens.proofs.LexemeLaws.{spelling-found}
 use Rattle.tokens.proofs.WordLaws.{with-new, with-old}
@@ -49,6 +50,7 @@ stands-word (a-word-again w n o f) e = rw (word-taken w) (front-word w)
 stands-word (a-new-word w n o f) e = rw (word-taken w) (front-word w)
 stands-word (a-number d) e = absurd (omega (arith, e))
 stands-word (a-symbol y n) e = absurd (omega (arith, e))
+stands-word (a-variable f) e = absurd (omega (arith, e))
 
 -- ------------------------------------------------------------------ spelling numbers
 

@@ -14,17 +14,20 @@ use Rattle.grammar.specs.Table.{Lexicon}
 use Rattle.grammar.specs.Found.{foundIn}
 use Rattle.kinds.specs.Kinds.{wordKind, numberKind, keywordKind, noKind}
 use Rattle.tokens.specs.declared.Token.{Token}
-use Rattle.tokens.specs.Scan.{Lexeme, Separator, Word, Number, Symbol, Fault, lexemeOf, kindOf, spellingOf, spelledToken, wordsWith, stepBy, stepOf}
+use Rattle.tokens.specs.Variables.{dollarDigits, variableToken}
+use Rattle.tokens.specs.Scan.{Lexeme, Separator, Word, Number, Variable, Symbol, Fault}
+use Rattle.tokens.specs.Scan.{lexemeOf, kindOf, spellingOf, spelledToken, wordsWith, stepBy, stepOf}
 use Rattle.tokens.specs.declared.Step.{Step}
 use Rattle.tokens.specs.declared.Step.the-variants.{Skip, Stop, Emit}
 use Rattle.tokens.specs.Tokens.{token}
 use Rattle.tokens.specs.Tiling.{WordFront, NumberFront, SymbolFront, FirstAt, NotIn}
-use Rattle.tokens.specs.Tiling.{Stands, a-keyword, a-keyword-symbol, an-outside-name, a-word-again, a-new-word, a-number, a-symbol}
+use Rattle.tokens.specs.Tiling.{Stands, a-keyword, a-keyword-symbol, an-outside-name, a-word-again, a-new-word, a-number, a-symbol, a-variable}
 use Rattle.tokens.specs.Unscanned.{Faulty}
 use Rattle.tokens.proofs.FoundLaws.{first-index, none-index, first-found, none-found, found-by}
 use Rattle.tokens.proofs.LexemeLaws.{kind-found, spelling-found}
 use Rattle.tokens.proofs.WordLaws.{with-new, with-old}
-use Rattle.tokens.proofs.FrontLaws.{lexeme-word, lexeme-number, lexeme-symbol}
+use Rattle.tokens.proofs.VariableLaws as variables
+use Rattle.tokens.proofs.FrontLaws.{lexeme-word, lexeme-number, lexeme-symbol, lexeme-variable}
 use Rattle.tokens.proofs.StepLaws.{Fits, lexeme-fits, step-by, token-word, token-other}
 
 -- ------------------------------------------------------------------ the words after a token
@@ -148,7 +151,7 @@ module _ (lex : Lexicon) (few : length (lex .outsides) ≤ 64) (met : List (List
           stands-made (a-keyword w f) (makes-keyword lex few met at spelling wordKind f)
       by-keyword Absent e = by-outside (found-by spelling (lex .keywords) Absent e) (foundIn spelling (lex .outsides)) refl
 
-  symbol-stands : SymbolFront rest spelling
+  symbol-stands : SymbolFront (length (lex .variables)) rest spelling
       → Stands lex at rest met (made lex few met at spelling noKind) (wordsWith met spelling (made lex few met at spelling noKind))
   symbol-stands y = by-keyword (foundIn spelling (lex .keywords)) refl
     where
@@ -194,7 +197,7 @@ one-byte [] h = absurd (omega arith)
 one-byte (b ∷ bs) h = refl
 
 module _ (lex : Lexicon) (few : length (lex .outsides) ≤ 64) (words : List (List ℕ)) (at : ℕ) (rest : List ℕ) where
-  told-by : (lexeme : Lexeme) → 0 < length rest → Fits rest lexeme → Told lex words at rest (stepBy lex words at rest lexeme)
+  told-by : (lexeme : Lexeme) → 0 < length rest → Fits (length (lex .variables)) rest lexeme → Told lex words at rest (stepBy lex words at rest lexeme)
   unfolding made
   told-by Separator h f = f
   told-by (Word n) h f =
@@ -219,10 +222,20 @@ module _ (lex : Lexicon) (few : length (lex .outsides) ≤ 64) (words : List (Li
             rw (with-other words (take n rest) (token numberKind at n v) none, f .1, f .2) (a-number s);
         valued = λ e. absurd (none e);
       }
-  told-by Symbol h f =
+  told-by Variable h f =
+      let t : Token = variableToken (lex .variables) at (dollarDigits rest) in
+      let none : t .kind ≡ wordKind → ⊥ = λ e. omega (arith, e) in
       record {
         placed = refl;
-        stands = rw (take-again 1 rest) (symbol-stands lex few words at rest (take 1 rest) (record { begins = f; whole = one-byte rest h }));
+        stands = rw (with-other words (take (t .size) rest) t none) (a-variable (variables.variable-front f));
+        valued = λ e. absurd (none e);
+      }
+  told-by Symbol h f =
+      let y : SymbolFront (length (lex .variables)) rest (take 1 rest)
+      = record { begins = f .1; unnamed = variables.none-stands (f .0); whole = one-byte rest h } in
+      record {
+        placed = refl;
+        stands = rw (take-again 1 rest) (symbol-stands lex few words at rest (take 1 rest) y);
         valued = told-spelled lex words at rest 1 (kindOf lex (take 1 rest) noKind) h;
       }
   told-by Fault h f = f
@@ -230,8 +243,9 @@ module _ (lex : Lexicon) (few : length (lex .outsides) ≤ 64) (words : List (Li
   -- the definition's step tells it
   pub step-told : (step : Step) → 0 < length rest → step ≡ stepOf lex words at rest → Told lex words at rest step
   step-told step h e =
+      let count : ℕ = length (lex .variables) in
       subst (Told lex words at rest) (step-by lex words at rest refl ∙ sym e)
-      (told-by (lexemeOf rest) h (lexeme-fits rest (lexemeOf rest) refl))
+      (told-by (lexemeOf count rest) h (lexeme-fits count rest (lexemeOf count rest) refl))
 
 -- ------------------------------------------------------------------ from the rules to a step
 
@@ -249,7 +263,7 @@ module _ {lex : Lexicon} (few : length (lex .outsides) ≤ 64) {at : ℕ} {rest 
   unfolding made
   word-steps {spelling} {read-token} w z m =
       let e : take (length (longestRun isWordByte rest)) rest ≡ spelling = sym (run-prefix isWordByte rest) ∙ sym (w .whole) in
-      let l = lexeme-word rest (w .begins) (omega (arith, w .short, ap length (w .whole))) in
+      let l = lexeme-word _ rest (w .begins) (omega (arith, w .short, ap length (w .whole))) in
       record {
         emits =
             ap Emit (cc (m .token-is))
@@ -257,7 +271,7 @@ module _ {lex : Lexicon} (few : length (lex .outsides) ≤ 64) {at : ℕ} {rest 
         words = cc (word-taken w, m .words-are);
       }
 
-  symbol-steps : {spelling : List ℕ} {read-token : Token} {met′ : List (List ℕ)} → 0 < length rest → SymbolFront rest spelling
+  symbol-steps : {spelling : List ℕ} {read-token : Token} {met′ : List (List ℕ)} → 0 < length rest → SymbolFront (length (lex .variables)) rest spelling
       → read-token .size ≡ length spelling → Makes (made lex few met at spelling noKind) met spelling read-token met′
       → Steps lex met at rest read-token met′
   unfolding made
@@ -267,7 +281,7 @@ module _ {lex : Lexicon} (few : length (lex .outsides) ≤ 64) {at : ℕ} {rest 
       record {
         emits =
             ap Emit (cc (m .token-is))
-            ∙ step-by lex met at rest (lexeme-symbol rest (y .begins));
+            ∙ step-by lex met at rest (lexeme-symbol _ rest (variables.none-found (y .unnamed)) (y .begins));
         words = cc (m .words-are);
       }
 
@@ -280,9 +294,14 @@ module _ {lex : Lexicon} (few : length (lex .outsides) ≤ 64) {at : ℕ} {rest 
   stands-steps h (a-word-again {s = s} w n o f) = word-steps w refl (makes-again lex few met at s wordKind refl n o f)
   stands-steps h (a-new-word {s = s} w n o f) = word-steps w refl (makes-new lex few met at s wordKind refl n o f)
   stands-steps h (a-number {s = s} d) =
-      let l = lexeme-number rest (d .begins) (omega (arith, d .small, ap valueOf (d .whole))) in
+      let l = lexeme-number _ rest (d .begins) (omega (arith, d .small, ap valueOf (d .whole))) in
       record {
         emits = rw (← d .whole) at (step-by lex met at rest l);
         words = with-other met (take (length s) rest) _ (λ e. omega (arith, e));
       }
   stands-steps h (a-symbol {s = s} y n) = symbol-steps h y refl (makes-symbol lex few met at s noKind (λ z. omega (arith, z)) n)
+  stands-steps h (a-variable {s = s} f) =
+      record {
+        emits = rw (← f .front .whole) at (step-by lex met at rest (lexeme-variable _ rest f));
+        words = with-other met _ (variableToken (lex .variables) at s) (λ e. omega (arith, e));
+      }

@@ -14,7 +14,8 @@ use Rattle.spellings.proofs.BytesLaws.{run-taken, run-length, letter-word-byte}
 use Rattle.grammar.specs.Table.{Lexicon}
 use Rattle.kinds.specs.Kinds.{wordKind, noKind}
 use Rattle.tokens.specs.declared.Token.{Token}
-use Rattle.tokens.specs.Scan.{Lexeme, Separator, Word, Number, Symbol, Fault}
+use Rattle.tokens.specs.Variables.{isVariable}
+use Rattle.tokens.specs.Scan.{Lexeme, Separator, Word, Number, Variable, Symbol, Fault}
 use Rattle.tokens.specs.declared.Step.{Step}
 use Rattle.tokens.specs.declared.Step.the-variants.{Skip, Stop, Emit}
 use Rattle.tokens.specs.Scan.{wordLexeme, numberLexeme, lexemeOf, kindOf, spellingOf, spelledToken, stepBy, stepOf}
@@ -24,33 +25,34 @@ use Rattle.tokens.proofs.LexemeLaws as lexemes
 
 -- ------------------------------------------------------------------ the lexeme at the front
 
--- what a lexeme says of the bytes at the front
-abbrev pub Fits : List ℕ → Lexeme → Type 0
-Fits rest Separator = isSeparator (getD rest 0 0) ≡ true
-Fits rest (Word n) = (isLetter (getD rest 0 0) ≡ true) × (n ≡ length (longestRun isWordByte rest)) × (n ≤ 31)
-Fits rest (Number n v) =
+-- what a lexeme says of the bytes at the front, where there are `count` variables
+abbrev pub Fits : ℕ → List ℕ → Lexeme → Type 0
+Fits count rest Separator = isSeparator (getD rest 0 0) ≡ true
+Fits count rest (Word n) = (isLetter (getD rest 0 0) ≡ true) × (n ≡ length (longestRun isWordByte rest)) × (n ≤ 31)
+Fits count rest (Number n v) =
     (isDigit (getD rest 0 0) ≡ true) × (n ≡ length (longestRun isDigit rest)) × (v ≡ valueOf (longestRun isDigit rest)) × (v ≤ largest)
-Fits rest Symbol = isSymbol (getD rest 0 0) ≡ true
-Fits rest Fault = Faulty rest
+Fits count rest Variable = isVariable count rest ≡ true
+Fits count rest Symbol = (isVariable count rest ≡ false) × (isSymbol (getD rest 0 0) ≡ true)
+Fits count rest Fault = Faulty rest
 
-word-fits : (rest : List ℕ) (test : Bool) → isLetter (getD rest 0 0) ≡ true → leb (length (longestRun isWordByte rest)) 31 ≡ test
-    → Fits rest (wordLexeme (length (longestRun isWordByte rest)))
-word-fits rest true l e =
+word-fits : (count : ℕ) (rest : List ℕ) (test : Bool) → isLetter (getD rest 0 0) ≡ true → leb (length (longestRun isWordByte rest)) 31 ≡ test
+    → Fits count rest (wordLexeme (length (longestRun isWordByte rest)))
+word-fits count rest true l e =
     let h : length (longestRun isWordByte rest) ≤ 31 = leb-true (length (longestRun isWordByte rest)) 31 e in
-    subst (Fits rest) (sym (lexemes.word-fits (length (longestRun isWordByte rest)) h)) (l, refl, h)
-word-fits rest false l e =
+    subst (Fits count rest) (sym (lexemes.word-fits (length (longestRun isWordByte rest)) h)) (l, refl, h)
+word-fits count rest false l e =
     let z : wordLexeme (length (longestRun isWordByte rest)) ≡ Fault = rw (e, wordLexeme) refl in
-    subst (Fits rest) (sym z) (long-word l (leb-false (length (longestRun isWordByte rest)) 31 e))
+    subst (Fits count rest) (sym z) (long-word l (leb-false (length (longestRun isWordByte rest)) 31 e))
 
-number-fits : (rest : List ℕ) (test : Bool) → isDigit (getD rest 0 0) ≡ true → leb (valueOf (longestRun isDigit rest)) largest ≡ test
-    → Fits rest (numberLexeme (longestRun isDigit rest))
-number-fits rest true d e =
+number-fits : (count : ℕ) (rest : List ℕ) (test : Bool) → isDigit (getD rest 0 0) ≡ true → leb (valueOf (longestRun isDigit rest)) largest ≡ test
+    → Fits count rest (numberLexeme (longestRun isDigit rest))
+number-fits count rest true d e =
     let z : numberLexeme (longestRun isDigit rest) ≡ Number (length (longestRun isDigit rest)) (valueOf (longestRun isDigit rest))
     = rw (e, numberLexeme) refl in
-    subst (Fits rest) (sym z) (d, refl, refl, leb-true (valueOf (longestRun isDigit rest)) largest e)
-number-fits rest false d e =
+    subst (Fits count rest) (sym z) (d, refl, refl, leb-true (valueOf (longestRun isDigit rest)) largest e)
+number-fits count rest false d e =
     let z : numberLexeme (longestRun isDigit rest) ≡ Fault = rw (e, numberLexeme) refl in
-    subst (Fits rest) (sym z) (large-number d (leb-false (valueOf (longestRun isDigit rest)) largest e))
+    subst (Fits count rest) (sym z) (large-number d (leb-false (valueOf (longestRun isDigit rest)) largest e))
 
 -- a byte that may be in a formula and is neither a letter nor a digit is a symbol
 pub no-symbol : (byte : ℕ) → isLetter byte ≡ false → isDigit byte ≡ false → isSymbol byte ≡ false → 33 ≤ byte → byte ≤ 126 → ⊥
@@ -59,24 +61,26 @@ no-symbol byte l d y low high =
     let z : _≡_ {A = ℕ} 0 1 = cc in
     omega arith
 
-fits-by : (rest : List ℕ) (separator letter digit symbol : Bool) → isSeparator (getD rest 0 0) ≡ separator
-    → isLetter (getD rest 0 0) ≡ letter → isDigit (getD rest 0 0) ≡ digit → isSymbol (getD rest 0 0) ≡ symbol
-    → Fits rest (lexemeOf rest)
-fits-by rest true letter digit symbol s l d y =
-    subst (Fits rest) (sym (lexemes.lexeme-is rest true letter digit symbol refl s l d y)) s
-fits-by rest false true digit symbol s l d y =
-    subst (Fits rest) (sym (lexemes.lexeme-is rest false true digit symbol refl s l d y)) (word-fits rest _ l refl)
-fits-by rest false false true symbol s l d y =
-    subst (Fits rest) (sym (lexemes.lexeme-is rest false false true symbol refl s l d y)) (number-fits rest _ d refl)
-fits-by rest false false false true s l d y =
-    subst (Fits rest) (sym (lexemes.lexeme-is rest false false false true refl s l d y)) y
-fits-by rest false false false false s l d y =
-    subst (Fits rest) (sym (lexemes.lexeme-is rest false false false false refl s l d y))
+fits-by : (count : ℕ) (rest : List ℕ) (separator letter digit variable symbol : Bool) → isSeparator (getD rest 0 0) ≡ separator
+    → isLetter (getD rest 0 0) ≡ letter → isDigit (getD rest 0 0) ≡ digit → isVariable count rest ≡ variable → isSymbol (getD rest 0 0) ≡ symbol
+    → Fits count rest (lexemeOf count rest)
+fits-by count rest true letter digit variable symbol s l d v y =
+    subst (Fits count rest) (sym (lexemes.lexeme-is count rest true letter digit variable symbol refl s l d v y)) s
+fits-by count rest false true digit variable symbol s l d v y =
+    subst (Fits count rest) (sym (lexemes.lexeme-is count rest false true digit variable symbol refl s l d v y)) (word-fits count rest _ l refl)
+fits-by count rest false false true variable symbol s l d v y =
+    subst (Fits count rest) (sym (lexemes.lexeme-is count rest false false true variable symbol refl s l d v y)) (number-fits count rest _ d refl)
+fits-by count rest false false false true symbol s l d v y =
+    subst (Fits count rest) (sym (lexemes.lexeme-is count rest false false false true symbol refl s l d v y)) v
+fits-by count rest false false false false true s l d v y =
+    subst (Fits count rest) (sym (lexemes.lexeme-is count rest false false false false true refl s l d v y)) (v, y)
+fits-by count rest false false false false false s l d v y =
+    subst (Fits count rest) (sym (lexemes.lexeme-is count rest false false false false false refl s l d v y))
     (bad-byte s (no-symbol (getD rest 0 0) l d y))
 
 -- the lexeme at the front is so by its bytes
-pub lexeme-fits : (rest : List ℕ) (lexeme : Lexeme) → lexeme ≡ lexemeOf rest → Fits rest lexeme
-lexeme-fits rest lexeme e = subst (Fits rest) (sym e) (fits-by rest _ _ _ _ refl refl refl refl)
+pub lexeme-fits : (count : ℕ) (rest : List ℕ) (lexeme : Lexeme) → lexeme ≡ lexemeOf count rest → Fits count rest lexeme
+lexeme-fits count rest lexeme e = subst (Fits count rest) (sym e) (fits-by count rest _ _ _ _ _ refl refl refl refl refl)
 
 -- a run that begins has a byte
 pub run-some : (test : ℕ → Bool) (spelling : List ℕ) → 0 < length spelling → test (getD spelling 0 0) ≡ true → 0 < length (longestRun test spelling)
@@ -91,7 +95,7 @@ Lies at rest Skip = Unit {0}
 Lies at rest Stop = Unit {0}
 Lies at rest (Emit t) = (t .at ≡ at) × (0 < t .size) × (t .size ≤ length rest)
 
-lies-by : (lex : Lexicon) (words : List (List ℕ)) (at : ℕ) (rest : List ℕ) (lexeme : Lexeme) → 0 < length rest → Fits rest lexeme
+lies-by : (lex : Lexicon) (words : List (List ℕ)) (at : ℕ) (rest : List ℕ) (lexeme : Lexeme) → 0 < length rest → Fits (length (lex .variables)) rest lexeme
     → Lies at rest (stepBy lex words at rest lexeme)
 lies-by lex words at rest Separator h f = tt
 lies-by lex words at rest (Word n) h f =
@@ -100,11 +104,13 @@ lies-by lex words at rest (Word n) h f =
 lies-by lex words at rest (Number n v) h f =
     let some : 0 < length (longestRun isDigit rest) = run-some isDigit rest h (f .0) in
     (refl, omega arith, omega (arith, run-length isDigit rest))
+lies-by lex words at rest Variable h f =
+    (refl, omega arith, omega (arith, run-length isDigit (drop 1 rest), length-drop 1 rest))
 lies-by lex words at rest Symbol h f = (refl, omega (arith, length-take 1 rest), omega (arith, length-take 1 rest))
 lies-by lex words at rest Fault h f = tt
 
 -- the step is the one for the lexeme at the front
-pub step-by : (lex : Lexicon) (words : List (List ℕ)) (at : ℕ) (rest : List ℕ) {lexeme : Lexeme} → lexeme ≡ lexemeOf rest
+pub step-by : (lex : Lexicon) (words : List (List ℕ)) (at : ℕ) (rest : List ℕ) {lexeme : Lexeme} → lexeme ≡ lexemeOf (length (lex .variables)) rest
     → stepBy lex words at rest lexeme ≡ stepOf lex words at rest
 unfolding stepOf
 step-by lex words at rest e = ap (stepBy lex words at rest) e
@@ -114,8 +120,9 @@ pub step-lies : (lex : Lexicon) (words : List (List ℕ)) (at : ℕ) (rest : Lis
     → step ≡ stepOf lex words at rest
     → Lies at rest step
 step-lies lex words at rest step h e =
+    let count : ℕ = length (lex .variables) in
     subst (Lies at rest) (step-by lex words at rest refl ∙ sym e)
-    (lies-by lex words at rest (lexemeOf rest) h (lexeme-fits rest (lexemeOf rest) refl))
+    (lies-by lex words at rest (lexemeOf count rest) h (lexeme-fits count rest (lexemeOf count rest) refl))
 
 -- ------------------------------------------------------------------ the steps as the code takes them
 

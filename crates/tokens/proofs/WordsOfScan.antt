@@ -13,7 +13,7 @@ use Rattle.spellings.proofs.BytesLaws.{by-test}
 use Rattle.grammar.specs.Table.{Lexicon}
 use Rattle.tokens.specs.declared.Token.{Token}
 use Rattle.tokens.specs.Scan.{Lexed, scan}
-use Rattle.tokens.specs.Tiling.{NotIn, Stands, a-keyword, a-keyword-symbol, an-outside-name, a-word-again, a-new-word, a-number, a-symbol}
+use Rattle.tokens.specs.Tiling.{NotIn, Stands, a-keyword, a-keyword-symbol, an-outside-name, a-word-again, a-new-word, a-number, a-symbol, a-variable}
 use Rattle.tokens.proofs.TokenLaws.{Kept, scan-kept}
 use Rattle.tokens.proofs.SpellingLaws.{front-word}
 
@@ -83,6 +83,7 @@ stands-plain (a-word-again w n o f) p = p
 stands-plain (a-new-word w n o f) p = one-word-more p (front-word w) n o f
 stands-plain (a-number d) p = p
 stands-plain (a-symbol y n) p = p
+stands-plain (a-variable f) p = p
 
 module _ (lex : Lexicon) (few : length (lex .outsides) ≤ 64) (formula : List ℕ) where
   PlainFrom : ℕ → ℕ → List (List ℕ) → Lexed → Type 0

@@ -1,4 +1,5 @@
 pub mod Tokens
+pub mod Variables
 pub mod Scan
 pub mod Tiling
 pub mod Unscanned

@@ -1,8 +1,6 @@
--- Scanning: from the bytes of a formula to its tokens, with refusals 14, 15 and 16.
--- Document 01, "Formula".
+-- Scanning: from the bytes of a formula to its tokens, with refusals 14, 15 and 16. Document 01, "Formula"; 02, C-14, for `$` variables.
 use Prim.Native.Nat.{ℕ, zero, suc, _+_}
-use mathlib.Core.Bool.{Bool, true, false, _&&_}
-use mathlib.Core.List.{List, [], _∷_, _++_}
+use mathlib.Core.{Bool.Bool, Bool.true, Bool.false, Bool._&&_, List.List, List.[], List._∷_, List._++_}
 use lib.{Dec.eqb, Dec.leb, Dec.ltb, ListN.length, ListN.getD, ListN.take, ListN.drop}
 use Rattle.tokens.specs.declared.Token.{Token}
 use Rattle.tokens.specs.declared.Step.{Step, the-variants.Skip, the-variants.Stop, the-variants.Emit}
@@ -15,14 +13,16 @@ use Rattle.grammar.specs.Limits.{most}
 use Rattle.grammar.specs.Table.{Lexicon}
 use Rattle.grammar.specs.Found.{foundIn}
 use Rattle.tokens.specs.Tokens.{token, mostTokens, longestFormula}
+use Rattle.tokens.specs.Variables.{isVariable, dollarDigits, variableToken}
 
 -- ------------------------------------------------------------------ the lexeme at the front
 
--- what stands at the front of a run of bytes: a separator, a word or a number (with its length), one symbol byte, or a fault
+-- what stands at the front of a run of bytes: a separator, a word or a number (with its length), a variable, one symbol byte, or a fault
 pub data Lexeme : Type 0 where
   Separator : Lexeme
   Word : ℕ → Lexeme
   Number : ℕ → ℕ → Lexeme
+  Variable : Lexeme
   Symbol : Lexeme
   Fault : Lexeme
 
@@ -34,22 +34,21 @@ wordLexeme n = elim (leb n longestWord) [ true ↦ Word n | false ↦ Fault ]
 abbrev pub numberLexeme : List ℕ → Lexeme
 numberLexeme ds = elim (isNumber ds) [ true ↦ Number (length ds) (valueOf ds) | false ↦ Fault ]
 
--- the longest lexeme at the front of what is left of the formula, by its first byte b
-abbrev pub lexemeBy : ℕ → List ℕ → Lexeme
-lexemeBy b rest =
-    elim (isSeparator b) [
+-- a byte that is no separator, letter or digit: it may begin one of `count` variables, also where `$` is a keyword
+abbrev pub markLexeme : ℕ → List ℕ → Lexeme
+markLexeme count rest = elim (isVariable count rest) [ true ↦ Variable | false ↦ elim (isSymbol (getD rest 0 0)) [ true ↦ Symbol | false ↦ Fault ] ]
+
+-- the longest lexeme at the front of what is left of the formula, where there are `count` variables
+unfoldable pub lexemeOf : ℕ → List ℕ → Lexeme
+lexemeOf count rest =
+    elim (isSeparator (getD rest 0 0)) [
       | true ↦ Separator
       | false ↦
-          elim (isLetter b) [
+          elim (isLetter (getD rest 0 0)) [
             | true ↦ wordLexeme (length (longestRun isWordByte rest))
-            | false ↦
-                elim (isDigit b)
-                [ true ↦ numberLexeme (longestRun isDigit rest) | false ↦ elim (isSymbol b) [ true ↦ Symbol | false ↦ Fault ] ]
+            | false ↦ elim (isDigit (getD rest 0 0)) [ true ↦ numberLexeme (longestRun isDigit rest) | false ↦ markLexeme count rest ]
           ]
     ]
-
-unfoldable pub lexemeOf : List ℕ → Lexeme
-lexemeOf rest = lexemeBy (getD rest 0 0) rest
 
 -- ------------------------------------------------------------------ keywords and spelling numbers
 
@@ -78,11 +77,12 @@ abbrev pub stepBy : Lexicon → List (List ℕ) → ℕ → List ℕ → Lexeme 
 stepBy lex words at rest Separator = Skip
 stepBy lex words at rest (Word n) = Emit (spelledToken lex words at (take n rest) (kindOf lex (take n rest) wordKind))
 stepBy lex words at rest (Number n v) = Emit (token numberKind at n v)
+stepBy lex words at rest Variable = Emit (variableToken (lex .variables) at (dollarDigits rest))
 stepBy lex words at rest Symbol = Emit (spelledToken lex words at (take 1 rest) (kindOf lex (take 1 rest) noKind))
 stepBy lex words at rest Fault = Stop
 
 unfoldable pub stepOf : Lexicon → List (List ℕ) → ℕ → List ℕ → Step
-stepOf lex words at rest = stepBy lex words at rest (lexemeOf rest)
+stepOf lex words at rest = stepBy lex words at rest (lexemeOf (length (lex .variables)) rest)
 
 -- a token is a word not met before: its spelling number is the next one after those of `count` words
 abbrev pub isNew : ℕ → Token → Bool

@@ -2,7 +2,7 @@
 -- reachable expand as before".
 use Prim.Native.Nat.{ℕ}
 use mathlib.Core.Bool.{true, false}
-use mathlib.Core.List.{List}
+use mathlib.Core.List.{List, []}
 use Rattle.answers.specs.Checked.{Checked, ok, bad, _>>=_, _>>_}
 use Rattle.answers.specs.Refusals.{refusal}
 use Rattle.grammar.specs.Table.{Table, Lexicon}
@@ -17,7 +17,7 @@ use Rattle.meaning.specs.Expand.{Expanded, refused, checkedFirst}
 
 -- every keyword has its spelling
 abbrev pub everyKeyword : Table → Lexicon
-everyKeyword t = record { keywords = t .keywords; outsides = t .outsides }
+everyKeyword t = record { keywords = t .keywords; outsides = t .outsides; variables = [] }
 
 -- what an expansion needs of a table, with these
 abbrev pub syntaxEvery : Table → Syntax

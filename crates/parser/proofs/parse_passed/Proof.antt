@@ -33,7 +33,7 @@ claims = (
 -- the formula has been scanned
 module _ (point : lts.After-scan claims reads.Pre reads.Post) where
   abbrev kinds-known : lts.After-reached claims reads.Pre reads.Post
-  kinds-known = point .before .before .before
+  kinds-known = point .before .before .before .before
 
   abbrev third : lts.After-slice-known2 claims reads.Pre reads.Post
   third = kinds-known .before .before
@@ -48,16 +48,16 @@ module _ (point : lts.After-scan claims reads.Pre reads.Post) where
   bytes i = omega (arith, first .shared-slice-known .given i)
 
   -- its tokens fit
-  fits : {many count : ℕ} → point .scan .result ≡ Tokens many count → TokensFit (point .scan .last .1 .1 .1 .0) many
+  fits : {many count : ℕ} → point .scan .result ≡ Tokens many count → TokensFit (point .scan .last .1 .1 .1 .1 .0) many
   fits e =
       joining.scan-fills bytes (entry .pre .checked .passes) (entry .pre .checked .ready .held .grammar) (kinds-known .reached .ensures) _ _ _
       (point .scan .ensures .fills) (entry .pre .rooms) e .tokens-fit
 
 scan-requires : tie.Need-scan-requires
 scan-requires c κs =
-    let known = c .before .before in
+    let known = c .before .before .before in
     let pre = known .before .before .before .before .before .before .pre in
-    record { short = omega (arith, pre .checked .ready .held .grammar .small); room = pre .rooms }
+    record { short = omega (arith, pre .checked .ready .held .grammar .small); few = omega arith; room = pre .rooms }
 
 -- there are tokens
 abbrev scanned : lts.After-known-told2 claims reads.Pre reads.Post → lts.After-scan claims reads.Pre reads.Post
@@ -100,6 +100,7 @@ parse-passed-spec =
     tie.close
     (tie.spec
     (λ c κs. search needs)
+    (λ c. search needs)
     scan-requires
     (λ c. search needs)
     (λ c κs. search needs)

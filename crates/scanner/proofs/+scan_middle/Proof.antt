@@ -13,14 +13,14 @@ use Rattle.scanner.proofs.scan_with.Reads as scan-with-reads
 use Rattle.scanner.proofs.+scan_middle.{statement}
 use Rattle.scanner.proofs.+scan_middle.Tie.{close}
 
-abbrev μ-scan-middle : Measures 4 kinds.ps ℕ
+abbrev μ-scan-middle : Measures 5 kinds.ps ℕ
 μ-scan-middle κs a = 0
 
-abbrev entered : ℕ → In 4 kinds.ps
-entered t = and 4 kinds.ps (is 4 kinds.ps μ-scan-middle t) reads.Pre
+abbrev entered : ℕ → In 5 kinds.ps
+entered t = and 5 kinds.ps (is 5 kinds.ps μ-scan-middle t) reads.Pre
 
-abbrev below : ℕ → In 4 kinds.ps
-below t = and 4 kinds.ps (falls 4 kinds.ps _<_ μ-scan-middle t) reads.Pre
+abbrev below : ℕ → In 5 kinds.ps
+below t = and 5 kinds.ps (falls 5 kinds.ps _<_ μ-scan-middle t) reads.Pre
 
 abbrev claims : ℕ → lts.Claims
 claims t = (below t, reads.Post, scan-with-reads.Asked, scan-with-reads.Learnt)

@@ -17,13 +17,13 @@ at-start p =
 seek-requires : tie.Need-seek-requires
 seek-requires c κs =
     let start = at-start c in
-    (rw (c .wide-number .ensures) (laws.lexical-planted (start .pre .0)), start .pre .1)
+    (rw (c .wide-number .ensures) (laws.lexical-planted (start .pre .0 .held)), start .pre .1)
 
 settle-requires : tie.Need-settle-requires
 settle-requires c κs =
     let read = c .before in
     let start = at-start read in
-    ((rw (read .wide-number .ensures) (laws.lexical-planted (start .pre .0)), start .pre .1), c .seek .ensures)
+    ((rw (read .wide-number .ensures) (laws.lexical-planted (start .pre .0 .held)), start .pre .1), c .seek .ensures)
 
 cast-k : tie.Need-cast-k
 cast-k c =
@@ -32,7 +32,7 @@ cast-k c =
     let start = at-start read in
     let found-there = found .settle .ensures in
     let counted = read .wide-number .ensures in
-    omega (arith, laws.node-fits (start .pre .0) (start .args .s .now) counted (found .settle .result) found-there (c .before .spot .given .1))
+    omega (arith, laws.node-fits (start .pre .0 .held) (start .args .s .now) counted (found .settle .result) found-there (c .before .spot .given .1))
 
 returns : tie.Need-returns
 returns c = search laws.node-keyword

@@ -9,7 +9,7 @@ use Rattle.scanner.proofs.scan.Statement.{statement}
 use Rattle.scanner.proofs.scan.Tie as tie
 
 returns : tie.Need-returns
-returns c = scans _ _ _ (too-long _ _ _ _ (c .unscanned .ensures) (c .before .if1 .taken))
+returns c = scans _ _ _ _ (too-long _ _ _ _ (c .unscanned .ensures) (c .before .if1 .taken))
 
 scan-with-requires : tie.Need-scan-with-requires
 scan-with-requires c κs = (search needs, scannable shortFormula (omega arith) (λ n a b. omega arith))

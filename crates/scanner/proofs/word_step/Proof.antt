@@ -34,7 +34,7 @@ add-emit c =
     let short = part .before in
     let read = short .before in
     let start = at-start read in
-    omega (arith, laws.keyword-small (start .pre .0 .lexical) (part .part .result .now) (named .class-of .ensures) (c .before .name .given .1))
+    omega (arith, laws.keyword-small (start .pre .0 .lexical .held) (part .part .result .now) (named .class-of .ensures) (c .before .name .given .1))
 
 own-word-requires : tie.Need-own-word-requires
 own-word-requires c κs =
@@ -57,7 +57,7 @@ returns-2 c =
     let start = at-start read in
     let asked = start .pre .1 in
     let here = laws.word-here (asked .0) (asked .2) (read .word-at .ensures) (short .if1 .left) (part .part .ensures) in
-    laws.keyword-made here (start .pre .0 .lexical .few-outsides) (named .class-of .ensures) (name-place .name .given .1) (c .emit .ensures)
+    laws.keyword-made here (start .pre .0 .lexical .held .few-outsides) (named .class-of .ensures) (name-place .name .given .1) (c .emit .ensures)
 
 returns-3 : tie.Need-returns-3
 returns-3 c =
@@ -69,7 +69,7 @@ returns-3 c =
     let start = at-start read in
     let asked = start .pre .1 in
     let here = laws.word-here (asked .0) (asked .2) (read .word-at .ensures) (short .if1 .left) (part .part .ensures) in
-    laws.outside-made here (start .pre .0 .lexical .few-outsides) (named .class-of .ensures) (name2-place .name2 .given .1) (c .emit2 .ensures)
+    laws.outside-made here (start .pre .0 .lexical .held .few-outsides) (named .class-of .ensures) (name2-place .name2 .given .1) (c .emit2 .ensures)
 
 returns-4 : tie.Need-returns-4
 returns-4 c =
@@ -80,7 +80,7 @@ returns-4 c =
     let start = at-start read in
     let asked = start .pre .1 in
     let here = laws.word-here (asked .0) (asked .2) (read .word-at .ensures) (short .if1 .left) (part .part .ensures) in
-    laws.other-made here (start .pre .0 .lexical .few-outsides) (named .class-of .ensures) (c .before .enum-told .given .1) (c .own-word .ensures)
+    laws.other-made here (start .pre .0 .lexical .held .few-outsides) (named .class-of .ensures) (c .before .enum-told .given .1) (c .own-word .ensures)
 
 -- the function meets its contract
 pub word-step-spec : {M : Type 1} → statement M
