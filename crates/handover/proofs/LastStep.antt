@@ -20,6 +20,7 @@ use Rattle.decoding.proofs.Split.{Bytes}
 use Rattle.tokens.specs.Scan.{Lexed, scan}
 use Rattle.tokens.specs.Tokens.{mostTokens, spelled}
 use Rattle.scanner.specs.Rooms.{RoomFor, wordPlaces, scanInto}
+use Rattle.tokens.proofs.ScannerTheorems as scanner
 use Rattle.scanner.proofs.AfterScan.{Holds, scan-holds}
 use Rattle.checker.specs.Syntax.{Syntax, syntaxOf}
 use Rattle.checker.specs.Passes.{Passes}
@@ -96,7 +97,7 @@ module _ {bs : List ℕ} (bytes : Bytes bs) (passes : Passes bs) {formula tokens
         spell = spell;
         tokens = lexed .tokens;
         small = expansion.scanned-is-small lex few formula;
-        formula = expansion.scanned-is-formula lex few (few-keywords (passes .table) (passes .within)) formula;
+        formula = scanner.formula-kinds lex few (few-keywords (passes .table) (passes .within)) refl formula;
       }
 
   derived : Figure3.Parses (syntax .productions) spell (syntax .root) (lexed .tokens) (termAt (state .made) spell cells′ row)

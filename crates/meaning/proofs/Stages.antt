@@ -170,7 +170,7 @@ module _ (table : Table) (passing : Passing table) (formula : List ℕ) where
           spell = spellOf syntax ws;
           tokens = ts;
           small = rw (scanned-as scans) at (expansion.scanned-is-small lex few formula);
-          formula = rw (scanned-as scans) at (expansion.scanned-is-formula lex few (few-keywords table (passing .within)) formula);
+          formula = rw (scanned-as scans) at (scanner.formula-kinds lex few (few-keywords table (passing .within)) refl formula);
         }
 
     -- A word's number is that of its spelling.

@@ -36,7 +36,7 @@ use Rattle.expansion.specs.ValueSorts.{Typed, typed-term, Matches, matches-none
 use Rattle.expansion.specs.Costs.{rowsIn, Affords}
 use Rattle.soundness.specs.Stopping.{Left, Refuses}
 use Rattle.soundness.specs.Places.{givenIn, Supplied, Placed}
-use Rattle.expansion.specs.Parsing.{Runs, SmallWords, FormulaKinds}
+use Rattle.expansion.specs.Parsing.{Runs, SmallWords}
 use Rattle.expansion.proofs.Unique.{parses-one}
 use Rattle.soundness.specs.Passing.{Passing, Lexemes}
 use Rattle.soundness.proofs.Typing.{give-all-exist, items-typed, items-give, body-of, taken-of}
@@ -49,16 +49,11 @@ use Rattle.soundness.proofs.Complete.{accepts, accepted}
 use Rattle.soundness.proofs.StopSound.{run-halts}
 use Rattle.soundness.proofs.StopComplete.{refuses-halts}
 use Rattle.soundness.proofs.Placing.{parses-placed, parses-supplied, placed-worded}
-use Rattle.soundness.proofs.Scanned.{scanned-small, scanned-kinds}
+use Rattle.soundness.proofs.Scanned.{scanned-small}
 
 -- The words of a scan have numbers that a name can hold.
 pub scanned-is-small : (lex : Lexicon) → length (lex .outsides) ≤ 64 → (formula : List ℕ) → SmallWords (scan lex formula .tokens)
 scanned-is-small = scanned-small
-
--- The tokens of a scan have the kinds that a formula has.
-pub scanned-is-formula : (lex : Lexicon) → length (lex .outsides) ≤ 64 → length (lex .keywords) ≤ 62 → (formula : List ℕ)
-    → FormulaKinds (scan lex formula .tokens)
-scanned-is-formula = scanned-kinds
 
 module _ (table : Table) (passing : Passing table) where
   -- A passing table has neither 12 nor 13.

@@ -1,13 +1,11 @@
--- A scan gives tokens whose words have small numbers: outside names below 64, then one number for each token at most. And it gives tokens of the kinds that
--- a formula has.
-use Prim.Native.Nat.{ℕ, zero, suc, _+_, _<_, _≤_}
-use mathlib.Core.Path.{_≡_, refl, ap}
+-- A scan gives tokens whose words have small numbers: outside names below 64, then one number for each token at most.
+use Prim.Native.Nat.{ℕ, zero, suc, _+_, _≤_}
+use mathlib.Core.Path.{_≡_, refl}
 use mathlib.Core.Bool.{Bool, true, false}
 use mathlib.Core.List.{List, [], _∷_, _++_}
 use native.Mathlib.Omega.{arith}
-use native.Mathlib.Decide.{decLt}
 use lib.Dec.{ltb, leb}
-use lib.ListN.{length, getD, take, drop, length-append, List·getD-eq-default}
+use lib.ListN.{length, take, drop, length-append}
 use borrow.Author.Tests.{ltb-true}
 use Rattle.answers.specs.Refusals.{refusal}
 use Rattle.grammar.specs.Table.{Lexicon}
@@ -18,9 +16,7 @@ use Rattle.tokens.specs.declared.Scanned.the-variants.{Unscanned}
 use Rattle.tokens.specs.Scan.{Lexed, isNew, wordsWith, scanEnded, withToken, stepOf, lexFrom, scan}
 use Rattle.tokens.specs.Tokens.{mostTokens, longestFormula, endToken}
 use Rattle.tokens.proofs.SpellingLaws.{every-at, scan-spelled}
-use Rattle.tokens.proofs.KindLaws.{scan-kinds}
-use Rattle.kinds.specs.Kinds.{noKind}
-use Rattle.expansion.specs.Parsing.{SmallWords, FormulaKinds}
+use Rattle.expansion.specs.Parsing.{SmallWords}
 use Rattle.soundness.proofs.Sound.{token-before}
 
 -- a token adds one word at most
@@ -81,11 +77,3 @@ pub scanned-small : (lex : Lexicon) → length (lex .outsides) ≤ 64 → (formu
 scanned-small lex few formula at k =
     let s = every-at _ (scan lex formula .tokens) at endToken (scan-spelled lex few formula) (token-before (scan lex formula .tokens) at k (omega arith)) k in
     omega (arith, s .known, few-words lex formula)
-
--- the tokens of a scan have a formula's kinds
-pub scanned-kinds : (lex : Lexicon) → length (lex .outsides) ≤ 64 → length (lex .keywords) ≤ 62 → (formula : List ℕ) → FormulaKinds (scan lex formula .tokens)
-scanned-kinds lex few keywords formula at = by (decLt at (length (scan lex formula .tokens)))
-  where
-    by : Dec (at < length (scan lex formula .tokens)) → getD (scan lex formula .tokens) at endToken .kind ≤ noKind
-    by (yes inside) = every-at _ (scan lex formula .tokens) at endToken (scan-kinds lex keywords formula few) inside
-    by (no past) = omega (arith, ap (λ (t : Token). t .kind) (List·getD-eq-default (scan lex formula .tokens) endToken {n = at} (omega arith)))

@@ -10,7 +10,6 @@ pub mod StandLaws
 pub mod TokenLaws
 pub mod TilingLaws
 pub mod SpellingLaws
-pub mod KindLaws
 pub mod WordsOfScan
 pub mod FormulaKinds
 pub mod FollowLaws
