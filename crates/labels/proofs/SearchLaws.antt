@@ -12,7 +12,7 @@ use Rattle.terms.specs.Loose.{Walk, loose, reached, andThen}
 use Rattle.terms.specs.Labels.{isAmong, stopIf, labelWalk, labelWalkFields}
 use Rattle.terms.proofs.Repeated.{label-reached}
 use Rattle.rows.proofs.RowLaws as rows
-use Rattle.labels.specs.Stamps.{single, numberedTerm, numberedFields, moreUnless, differing, LabelsBelow, LabelsBelowFields, Stampable, Stamps}
+use Rattle.labels.specs.Stamps.{single, numberedTerm, numberedFields, moreUnless, differing, EachLabel, EachLabelFields, Stampable, Stamps}
 use Rattle.labels.specs.Searches.{walkAt, StampsTo, Searchable, SearchableFields, Searched, Searches, SearchesFields}
 
 -- ------------------------------------------------------------------ walks
@@ -71,7 +71,7 @@ module _ {cells : List ℕ} {depth row place : ℕ} {stamps : List ℕ} (s : Sea
 
       -- The body of a function may be walked.
       pub fun-searchable : Searchable cells (depth - 1) part (place + 1) stamps
-      unfolding LabelsBelow size
+      unfolding EachLabel size
       fun-searchable = record { below = rw is-fun at (s .below); room = omega (arith, s .room, ap size is-fun); earlier = later }
 
       -- Its walk is the function's.
@@ -86,7 +86,7 @@ module _ {cells : List ℕ} {depth row place : ℕ} {stamps : List ℕ} (s : Sea
 
       -- The term of a selection may be walked.
       pub dot-searchable : Searchable cells (depth - 1) part (place + 1) stamps
-      unfolding LabelsBelow size
+      unfolding EachLabel size
       dot-searchable = record { below = rw is-dot at (s .below); room = omega (arith, s .room, ap size is-dot); earlier = later }
 
       -- Its walk is the selection's.
@@ -104,7 +104,7 @@ module _ {cells : List ℕ} {depth row place : ℕ} {stamps : List ℕ} (s : Sea
 
       -- The first term of an application may be walked.
       pub app-searchable : Searchable cells (depth - 1) first (place + 1) stamps
-      unfolding LabelsBelow size
+      unfolding EachLabel size
       app-searchable = record { below = (rw is-app at (s .below)) .0; room = omega (arith, s .room, ap size is-app); earlier = later }
 
       module _ {r : Bool} {middle : ℕ} {between : List ℕ} (h : Searches cells (depth - 1) first (place + 1) stamps r middle between) where
@@ -116,7 +116,7 @@ module _ {cells : List ℕ} {depth row place : ℕ} {stamps : List ℕ} (s : Sea
         module _ (none : r ≡ false) {second : ℕ} (q′ : second ≡ column cells row 2) where
           -- Where it has none, the second term may be walked.
           pub app-next : Searchable cells (depth - 1) second middle between
-          unfolding LabelsBelow size
+          unfolding EachLabel size
           app-next =
               record {
                 below = rw (h .told .long, q′) ((rw is-app at (s .below)) .1);
@@ -136,13 +136,13 @@ module _ {cells : List ℕ} {depth row place : ℕ} {stamps : List ℕ} (s : Sea
 
       -- The labels of a record may be counted.
       pub rcd-stampable : Stampable cells (depth - 1) part stamps stamp
-      unfolding LabelsBelow
+      unfolding EachLabel
       rcd-stampable = record { below = rw is-rcd at (s .below); unused = λ l. omega (arith, s .earlier l) }
 
       module _ {left : ℕ} {between : List ℕ} (counted : Stamps cells (depth - 1) part stamps stamp left between) where
         -- Behind that its fields may be walked.
         pub rcd-searchable : SearchableFields cells (depth - 1) part (place + 1) between
-        unfolding LabelsBelow size
+        unfolding EachLabel size
         rcd-searchable =
             record {
               below = rw (counted .long) (rw is-rcd at (s .below));
@@ -229,7 +229,7 @@ module _ {cells : List ℕ} {depth row place : ℕ} {stamps : List ℕ} (s : Sea
 
         -- Where some do, the field's term may be walked.
         pub cons-searchable : Searchable cells (depth - 1) part (place + 1) stamps
-        unfolding LabelsBelowFields sizeFields
+        unfolding EachLabelFields sizeFields
         cons-searchable =
             record {
               below = rw q ((rw is-cons at (s .below)) .1);
@@ -248,7 +248,7 @@ module _ {cells : List ℕ} {depth row place : ℕ} {stamps : List ℕ} (s : Sea
           module _ (none : r ≡ false) {rest : ℕ} (q′ : rest ≡ column cells row 3) where
             -- Where it has none, the other fields may be walked.
             pub cons-next : SearchableFields cells (depth - 1) rest middle between
-            unfolding LabelsBelowFields sizeFields
+            unfolding EachLabelFields sizeFields
             cons-next =
                 record {
                   below = rw (first .long, q′) ((rw is-cons at (s .below)) .2);

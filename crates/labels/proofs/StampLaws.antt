@@ -12,11 +12,30 @@ use borrow.Author.Tests.{ne-eqb, eq-eqb, eqb-true, eqb-false}
 use Rattle.spellings.specs.Bytes.{same}
 use Rattle.spellings.proofs.BytesLaws.{by-test}
 use Rattle.terms.specs.Cells.{column}
-use Rattle.terms.specs.Term.{Name, Fields, nil, cons}
+use Rattle.terms.specs.Term.{Name, Term, Fields, variable, function, apply, rcd, dot, number, nil, cons}
 use Rattle.terms.specs.Rows.{fieldListAt}
 use Rattle.terms.specs.Labels.{isAmong}
 use Rattle.rows.proofs.RowLaws as rows
-use Rattle.labels.specs.Stamps.{single, numberedTerm, numberedFields, differing, LabelsBelowFields, PutsStamp, Stampable, Stamps}
+use Rattle.labels.specs.Stamps.{single, numberedTerm, numberedFields, EachLabel, differing, EachLabelFields, LabelsBelowFields}
+use Rattle.labels.specs.Stamps.{PutsStamp, Stampable, Stamps}
+
+-- ------------------------------------------------------------------ what holds of each label
+
+mutual
+  unfolding EachLabel EachLabelFields
+
+  -- What follows from something that holds of each label holds of each.
+  pub each-label : {P Q : ℕ → Type 0} → ((n : ℕ) → P n → Q n) → (t : Term Name) → EachLabel P t → EachLabel Q t
+  each-label from (variable v) h = tt
+  each-label from (function b t) h = each-label from t h
+  each-label from (apply t u) h = (each-label from t (h .0), each-label from u (h .1))
+  each-label from (rcd f) h = each-label-fields from f h
+  each-label from (dot t l) h = each-label from t h
+  each-label from (number n) h = tt
+
+  each-label-fields : {P Q : ℕ → Type 0} → ((n : ℕ) → P n → Q n) → (f : Fields Name) → EachLabelFields P f → EachLabelFields Q f
+  each-label-fields from nil h = tt
+  each-label-fields from (cons l t f) h = (from (getD l 0 0) (h .0), each-label from t (h .1), each-label-fields from f (h .2))
 
 -- ------------------------------------------------------------------ one more stamp
 
@@ -25,31 +44,31 @@ abbrev pub StampedAt : List ℕ → ℕ → List (List ℕ) → Type 0
 StampedAt stamps stamp earlier = (l : ℕ) → l < length stamps → eqb (getD stamps l 0) stamp ≡ isAmong (single l) earlier
 
 -- whether a number is among labels, with one more in front
-among-more : (number label : ℕ) (earlier : List (List ℕ))
-    → isAmong (single number) (single label ∷ earlier) ≡ (eqb number label || isAmong (single number) earlier)
+among-more : (other label : ℕ) (earlier : List (List ℕ))
+    → isAmong (single other) (single label ∷ earlier) ≡ (eqb other label || isAmong (single other) earlier)
 unfolding isAmong same
-among-more number label earlier = by-test (eqb number label) (λ e. rw e refl) (λ e. rw e refl)
+among-more other label earlier = by-test (eqb other label) (λ e. rw e refl) (λ e. rw e refl)
 
 module _ (stamps : List ℕ) (label stamp : ℕ) (inside : label < length stamps) where
   -- what a room with one more stamp has at a number: the stamp, or what it had
-  stamp-read : (P : ℕ → Type 0) (number : ℕ) → (number ≡ label → P stamp) → ((number ≡ label → ⊥) → P (getD stamps number 0))
-      → P (getD (set stamps label stamp) number 0)
-  stamp-read P number here other =
-      by-test (eqb number label)
+  stamp-read : (P : ℕ → Type 0) (other : ℕ) → (other ≡ label → P stamp) → ((other ≡ label → ⊥) → P (getD stamps other 0))
+      → P (getD (set stamps label stamp) other 0)
+  stamp-read P other here kept =
+      by-test (eqb other label)
       (λ e.
-      let q = eqb-true number label e in
+      let q = eqb-true other label e in
       rw (q, getD-set-same stamps label stamp 0 inside) (here q))
       (λ e.
-      let q = eqb-false number label e in
-      rw (getD-set-other stamps label number stamp 0 q) (other q))
+      let q = eqb-false other label e in
+      rw (getD-set-other stamps label other stamp 0 q) (kept q))
 
   -- the room has the stamp of the new label too
   stamped-more : (earlier : List (List ℕ)) → StampedAt stamps stamp earlier → StampedAt (set stamps label stamp) stamp (single label ∷ earlier)
-  stamped-more earlier known number h =
+  stamped-more earlier known other h =
       rw among-more
-      (stamp-read (λ v. eqb v stamp ≡ (eqb number label || isAmong (single number) earlier)) number
-      (λ q. rw (eq-eqb stamp stamp refl, eq-eqb number label q))
-      (λ q. rw (ne-eqb number label q) (known number (omega (arith, length-set stamps label stamp)))))
+      (stamp-read (λ v. eqb v stamp ≡ (eqb other label || isAmong (single other) earlier)) other
+      (λ q. rw (eq-eqb stamp stamp refl, eq-eqb other label q))
+      (λ q. rw (ne-eqb other label q) (known other (omega (arith, length-set stamps label stamp)))))
 
   -- and none is above it
   most-more : ((l : ℕ) → getD stamps l 0 ≤ stamp) → (l : ℕ) → getD (set stamps label stamp) l 0 ≤ stamp
@@ -126,7 +145,7 @@ module _ {cells : List ℕ} {bound row stamp : ℕ} {stamps : List ℕ} {count p
 
         -- A field's label has a number within the room.
         pub counting-inside : label < length stamps′
-        unfolding LabelsBelowFields
+        unfolding EachLabelFields
         counting-inside = omega (arith, (rw ahead at (counting .below)) .0, counting .long)
 
         module _ {again : Bool} {stamps″ : List ℕ} (stamped : PutsStamp stamps′ label stamp again stamps″) where
@@ -146,7 +165,7 @@ module _ {cells : List ℕ} {bound row stamp : ℕ} {stamps : List ℕ} {count p
 
           -- One that did not.
           pub counting-next : again ≡ false → {part′ : ℕ} → part′ ≡ column cells part 3 → Counting cells bound row stamp stamps (count + 1) part′ stamps″
-          unfolding differing LabelsBelowFields
+          unfolding differing EachLabelFields
           counting-next e {part′ = part′} q =
               let fewer : bound - (count + 1) ≡ bound - count - 1 = omega arith in
               let one : differing (counting .earlier) Ahead ≡ suc (differing (single label ∷ counting .earlier) Behind) = rw (ahead, among ∙ e) in

@@ -7,15 +7,16 @@ use native.Mathlib.Nat.{zero-add}
 use native.Mathlib.Omega.{arith}
 use lib.ListN.{replicate, length-replicate}
 use Rattle.grammar.specs.Limits.{most}
-use Rattle.terms.specs.Term.{Name, Term, Fields, variable, function, apply, rcd, dot, number, nil, cons, size}
+use Rattle.terms.specs.Term.{size}
 use Rattle.terms.specs.Loose.{reached}
 use Rattle.terms.proofs.Repeated.{label-reached}
 use Rattle.rows.specs.Sizes.{noSpell, rowsHeld}
 use Rattle.rows.proofs.ListLaws.{zeros}
 use Rattle.rows.proofs.SizeLaws.{size-spell}
 use Rattle.labels.specs.declared.Repetition.the-variants.{At, None}
-use Rattle.labels.specs.Stamps.{single, numberedTerm, LabelsBelow, LabelsBelowFields, hasFields}
+use Rattle.labels.specs.Stamps.{single, numberedTerm, hasFields}
 use Rattle.labels.specs.Searches.{Searchable, Searches, LabelsFit, Finds}
+use Rattle.labels.proofs.StampLaws.{each-label}
 use Rattle.labels.proofs.FieldLaws.{no-repetition}
 
 module _ {cells : List ℕ} {root : ℕ} {stamps : List ℕ} {r : Bool} {place : ℕ} {stamps′ : List ℕ}
@@ -32,28 +33,12 @@ module _ {cells : List ℕ} {root : ℕ} {stamps : List ℕ} {r : Bool} {place :
         let w = rw e at (h .told .found) in
         record { walked = w ∙ ap reached (label-reached t 0 place w ∙ zero-add (size t)) }
 
--- numbers below one count are below a larger one
-mutual
-  unfolding LabelsBelow LabelsBelowFields
-
-  wider : (m n : ℕ) → m ≤ n → (t : Term Name) → LabelsBelow m t → LabelsBelow n t
-  wider m n l (variable v) h = tt
-  wider m n l (function b t) h = wider m n l t h
-  wider m n l (apply t u) h = (wider m n l t (h .0), wider m n l u (h .1))
-  wider m n l (rcd f) h = wider-fields m n l f h
-  wider m n l (dot t x) h = wider m n l t h
-  wider m n l (number x) h = tt
-
-  wider-fields : (m n : ℕ) → m ≤ n → (f : Fields Name) → LabelsBelowFields m f → LabelsBelowFields n f
-  wider-fields m n l nil h = tt
-  wider-fields m n l (cons x t f) h = (omega (arith, h .0), wider m n l t (h .1), wider-fields m n l f (h .2))
-
 module _ {cells : List ℕ} {root words : ℕ} (asked : LabelsFit cells root words) where
   -- A room of so many zeros takes all labels.
   pub searchable : (count : ℕ) → most .outsides + words ≤ count → Searchable cells (rowsHeld cells) root 0 (replicate count 0)
   searchable count h =
       record {
-        below = rw (length-replicate {A = ℕ} count 0) (wider (most .outsides + words) count h (numberedTerm cells (rowsHeld cells) root) (asked .below));
+        below = rw (length-replicate {A = ℕ} count 0) (each-label (λ n l. omega arith) (numberedTerm cells (rowsHeld cells) root) (asked .below));
         room = omega (arith, asked .small, size-spell (rowsHeld cells) noSpell single cells root);
         earlier = λ l. omega (arith, zeros count l);
       }

@@ -24,19 +24,26 @@ numberedTerm cells bound row = termAt bound single cells row
 abbrev pub numberedFields : List ℕ → ℕ → ℕ → Fields Name
 numberedFields cells bound row = fieldListAt bound single cells row
 
--- every label of a record inside a term, and every one of a field list, is a number below m
+-- something holds of the number of every label of a record inside a term, and of every one of a field list
 unfoldable mutual
-  pub LabelsBelow : ℕ → Term Name → Type 0
-  LabelsBelow m (variable v) = Unit {0}
-  LabelsBelow m (function b t) = LabelsBelow m t
-  LabelsBelow m (apply t u) = LabelsBelow m t × LabelsBelow m u
-  LabelsBelow m (rcd f) = LabelsBelowFields m f
-  LabelsBelow m (dot t l) = LabelsBelow m t
-  LabelsBelow m (number n) = Unit {0}
+  pub EachLabel : (ℕ → Type 0) → Term Name → Type 0
+  EachLabel P (variable v) = Unit {0}
+  EachLabel P (function b t) = EachLabel P t
+  EachLabel P (apply t u) = EachLabel P t × EachLabel P u
+  EachLabel P (rcd f) = EachLabelFields P f
+  EachLabel P (dot t l) = EachLabel P t
+  EachLabel P (number n) = Unit {0}
 
-  pub LabelsBelowFields : ℕ → Fields Name → Type 0
-  LabelsBelowFields m nil = Unit {0}
-  LabelsBelowFields m (cons l t f) = (getD l 0 0 < m) × LabelsBelow m t × LabelsBelowFields m f
+  pub EachLabelFields : (ℕ → Type 0) → Fields Name → Type 0
+  EachLabelFields P nil = Unit {0}
+  EachLabelFields P (cons l t f) = P (getD l 0 0) × EachLabel P t × EachLabelFields P f
+
+-- all these numbers are below one
+abbrev pub LabelsBelow : ℕ → Term Name → Type 0
+LabelsBelow m t = EachLabel (λ n. n < m) t
+
+abbrev pub LabelsBelowFields : ℕ → Fields Name → Type 0
+LabelsBelowFields m f = EachLabelFields (λ n. n < m) f
 
 -- ------------------------------------------------------------------ labels that differ
 
