@@ -5,6 +5,7 @@ pub mod TreeOfTerm
 pub mod Origin
 pub mod WhoseName
 pub mod Loose
+pub mod Repeated
 pub mod NewNames
 pub mod FreeVariables
 pub mod TextLength

@@ -11,5 +11,7 @@ pub mod Labelled
 pub mod Cells
 pub mod TextSize
 pub mod Loose
+pub mod Labels
+pub mod Repeated
 pub mod Occurrences
 pub mod Scopes

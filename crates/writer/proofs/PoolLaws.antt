@@ -392,7 +392,8 @@ module _ (outs : List (List ℕ)) (formula room : List ℕ) where
   unfolding filledTo
   stored-word count number h l = rw (le-ltb number firstWord h, filledTo) (rw (lt-ltb (number - firstWord) count l) refl)
 
-  further : (count number : ℕ) → firstWord ≤ number → count ≤ number - firstWord → filledTo outs formula room count number ≡ []
+  -- Behind the words nothing is spelled.
+  pub further : (count number : ℕ) → firstWord ≤ number → count ≤ number - firstWord → filledTo outs formula room count number ≡ []
   unfolding filledTo
   further count number h l = rw (le-ltb number firstWord h, filledTo) (rw (le-ltb (number - firstWord) count l) refl)
 

@@ -1,5 +1,5 @@
 -- What `emit` asks of spellings, from what is known of the lists of names and words.
-use Prim.Native.Nat.{ℕ, suc, _-_, _<_, _≤_}
+use Prim.Native.Nat.{ℕ, suc, _+_, _-_, _<_, _≤_}
 use mathlib.Core.Path.{_≡_, refl, sym, ap, _∙_}
 use mathlib.Core.Bool.{true, true≢false, _&&_, and-eq-true-iff}
 use mathlib.Core.List.{List, [], _∷_}
@@ -18,7 +18,7 @@ use Rattle.writer.specs.Pool.{spellingRoom}
 use Rattle.writer.specs.Pool.{firstWord}
 use Rattle.spellings.specs.Bytes.{longestWord}
 use Rattle.writer.specs.Pool.{oneOf, Words, spelledBy}
-use Rattle.writer.proofs.PoolLaws.{filled-end}
+use Rattle.writer.proofs.PoolLaws.{further, filled-end}
 
 -- the empty spelling is no word
 no-word : isWord [] ≡ true → ⊥
@@ -29,6 +29,15 @@ pub word-length : (spelling : List ℕ) → isWord spelling ≡ true → length 
 word-length [] e = absurd (no-word e)
 word-length (b ∷ bs) e =
     omega (arith, leb-true (suc (length bs)) longestWord (and-eq-true-iff (isLetter b && every isWordByte bs) (leb (suc (length bs)) longestWord) .0 e .1))
+
+-- a spelling number of a word is that of an outside name or of one of so many words
+pub spelled-below : (table formula words : List ℕ) (count number : ℕ) → isWord (spelledBy table formula words count number) ≡ true
+    → number < firstWord + count
+spelled-below table formula words count number w =
+    by-test (ltb number (firstWord + count)) (λ e. ltb-true number (firstWord + count) e)
+    (λ e.
+    let far : firstWord + count ≤ number = ltb-false number (firstWord + count) e in
+    absurd (no-word (rw (further (lexiconOf table .outsides) formula words count number (omega arith) (omega arith)) at w)))
 
 -- spellings that are words are short enough for the room
 pub short-words : (words : List (List ℕ)) → ((number : ℕ) → number < length words → isWord (getD words number []) ≡ true) → (number : ℕ)

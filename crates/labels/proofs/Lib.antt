@@ -1,0 +1,5 @@
+pub mod StampLaws
+pub mod FieldLaws
+pub mod SearchLaws
+pub mod WholeLaws
+pub mod SpellLaws
