@@ -463,7 +463,7 @@ struct Grammar {
 
 /// The grammar of a table that passes; none of another one.
 fn grammar(table: &[u8]) -> Option<Grammar> {
-    if plain::check(table).number != 0 {
+    if plain::PRESENT.check(table).number != 0 {
         return None;
     }
     let mut grammar = Grammar {

@@ -145,7 +145,7 @@ fn compare(options: &Options, list: &[Input]) -> bool {
 
     let (mut of_draws, mut of_many, mut of_portions) = (Comparison::default(), Comparison::default(), Comparison::default());
     let mut of_drawn_runs = Comparison::default();
-    let mut passing: Vec<Vec<u8>> = cases.iter().map(|case| case.table.clone()).filter(|table| plain::check(table).number == 0).collect();
+    let mut passing: Vec<Vec<u8>> = cases.iter().map(|case| case.table.clone()).filter(|table| plain::PRESENT.check(table).number == 0).collect();
     passing.sort();
     passing.dedup();
     let mut draws = Draws::new(options.seed);
@@ -210,7 +210,7 @@ fn drawn_portions(draws: &mut Draws, drawn: &draw::Drawn, room: &mut Room) -> ([
         _ => 1 + draws.below(10_000) as u64,
     });
     let mut list = vec![0; 3 * vegzump::ROWS];
-    let whole = plain::portions(&drawn.table, &drawn.formula, 1, 1, &mut room.cells, &mut list);
+    let whole = plain::PRESENT.portions(&drawn.table, &drawn.formula, 1, 1, &mut room.cells, &mut list);
     let length = if whole.number == 0 { whole.c as usize } else { 0 };
     let list = match draws.below(12) {
         0 => 0,
@@ -225,7 +225,7 @@ fn drawn_portions(draws: &mut Draws, drawn: &draw::Drawn, room: &mut Room) -> ([
 /// How many cells and bytes of text are lent: enough, just enough, too little or none.
 fn lent(draws: &mut Draws, drawn: &draw::Drawn, room: &mut Room) -> (usize, usize) {
     room.cells.fill(0);
-    let whole = plain::expand(&drawn.table, &drawn.formula, &mut room.cells, &mut room.text);
+    let whole = plain::PRESENT.expand(&drawn.table, &drawn.formula, &mut room.cells, &mut room.text);
     let (made, length) = match whole.number {
         0 => (whole.a as usize, whole.c as usize),
         22 => (whole.a as usize, 0),
