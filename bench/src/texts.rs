@@ -354,6 +354,95 @@ fn damage_text(draws: &mut Draws, text: &mut Vec<u8>) {
     text.splice(at..at, part.iter().copied());
 }
 
+// ---- inputs that are measured ----
+
+/// The fields of a table between its keywords and outside names and its root, which has one byte.
+fn body(table: &[u8]) -> &[u8] {
+    let from = places(table).iter().map(|&(from, _)| from).find(|&from| table[from] > 2);
+    &table[from.unwrap_or(0)..table.len() - 4]
+}
+
+/// A table's body with other keywords and outside names, those that it has first.
+fn with_words(table: &[u8], keywords: &[&str], names: &[&str]) -> Table {
+    let mut made = Table::new().keywords(keywords).names(names);
+    made.bytes.extend_from_slice(body(table));
+    made
+}
+
+const SIMPLE: usize = 0;
+const WHOLE: usize = 2;
+const ITER: usize = 3;
+
+/// The house with `*` and `let`, whose results are texts (examples/compose.grammar and let.grammar have them as templates).
+pub fn house_with_texts() -> Vec<u8> {
+    let composed = 4;
+    with_words(&house(&[]), &["(", ")", "fun", "{", "}", "=", ".", "*", "let", "in"], &[])
+        .block()
+        .definition(SIMPLE, 1, TERM, &[])
+        .alternative()
+        .place(TERM)
+        .result(&[0])
+        .block()
+        .definition(SIMPLE, 1, TERM, &[])
+        .alternative()
+        .keyword(8)
+        .ide(BINDER)
+        .keyword(5)
+        .call(WHOLE, &[])
+        .keyword(9)
+        .call(WHOLE, &[])
+        .text(WHOLE, b"(fun($1) $5)($3)")
+        .add(composed, TERM, &[TERM, TERM])
+        .alternative()
+        .local()
+        .text(WHOLE, b"fun($2) $0($1($2))")
+        .definition(ITER, 1, TERM, &[TERM])
+        .alternative()
+        .keyword(7)
+        .call(WHOLE, &[])
+        .call(composed, &[0, 2])
+        .call(ITER, &[3])
+        .result(&[4])
+        .root(WHOLE)
+}
+
+/// The house with a phrase `big` of a variable in so many `twice`.
+pub fn shared(count: usize) -> Vec<u8> {
+    with_words(&house(&[Extra::Twice]), &["(", ")", "fun", "{", "}", "=", ".", "twice", "big"], &["x"])
+        .block()
+        .definition(SIMPLE, 1, TERM, &[])
+        .alternative()
+        .keyword(8)
+        .text(WHOLE, ("twice ".repeat(count) + "x").as_bytes())
+        .root(WHOLE)
+}
+
+/// So many texts, four a nonterminal.
+pub fn many(count: usize) -> Vec<u8> {
+    let first = Table::new().keywords(spellings("k", 4)).block().add(0, TERM, &[]).alternative().ide(VAR).result(&[0x20, 0]);
+    let alternative = |table: Table, n: usize| {
+        let table = if n.is_multiple_of(4) { table.add(1 + n / 4, TERM, &[]) } else { table };
+        table.alternative().keyword(n % 4).ide(VAR).text(0, b"$1")
+    };
+    first.block().times(count, alternative).root(1)
+}
+
+/// A phrase `t` behind a block, with a text that is read as nonterminal 0.
+fn one_text(table: &[u8], keywords: &[&str], text: &str) -> Vec<u8> {
+    let table = with_words(table, keywords, &["x"]).block().add(1, TERM, &[]).alternative();
+    table.keyword(keywords.len() - 1).text(0, text.as_bytes()).root(1)
+}
+
+/// A text of so many words, a multiple of eleven.
+pub fn of_words(count: usize) -> Vec<u8> {
+    one_text(&words(&[], &[]), &["t"], &"x ".repeat(count))
+}
+
+/// A text that makes forty rows so many times, and two.
+pub fn of_rows(count: usize) -> Vec<u8> {
+    one_text(&forties(), &["m", "t"], &"m ".repeat(count))
+}
+
 // ---- limits ----
 
 /// A table whose texts are near a limit of 26: constructors, open calls, tokens, rows of all texts, calls.
