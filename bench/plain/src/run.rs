@@ -230,6 +230,7 @@ impl Copied {
 
 /// Items of the innermost call, until no call is open. The arguments of a call are its first variables where they stand, and its result takes their
 /// place as the caller's next variable.
+// By itself, what it reads is known not to change with what it writes, and stays in registers.
 #[inline(never)]
 pub fn run<const TEXT: bool>(
     grammar: &Grammar,

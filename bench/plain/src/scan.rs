@@ -43,6 +43,7 @@ fn word_end(bytes: &[u8], mut at: usize) -> usize {
 
 impl Tokens {
     /// The tokens of a formula. Words that are new get the next spelling number, from 64.
+    // By itself, as `run` is.
     #[inline(never)]
     pub fn scan(&mut self, table: &[u8], formula: &[u8], read: &mut Table) -> Result<(), Refusal> {
         if formula.len() > 65_535 {
