@@ -1,12 +1,12 @@
 //! Results as texts (document 02, C-14) where the cases of the request do not tell two readings apart: what a text's own block defines, the count of tokens,
-//! and large templates, which are made again at each use.
+//! a place behind other items, numbers of many digits, and large templates, which are made again at each use.
 
 #[allow(dead_code)]
 #[path = "../../src/tables.rs"]
 mod tables;
 
 use plain::{Answer, TEXTS};
-use tables::{Table, TERM, VAR};
+use tables::{Table, BINDER, TERM, VAR};
 
 const OPEN: usize = 0;
 const CLOSE: usize = 1;
@@ -82,6 +82,29 @@ fn a_text_has_4096_tokens() {
     let of = |text: String| TEXTS.check(&table.clone().text(0, text.as_bytes()).root(0));
     assert_eq!(of("x ".repeat(4_096)), refused(0, 0));
     assert_eq!(of("x ".repeat(4_096) + "m"), refused(26, place));
+}
+
+#[test]
+fn a_place_behind_a_keyword_takes_its_sort_alone() {
+    let table = first_block().alternative().keyword(M).place(VAR).result(&[0x20, 1]).block().add(1, TERM, &[]).alternative();
+    let of = |sort: u8| {
+        let table = table.clone().keyword(K).ide(sort);
+        (table.bytes.len(), table.text(0, b"m $1").root(0))
+    };
+    let ((place, with_var), (_, with_binder)) = (of(VAR), of(BINDER));
+    assert_eq!(TEXTS.templates(&with_var), Ok(vec![(place, vec![0x20, 1])]));
+    assert_eq!(TEXTS.check(&with_binder), refused(26, place));
+}
+
+#[test]
+fn a_variable_has_any_number_of_digits() {
+    let table = first_block().block().add(1, TERM, &[]).alternative().call(0, &[]);
+    let place = table.bytes.len();
+    let of = |text: &str| TEXTS.check(&table.clone().text(0, text.as_bytes()).root(0));
+    assert_eq!(of(&format!("${}", "0".repeat(100))), refused(0, 0));
+    for past in ["$1", "$256", "$65536", "$4294967296", "$18446744073709551616", "$340282366920938463463374607431768211456"] {
+        assert_eq!(of(past), refused(9, place), "{past}");
+    }
 }
 
 fn expanded(table: &[u8], formula: &str) -> (Answer, Vec<u32>, Vec<u8>) {
