@@ -1,4 +1,4 @@
-//! The conformance cases, from cases.bin.
+//! The conformance cases, from cases.bin; the tables of a request's cases.
 
 use plain::Answer;
 
@@ -43,4 +43,15 @@ pub fn read(path: &str) -> std::io::Result<Vec<Case>> {
         cases.push(Case { table, formula, cells_lent, text_lent, answer, cells, text: reader.part() });
     }
     Ok(cases)
+}
+
+/// The tables of the cases of a request, in line form: those of `check`, `expand` and `templates`.
+pub fn tables(path: &str) -> std::io::Result<Vec<Vec<u8>>> {
+    let lines = std::fs::read_to_string(path)?;
+    let table = |line: &str| {
+        let words: Vec<&str> = line.split(' ').collect();
+        let hex = words.get(3).filter(|_| ["check", "expand", "templates"].contains(&words[1]))?;
+        (0..hex.len() / 2).map(|at| u8::from_str_radix(&hex[2 * at..2 * at + 2], 16).ok()).collect()
+    };
+    Ok(lines.lines().filter_map(table).collect())
 }

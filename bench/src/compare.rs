@@ -10,7 +10,7 @@ pub struct Comparison {
     pub inputs: usize,
     pub differ: usize,
     /// How often each number was answered.
-    pub numbers: [usize; 26],
+    pub numbers: [usize; 29],
 }
 
 pub struct Found {
@@ -46,6 +46,18 @@ impl Comparison {
             }
         }
         plain
+    }
+
+    /// A formula under a table with texts, and under the table with their templates in place of them: the archive on the first, the plain implementation on
+    /// the second.
+    pub fn as_given(&mut self, label: &str, tables: [&[u8]; 2], formula: &[u8], cells: usize, text: usize) {
+        let texts = run(Side::Archive, tables[0], formula, cells, text);
+        let templates = run(Side::Plain, tables[1], formula, cells, text);
+        self.inputs += 1;
+        if texts.answer != templates.answer || texts.cells != templates.cells || texts.text != templates.text {
+            self.differ += 1;
+            println!("DIFFERS: {label} with texts {} {} {cells} {text}, with templates {}", hex(tables[0]), hex(formula), hex(tables[1]));
+        }
     }
 
     /// Many formulas under one table: the archive's and the plain implementation's one check for all, and the plain expansion of each by itself.

@@ -4,6 +4,7 @@
 use crate::inputs;
 use crate::sides::Many;
 use crate::tables::*;
+use crate::texts;
 
 /// SplitMix64: the same seed gives the same inputs everywhere.
 pub struct Draws(u64);
@@ -27,7 +28,7 @@ impl Draws {
     pub fn percent(&mut self, chance: usize) -> bool {
         self.below(100) < chance
     }
-    fn one<T: Copy>(&mut self, of: &[T]) -> T {
+    pub fn one<T: Copy>(&mut self, of: &[T]) -> T {
         of[self.below(of.len())]
     }
 }
@@ -44,6 +45,9 @@ pub fn draw(draws: &mut Draws, passing: &[Vec<u8>]) -> Drawn {
         return Drawn { table, formula: formula.into_bytes() };
     }
     let mut table = if draws.percent(60) || passing.is_empty() { made_up(draws) } else { passing[draws.below(passing.len())].clone() };
+    if plain::PRESENT >= plain::TEXTS {
+        table = texts::with_texts(draws, table);
+    }
     let grammar = grammar(&table);
     if draws.percent(20) {
         for _ in 0..1 + draws.below(3) {
@@ -157,9 +161,10 @@ fn some(draws: &mut Draws, from: &[&'static str], most: usize) -> Vec<&'static s
     found
 }
 
-struct Signature {
-    result: u8,
-    parameters: Vec<u8>,
+#[derive(Clone)]
+pub struct Signature {
+    pub result: u8,
+    pub parameters: Vec<u8>,
 }
 
 struct Maker<'a> {
@@ -351,7 +356,7 @@ impl Maker<'_> {
 // ---- damage ----
 
 /// The places of a table's fields, as far as they are whole.
-fn places(table: &[u8]) -> Vec<(usize, usize)> {
+pub fn places(table: &[u8]) -> Vec<(usize, usize)> {
     let (mut places, mut at) = (Vec::new(), 0);
     while at + 3 <= table.len() {
         let end = at + 3 + usize::from(u16::from_be_bytes([table[at + 1], table[at + 2]]));
@@ -427,7 +432,7 @@ fn damage_table(draws: &mut Draws, table: &mut Vec<u8>, passing: &[Vec<u8>]) {
     }
 }
 
-fn damage_bytes(draws: &mut Draws, bytes: &mut Vec<u8>) {
+pub fn damage_bytes(draws: &mut Draws, bytes: &mut Vec<u8>) {
     for _ in 0..1 + draws.below(2) {
         let at = draws.below(bytes.len() + 1);
         match draws.below(3) {
@@ -441,19 +446,24 @@ fn damage_bytes(draws: &mut Draws, bytes: &mut Vec<u8>) {
 
 // ---- formulas ----
 
-enum Item {
+pub enum Item {
     Keyword(usize),
-    Ide,
+    /// An ide of a sort.
+    Ide(u8),
     Number,
     Local,
     Call(usize),
+    /// A pattern place of a sort.
+    Place(u8),
 }
 
-struct Grammar {
-    keywords: Vec<Vec<u8>>,
-    names: Vec<Vec<u8>>,
+pub struct Grammar {
+    pub keywords: Vec<Vec<u8>>,
+    pub names: Vec<Vec<u8>>,
+    /// The signature of each nonterminal that is defined.
+    pub signatures: Vec<Option<Signature>>,
     /// The alternatives of each nonterminal after normalizing.
-    alternatives: Vec<Vec<Vec<Item>>>,
+    pub alternatives: Vec<Vec<Vec<Item>>>,
     root: usize,
     /// How deep the calls of the shallowest derivation are.
     heights: Vec<usize>,
@@ -462,13 +472,14 @@ struct Grammar {
 }
 
 /// The grammar of a table that passes; none of another one.
-fn grammar(table: &[u8]) -> Option<Grammar> {
-    if plain::check(table).number != 0 {
+pub fn grammar(table: &[u8]) -> Option<Grammar> {
+    if plain::PRESENT.check(table).number != 0 {
         return None;
     }
     let mut grammar = Grammar {
         keywords: Vec::new(),
         names: Vec::new(),
+        signatures: vec![None; 64],
         alternatives: (0..64).map(|_| Vec::new()).collect(),
         root: 0,
         heights: vec![usize::MAX; 64],
@@ -482,14 +493,15 @@ fn grammar(table: &[u8]) -> Option<Grammar> {
             2 => grammar.names.push(value.to_vec()),
             4 => {
                 nonterminal = usize::from(value[0]);
+                grammar.signatures[nonterminal] = Some(Signature { result: value[2], parameters: value[3..].to_vec() });
                 if value[1] == 2 {
                     grammar.alternatives[nonterminal].clear();
                 }
             }
             5 => grammar.alternatives[nonterminal].push(Vec::new()),
             6 => {
-                let operand = usize::from(value[1]);
-                let item = [Item::Keyword(operand), Item::Ide, Item::Number, Item::Local, Item::Call(operand)];
+                let (operand, sort) = (usize::from(value[1]), value[1]);
+                let item = [Item::Keyword(operand), Item::Ide(sort), Item::Number, Item::Local, Item::Call(operand), Item::Place(sort)];
                 let kind = usize::from(value[0]);
                 grammar.alternatives[nonterminal].last_mut()?.extend(item.into_iter().nth(kind));
             }
@@ -526,8 +538,20 @@ impl Grammar {
     }
 
     fn height(&self, alternative: &[Item]) -> usize {
-        let calls = alternative.iter().map(|item| if let Item::Call(called) = item { self.heights[*called].saturating_add(1) } else { 0 });
-        calls.max().unwrap_or(0)
+        let heights = alternative.iter().map(|item| match *item {
+            Item::Call(called) => self.heights[called].saturating_add(1),
+            // No formula meets it.
+            Item::Place(_) => usize::MAX,
+            _ => 0,
+        });
+        heights.max().unwrap_or(0)
+    }
+
+    /// A nonterminal whose signature meets a test, if there is one.
+    pub fn drawn(&self, draws: &mut Draws, meets: impl Fn(&Signature) -> bool) -> Option<(usize, &Signature)> {
+        let all = self.signatures.iter().enumerate().filter_map(|(n, signature)| Some((n, signature.as_ref()?)));
+        let meeting: Vec<_> = all.filter(|(_, signature)| meets(signature)).collect();
+        if meeting.is_empty() { None } else { Some(draws.one(&meeting)) }
     }
 
     /// Derives from a nonterminal; the shallowest way once there are enough tokens or open calls.
@@ -536,17 +560,17 @@ impl Grammar {
         if open > 1_100 || tokens.len() > 4_200 || alternatives.is_empty() {
             return;
         }
-        let chosen = if tokens.len() >= enough || open > enough + 40 {
-            (0..alternatives.len()).min_by_key(|&n| self.height(&alternatives[n])).unwrap_or(0)
-        } else {
-            draws.below(alternatives.len())
-        };
+        let has_place = |n: usize| alternatives[n].iter().any(|item| matches!(item, Item::Place(_)));
+        let mut chosen = if tokens.len() >= enough || open > enough + 40 { usize::MAX } else { draws.below(alternatives.len()) };
+        if chosen == usize::MAX || has_place(chosen) {
+            chosen = (0..alternatives.len()).min_by_key(|&n| self.height(&alternatives[n])).unwrap_or(0);
+        }
         for item in &alternatives[chosen] {
             match *item {
                 Item::Keyword(number) => tokens.push(self.keywords[number].clone()),
-                Item::Ide => tokens.push(self.word(draws)),
+                Item::Ide(_) => tokens.push(self.word(draws)),
                 Item::Number => tokens.push(number(draws)),
-                Item::Local => {}
+                Item::Local | Item::Place(_) => {}
                 Item::Call(called) => self.derive(draws, called, enough, open + 1, tokens),
             }
         }
@@ -615,7 +639,7 @@ fn formula(draws: &mut Draws, grammar: Option<&Grammar>) -> Vec<u8> {
 }
 
 /// Tokens with separators between them, where they would run together at least.
-fn join(draws: &mut Draws, tokens: &[Vec<u8>]) -> Vec<u8> {
+pub fn join(draws: &mut Draws, tokens: &[Vec<u8>]) -> Vec<u8> {
     let in_word = |byte: Option<&u8>| byte.is_some_and(|&b| b.is_ascii_alphanumeric() || b == b'_');
     let sparse = draws.percent(50);
     let mut formula = Vec::new();

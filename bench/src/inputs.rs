@@ -2,6 +2,7 @@
 
 use crate::collide::{self, Hash};
 use crate::tables::{self, Extra, Table, TERM, VAR};
+use crate::texts;
 
 pub struct Input {
     pub name: String,
@@ -63,7 +64,7 @@ pub fn list(multiplier: u32) -> Vec<Input> {
     let of_long_names: String = (0..2_035).map(|n| format!("{} ", long_names[n % 64])).collect();
     let given_back = tables::long_spellings("k", 62);
     let of_given_back: String = (0..2_035).map(|n| format!("{} ", given_back[n % 62])).collect();
-    vec![
+    let mut list = vec![
         Input::new("`peter`, house table", house.clone(), "peter"),
         Input::new("`(T(fun(T)T(true)))*x`", tables::house(&[Extra::Compose, Extra::True]), "(T(fun(T)T(true)))*x"),
         Input::new("511 parentheses", house.clone(), parentheses(511)),
@@ -89,7 +90,14 @@ pub fn list(multiplier: u32) -> Vec<Input> {
         Input::new("16,254 nested binders of an outside name's spelling", tables::nested(), "T ".to_string() + &"c ".repeat(126)),
         Input::new("13 `twice`", tables::house(&[Extra::Twice]), twice(13)),
         Input { number: 22, ..Input::new("500 `twice`, refused with 22", tables::house(&[Extra::Twice]), twice(500)) },
-    ]
+    ];
+    if plain::PRESENT >= plain::TEXTS {
+        list.extend([
+            Input::new("`x*y`, the house with two texts", texts::house_with_texts(), "x*y"),
+            Input::new("a text of 16,383 constructors by sharing, used once", texts::shared(13), "big"),
+        ]);
+    }
+    list
 }
 
 /// Inputs of one, two, four and eight times a size.
@@ -128,7 +136,7 @@ pub fn growth(multiplier: u32) -> Vec<Series> {
     let of_one_tree = collide::words(Hash::Folded, WORDS);
     let of_one_fold = collide::words(Hash::FoldedWhole, 3_850);
     let halves = |size: usize| (tables::long_spellings("k", size / 2), tables::long_spellings("n", size - size / 2));
-    vec![
+    let mut all = vec![
         series("table bytes", [2_040, 4_080, 8_160, 16_320], |size| {
             (tables::large(4, 1, Some(size)), "a key0 b".to_string())
         }),
@@ -175,7 +183,15 @@ pub fn growth(multiplier: u32) -> Vec<Series> {
             .answered(24, 0),
         series("zeros before a digit", [8_125, 16_250, 32_500, 65_000], |size| (tables::house(&[]), "0".repeat(size) + "1")),
         series("blanks", [8_125, 16_250, 32_500, 65_000], |size| (tables::house(&[]), " ".repeat(size) + "q")),
-    ]
+    ];
+    if plain::PRESENT >= plain::TEXTS {
+        all.extend([
+            series("texts", [30, 60, 120, 240], |size| (texts::many(size), "k0 q".to_string())),
+            series("tokens of a text", [506, 1_023, 2_046, 4_092], |size| (texts::of_words(size), "t".to_string())),
+            series("rows of a text", [2_002, 4_002, 8_002, 16_002], |size| (texts::of_rows(size / 40), "t".to_string())),
+        ]);
+    }
+    all
 }
 
 /// How many kinds of input near a limit there are.

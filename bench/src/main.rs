@@ -8,6 +8,7 @@ mod draw;
 mod inputs;
 mod sides;
 mod tables;
+mod texts;
 mod times;
 
 use compare::Comparison;
@@ -116,6 +117,9 @@ fn run(options: &Options) -> ExitCode {
 
 // ---- equal answers ----
 
+/// Tables with texts are drawn from these cases too.
+const TEXT_CASES: &str = concat!(env!("CARGO_MANIFEST_DIR"), "/../tests/cases/c-14.txt");
+
 fn compare(options: &Options, list: &[Input]) -> bool {
     let start = Instant::now();
     let Ok(cases) = cases::read(&options.cases) else {
@@ -144,13 +148,17 @@ fn compare(options: &Options, list: &[Input]) -> bool {
     println!("runs of bytes that differ at each place: {} compared, {} differ", of_runs.inputs, of_runs.differ);
 
     let (mut of_draws, mut of_many, mut of_portions) = (Comparison::default(), Comparison::default(), Comparison::default());
-    let mut of_drawn_runs = Comparison::default();
-    let mut passing: Vec<Vec<u8>> = cases.iter().map(|case| case.table.clone()).filter(|table| plain::check(table).number == 0).collect();
+    let (mut of_drawn_runs, mut of_texts) = (Comparison::default(), Comparison::default());
+    let mut passing: Vec<Vec<u8>> = cases.iter().map(|case| case.table.clone()).collect();
+    if plain::PRESENT >= plain::TEXTS {
+        passing.extend(cases::tables(TEXT_CASES).unwrap_or_default());
+    }
+    passing.retain(|table| plain::PRESENT.check(table).number == 0);
     passing.sort();
     passing.dedup();
     let mut draws = Draws::new(options.seed);
     let mut room = Room::new();
-    let (mut with_given_back, mut written) = (0, 0);
+    let (mut with_given_back, mut written, mut with_texts) = (0, 0, 0);
     for number in 0..options.draws {
         let drawn = draw::draw(&mut draws, &passing);
         let (has_some, has_written) = draw::given_back(&drawn);
@@ -162,6 +170,10 @@ fn compare(options: &Options, list: &[Input]) -> bool {
         of_portions.portions(&label, &drawn.table, &drawn.formula, counts, cells, list);
         let [a, b] = draw::runs(&mut draws);
         of_drawn_runs.runs(&label, a.bytes(), b.bytes());
+        with_texts += usize::from(texts::count(&drawn.table) > 0);
+        if let Some(given) = with_templates(&drawn.table) {
+            of_texts.as_given(&label, [&drawn.table, &given], &drawn.formula, cells, text);
+        }
         if number % 8 == 0 {
             of_many.many(&label, &drawn.table, &draw::many(&mut draws, &drawn.formula), cells, 2 * text);
         }
@@ -169,6 +181,9 @@ fn compare(options: &Options, list: &[Input]) -> bool {
     println!("drawn inputs, seed {}: {} compared, {} differ", options.seed, of_draws.inputs, of_draws.differ);
     println!("  answers by number: {}", of_draws.answered());
     println!("  tables with keywords given back: {with_given_back}, formulas that have one of them: {written}");
+    if plain::PRESENT >= plain::TEXTS {
+        println!("  tables with texts: {with_texts}; beside the same with templates: {} compared, {} differ", of_texts.inputs, of_texts.differ);
+    }
     println!("drawn lists of formulas, seed {}: {} compared, {} differ", options.seed, of_many.inputs, of_many.differ);
     println!("drawn portions, seed {}: {} compared, {} differ", options.seed, of_portions.inputs, of_portions.differ);
     println!("  answers by number: {}", of_portions.answered());
@@ -176,8 +191,13 @@ fn compare(options: &Options, list: &[Input]) -> bool {
     let [equal, byte, length, ..] = of_drawn_runs.numbers;
     println!("  equal: {equal}, a byte differs: {byte}, the lengths differ: {length}");
     println!("  {:.1} s", start.elapsed().as_secs_f64());
-    let all = [of_cases, of_inputs, of_runs, of_draws, of_many, of_portions, of_drawn_runs];
+    let all = [of_cases, of_inputs, of_runs, of_draws, of_texts, of_many, of_portions, of_drawn_runs];
     all.iter().all(|comparison| comparison.differ == 0)
+}
+
+/// A table that has texts with their templates in place of them.
+fn with_templates(table: &[u8]) -> Option<Vec<u8>> {
+    if texts::count(table) > 0 { texts::as_given(table) } else { None }
 }
 
 /// Runs of every length up to eight words and a tail, each beside itself, beside itself with another byte at each place, and beside each shorter one, at every
@@ -210,7 +230,7 @@ fn drawn_portions(draws: &mut Draws, drawn: &draw::Drawn, room: &mut Room) -> ([
         _ => 1 + draws.below(10_000) as u64,
     });
     let mut list = vec![0; 3 * vegzump::ROWS];
-    let whole = plain::portions(&drawn.table, &drawn.formula, 1, 1, &mut room.cells, &mut list);
+    let whole = plain::PRESENT.portions(&drawn.table, &drawn.formula, 1, 1, &mut room.cells, &mut list);
     let length = if whole.number == 0 { whole.c as usize } else { 0 };
     let list = match draws.below(12) {
         0 => 0,
@@ -225,7 +245,7 @@ fn drawn_portions(draws: &mut Draws, drawn: &draw::Drawn, room: &mut Room) -> ([
 /// How many cells and bytes of text are lent: enough, just enough, too little or none.
 fn lent(draws: &mut Draws, drawn: &draw::Drawn, room: &mut Room) -> (usize, usize) {
     room.cells.fill(0);
-    let whole = plain::expand(&drawn.table, &drawn.formula, &mut room.cells, &mut room.text);
+    let whole = plain::PRESENT.expand(&drawn.table, &drawn.formula, &mut room.cells, &mut room.text);
     let (made, length) = match whole.number {
         0 => (whole.a as usize, whole.c as usize),
         22 => (whole.a as usize, 0),

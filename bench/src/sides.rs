@@ -24,7 +24,7 @@ impl Side {
     #[inline]
     pub fn expand(self, table: &[u8], formula: &[u8], cells: &mut [u32], text: &mut [u8]) -> Answer {
         match self {
-            Side::Plain => plain::expand(table, formula, cells, text),
+            Side::Plain => plain::PRESENT.expand(table, formula, cells, text),
             Side::Archive => answered(vegzump::expand(table, formula, cells, text)),
         }
     }
@@ -34,7 +34,7 @@ impl Side {
         match self {
             Side::Plain => {
                 let mut answers = vec![Answer { number: 0, a: 0, b: 0, c: 0 }; many.ends.len()];
-                plain::expand_each(table, &many.formulas, &many.ends, cells, text, &mut answers);
+                plain::PRESENT.expand_each(table, &many.formulas, &many.ends, cells, text, &mut answers);
                 answers
             }
             Side::Archive => vegzump::expand_each(table, &many.formulas, &many.ends, cells, text).into_iter().map(answered).collect(),
@@ -44,7 +44,7 @@ impl Side {
     /// The numbers of a formula for another count of portions, written and wanted.
     pub fn portions(self, table: &[u8], formula: &[u8], [written, wanted]: [u64; 2], cells: &mut [u32], list: &mut [u64]) -> Answer {
         match self {
-            Side::Plain => plain::portions(table, formula, written, wanted, cells, list),
+            Side::Plain => plain::PRESENT.portions(table, formula, written, wanted, cells, list),
             Side::Archive => answered(vegzump::portions(table, formula, written, wanted, cells, list)),
         }
     }
@@ -63,7 +63,7 @@ impl Side {
 
     pub fn check(self, table: &[u8]) -> Answer {
         match self {
-            Side::Plain => plain::check(table),
+            Side::Plain => plain::PRESENT.check(table),
             Side::Archive => match vegzump::check(table) {
                 Ok(()) => Answer { number: 0, a: 0, b: 0, c: 0 },
                 Err(refusal) => answer(refusal),

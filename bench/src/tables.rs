@@ -61,8 +61,14 @@ impl Table {
         value.extend_from_slice(arguments);
         self.field(6, &value)
     }
+    pub fn place(self, sort: u8) -> Table {
+        self.field(6, &[5, sort])
+    }
     pub fn result(self, template: &[u8]) -> Table {
         self.field(7, template)
+    }
+    pub fn text(self, nonterminal: usize, text: &[u8]) -> Table {
+        self.field(9, &[&[nonterminal as u8], text].concat())
     }
     pub fn root(self, nonterminal: usize) -> Vec<u8> {
         self.field(8, &[nonterminal as u8]).bytes

@@ -122,8 +122,8 @@ impl Part {
 
 /// Writes the text of the term to the front of `text`; the number of constructors and of bytes.
 pub fn print(cells: &[u32], ran: &Ran, spelled: &Spelled, text: &mut [u8], rooms: &mut Rooms) -> Result<(usize, usize), Refusal> {
-    rooms.measure(cells, ran.root, spelled);
-    let Part { size, length, renames, .. } = rooms.parts[ran.root];
+    rooms.measure(cells, ran.root as usize, spelled);
+    let Part { size, length, renames, .. } = rooms.parts[ran.root as usize];
     if size > MOST {
         return Err(refusal(22, ran.made));
     }
@@ -132,7 +132,7 @@ pub fn print(cells: &[u32], ran: &Ran, spelled: &Spelled, text: &mut [u8], rooms
     if !renames {
         let Some(out) = text.get_mut(..length as usize) else { return Err(refusal(24, length as usize)) };
         let mut printer = Printer { cells, parts, spelled, renamed, new: 0, tasks, out, at: 0 };
-        printer.term::<false>(ran.root as u32)?;
+        printer.term::<false>(ran.root)?;
         return Ok((size as usize, length as usize));
     }
     renamed.clear();
@@ -141,7 +141,7 @@ pub fn print(cells: &[u32], ran: &Ran, spelled: &Spelled, text: &mut [u8], rooms
         scratch.resize(LONGEST * size as usize, 0);
     }
     let mut printer = Printer { cells, parts, spelled, renamed, new: 0, tasks, out: scratch, at: 0 };
-    printer.term::<true>(ran.root as u32)?;
+    printer.term::<true>(ran.root)?;
     let length = printer.at;
     match text.get_mut(..length) {
         Some(room) => room.copy_from_slice(&scratch[..length]),
@@ -154,7 +154,7 @@ pub fn print(cells: &[u32], ran: &Ran, spelled: &Spelled, text: &mut [u8], rooms
 pub fn numbers(cells: &[u32], ran: &Ran, spelled: &Spelled, rooms: &mut Rooms) -> Result<(usize, Vec<u64>), Refusal> {
     let mut text = vec![0; LONGEST * MOST as usize];
     let (constructors, _) = print(cells, ran, spelled, &mut text, rooms)?;
-    let (mut found, mut ahead) = (Vec::new(), vec![ran.root as u32]);
+    let (mut found, mut ahead) = (Vec::new(), vec![ran.root]);
     while let Some(at) = ahead.pop() {
         let row = &cells[4 * at as usize..][..4];
         match row[0] {

@@ -1,125 +1,9 @@
-//! Definitions block by block, sorts of bodies, and refusals 7, 8, 9 and 11. What passes is kept in the form that a run wants: templates as the cells
-//! that they make, and for each nonterminal the alternatives that normalizing leaves it.
+//! Definitions block by block, sorts of bodies, and refusals 7, 8, 9 and 11; results that are texts are read on the way. What passes is kept as a grammar.
 
+use crate::grammar::{Alternative, Grammar, Item, Make, Source, Span, CELL, VARIABLE};
 use crate::table::*;
-use crate::{refusal, Refusal};
-
-/// An argument of a cell to be made, in 32 bits: a value that is known, a variable, or a cell of the same templates by its number among them.
-#[derive(Clone, Copy, Default)]
-pub struct Source(u32);
-
-const VARIABLE: u32 = 1 << 30;
-const CELL: u32 = 2 << 30;
-
-impl Source {
-    /// The value, with the variables of the call and the row of the first cell of the templates.
-    #[inline(always)]
-    pub fn value(self, variables: &[u32], base: u32) -> u32 {
-        match self.0 >> 30 {
-            0 => self.0,
-            1 => variables[(self.0 & 15) as usize],
-            _ => base + (self.0 & !CELL),
-        }
-    }
-}
-
-/// A cell that a template makes.
-#[derive(Clone, Copy)]
-pub struct Make {
-    pub code: u8,
-    pub arguments: [Source; 3],
-}
-
-/// A table of 16,384 bytes has fewer items, cells and arguments than that.
-#[derive(Clone, Copy, Default)]
-pub struct Span {
-    pub from: u16,
-    pub to: u16,
-}
-
-impl Span {
-    #[inline(always)]
-    pub fn of<'a, T>(&self, all: &'a [T]) -> &'a [T] {
-        &all[usize::from(self.from)..usize::from(self.to)]
-    }
-}
-
-#[derive(Clone, Copy)]
-pub enum Item {
-    Keyword(u8),
-    Name,
-    Label,
-    Number,
-    Local,
-    /// The nonterminal, the cells of its arguments, and the arguments.
-    Call { nonterminal: u8, cells: Span, arguments: Span },
-}
-
-#[derive(Clone, Copy)]
-pub struct Alternative {
-    pub items: Span,
-    pub cells: Span,
-    pub result: Source,
-    /// The next alternative of the same nonterminal, plus one; 0 if there is none.
-    next: u16,
-}
-
-#[derive(Clone, Copy, Default)]
-struct List {
-    first: u16,
-    last: u16,
-}
-
-pub struct Grammar {
-    pub root: u8,
-    /// The nonterminals defined, a bit each.
-    pub defined: u64,
-    pub alternatives: Vec<Alternative>,
-    pub items: Vec<Item>,
-    pub makes: Vec<Make>,
-    pub arguments: Vec<Source>,
-    lists: [List; 64],
-}
-
-impl Default for Grammar {
-    fn default() -> Grammar {
-        let (alternatives, items, makes, arguments) = (Vec::new(), Vec::new(), Vec::new(), Vec::new());
-        Grammar { root: 0, defined: 0, alternatives, items, makes, arguments, lists: [List::default(); 64] }
-    }
-}
-
-impl Grammar {
-    /// The numbers of a nonterminal's alternatives, in table order.
-    pub fn of(&self, nonterminal: u8) -> impl Iterator<Item = usize> + '_ {
-        let mut at = self.lists[usize::from(nonterminal)].first;
-        std::iter::from_fn(move || {
-            let number = usize::from(at).checked_sub(1)?;
-            at = self.alternatives[number].next;
-            Some(number)
-        })
-    }
-
-    fn clear(&mut self) {
-        self.defined = 0;
-        self.alternatives.clear();
-        self.items.clear();
-        self.makes.clear();
-        self.arguments.clear();
-        self.lists = [List::default(); 64];
-    }
-
-    fn append(&mut self, nonterminal: u8, alternative: Alternative) {
-        self.alternatives.push(alternative);
-        let number = self.alternatives.len() as u16;
-        let list = &mut self.lists[usize::from(nonterminal)];
-        if list.first == 0 {
-            list.first = number;
-        } else {
-            self.alternatives[usize::from(list.last) - 1].next = number;
-        }
-        list.last = number;
-    }
-}
+use crate::texts::{Text, Texts};
+use crate::{refusal, Reader, Refusal};
 
 /// A class with its number: a name as it lies in a cell.
 pub fn name(class: u32, number: u32) -> u32 {
@@ -170,14 +54,19 @@ impl Default for Checker {
     }
 }
 
-fn fits(given: u8, asked: u8) -> bool {
-    given == asked || given == BINDER && asked == VAR
+fn ide(sort: u8) -> Item {
+    match sort {
+        VAR => Item::Var,
+        BINDER => Item::Binder,
+        _ => Item::Label,
+    }
 }
 
 impl Checker {
     /// Checks a table that `read` has passed.
-    pub fn check(&mut self, table: &[u8], read: &Table, grammar: &mut Grammar) -> Result<(), Refusal> {
+    pub fn check(&mut self, table: &[u8], read: &Table, grammar: &mut Grammar, reader: &mut Reader, texts: &mut Texts) -> Result<(), Refusal> {
         grammar.clear();
+        texts.clear();
         let (mut block, mut heads) = (0, 0);
         let mut nonterminal = 0;
         let mut signature: &[u8] = &[];
@@ -187,6 +76,8 @@ impl Checker {
             match field.tag {
                 BLOCK => {
                     let to = usize::from(read.blocks[block]);
+                    grammar.begin_block();
+                    texts.begin_block();
                     self.define(table, &read.heads[heads..to], grammar)?;
                     (block, heads) = (block + 1, to);
                 }
@@ -194,7 +85,7 @@ impl Checker {
                     nonterminal = value[0];
                     signature = &value[2..];
                     if value[1] == 2 {
-                        grammar.lists[usize::from(nonterminal)] = List::default();
+                        grammar.replace(nonterminal);
                     }
                 }
                 ALTERNATIVE => {
@@ -206,21 +97,41 @@ impl Checker {
                 RESULT => {
                     let items = Span { from: items_from, to: grammar.items.len() as u16 };
                     let cells = self.templates(value, &signature[..1], field.place(), read.names, grammar)?;
-                    grammar.append(nonterminal, Alternative { items, cells, result: self.parts[0], next: 0 });
+                    grammar.append(nonterminal, Alternative::new(items, cells, self.parts[0]));
                 }
-                _ => {
-                    let root = usize::from(value[0]);
-                    if grammar.defined & 1 << root == 0 {
-                        return Err(refusal(9, field.place()));
-                    }
-                    if self.signature(table, root) != [TERM] {
-                        return Err(refusal(11, field.place()));
-                    }
-                    grammar.root = value[0];
+                TEXT => {
+                    let items = Span { from: items_from, to: grammar.items.len() as u16 };
+                    let text = self.text(table, read, field, signature[0], grammar)?;
+                    let (cells, result) = texts.read(&text, grammar, reader)?;
+                    grammar.append(nonterminal, Alternative::new(items, cells, result));
                 }
+                _ => self.root(table, field, grammar)?,
             }
         }
         Ok(())
+    }
+
+    /// The root: 9, then 11.
+    fn root(&self, table: &[u8], field: Noted, grammar: &mut Grammar) -> Result<(), Refusal> {
+        grammar.root = field.value(table)[0];
+        if grammar.scope.defined & 1 << grammar.root == 0 {
+            return Err(refusal(9, field.place()));
+        }
+        if self.signature(table, grammar.root.into()) != [TERM] {
+            return Err(refusal(11, field.place()));
+        }
+        Ok(())
+    }
+
+    /// A text whose nonterminal the blocks before its own define: 9.
+    fn text<'a>(&'a self, table: &'a [u8], read: &'a Table, field: Noted, asked: u8, grammar: &Grammar) -> Result<Text<'a>, Refusal> {
+        let (place, value) = (field.place(), field.value(table));
+        let nonterminal = value[0];
+        if grammar.before.defined & 1 << nonterminal == 0 {
+            return Err(refusal(9, place));
+        }
+        let signature = self.signature(table, nonterminal.into());
+        Ok(Text { table, read, place, nonterminal, bytes: &value[1..], variables: &self.variables, signature, asked })
     }
 
     fn signature<'a>(&self, table: &'a [u8], nonterminal: usize) -> &'a [u8] {
@@ -230,18 +141,18 @@ impl Checker {
 
     /// The definitions of a block: 7 and 8.
     fn define(&mut self, table: &[u8], heads: &[Noted], grammar: &mut Grammar) -> Result<(), Refusal> {
-        let earlier = grammar.defined;
+        let earlier = grammar.scope.defined;
         let mut here = 0u64;
         for &head in heads {
             let value = head.value(table);
             let (nonterminal, mode, signature) = (usize::from(value[0]), value[1], &value[2..]);
             let bit = 1 << nonterminal;
             if mode == 0 {
-                if grammar.defined & bit != 0 {
+                if grammar.scope.defined & bit != 0 {
                     return Err(refusal(7, head.place()));
                 }
                 self.signatures[nonterminal] = (head.from + 2, head.to);
-                grammar.defined |= bit;
+                grammar.scope.defined |= bit;
             } else if earlier & bit == 0 || here & bit != 0 || self.signature(table, nonterminal) != signature {
                 return Err(refusal(8, head.place()));
             }
@@ -255,12 +166,13 @@ impl Checker {
         let operand = value[1];
         let (item, sort) = match value[0] {
             ITEM_KEYWORD if usize::from(operand) >= read.keywords => return Err(refusal(9, place)),
-            ITEM_KEYWORD => (Item::Keyword(FIRST_KEYWORD + operand), 0),
-            ITEM_IDE => (if operand == LABEL { Item::Label } else { Item::Name }, operand),
-            ITEM_NUMBER => (Item::Number, 6),
+            ITEM_KEYWORD => (Item::Keyword(FIRST_KEYWORD + operand), UNIT),
+            ITEM_IDE => (ide(operand), operand),
+            ITEM_NUMBER => (Item::Number, NUM),
             ITEM_LOCAL => (Item::Local, BINDER),
+            ITEM_PLACE => (Item::Place(operand), operand),
             _ => {
-                if grammar.defined & 1 << operand == 0 {
+                if grammar.scope.defined & 1 << operand == 0 {
                     return Err(refusal(9, place));
                 }
                 let signature = self.signature(table, usize::from(operand));

@@ -1,7 +1,7 @@
 //! The fields of a table, and refusals 1 to 6 and 10.
 
 use crate::words::{Place, Words, FORMULA_WORDS};
-use crate::{refusal, Refusal};
+use crate::{refusal, Level, Refusal, TEXTS};
 
 pub const KEYWORD: u8 = 1;
 pub const NAME: u8 = 2;
@@ -11,27 +11,38 @@ pub const ALTERNATIVE: u8 = 5;
 pub const ITEM: u8 = 6;
 pub const RESULT: u8 = 7;
 pub const ROOT: u8 = 8;
+pub const TEXT: u8 = 9;
 
 pub const ITEM_KEYWORD: u8 = 0;
 pub const ITEM_IDE: u8 = 1;
 pub const ITEM_NUMBER: u8 = 2;
 pub const ITEM_LOCAL: u8 = 3;
 pub const ITEM_CALL: u8 = 4;
+pub const ITEM_PLACE: u8 = 5;
 
+pub const UNIT: u8 = 0;
+pub const VAR: u8 = 1;
+pub const BINDER: u8 = 2;
+pub const LABEL: u8 = 3;
 pub const TERM: u8 = 4;
 pub const FIELDS: u8 = 5;
-pub const BINDER: u8 = 2;
-pub const VAR: u8 = 1;
-pub const LABEL: u8 = 3;
+pub const NUM: u8 = 6;
 
 /// The argument sorts of the constructors 20 to 27.
 pub const ARGUMENTS: [&[u8]; 8] = [&[1], &[2, 4], &[4, 4], &[5], &[4, 3], &[], &[3, 4, 5], &[6]];
 
-/// Kinds of tokens: a word, a number, keyword k as k + 2; 64 is what fits nothing.
+/// Whether a value of the sort given may stand where a sort is asked.
+pub fn fits(given: u8, asked: u8) -> bool {
+    given == asked || given == BINDER && asked == VAR
+}
+
+/// Kinds of tokens: a word, a number, keyword k as k + 2; 64 is what fits nothing; a text's variable is 65 and its sort.
 pub const WORD: u8 = 0;
 pub const NUMBER: u8 = 1;
 pub const FIRST_KEYWORD: u8 = 2;
 pub const NO_KIND: u8 = 64;
+pub const FIRST_VARIABLE: u8 = 65;
+pub const KINDS: usize = 72;
 
 /// A field behind the outside names: its tag, and where its value stands.
 #[derive(Clone, Copy)]
@@ -161,7 +172,7 @@ enum Stage {
 
 impl Table {
     /// Reads the whole table: 1, then field by field 2, 3, 4, 5, 6, 10, then what is missing at the end.
-    pub fn read(&mut self, table: &[u8]) -> Result<(), Refusal> {
+    pub fn read(&mut self, table: &[u8], level: Level) -> Result<(), Refusal> {
         if table.len() > 16_384 {
             return Err(refusal(1, 0));
         }
@@ -176,7 +187,7 @@ impl Table {
         let mut place = 0;
         while place < table.len() {
             let Some(field) = field_at(table, place) else { return Err(refusal(2, place)) };
-            if !known(&field) {
+            if !known(&field, level) {
                 return Err(refusal(3, place));
             }
             let Some(next) = step(stage, field.tag) else { return Err(refusal(4, place)) };
@@ -264,7 +275,7 @@ fn spelled_at(field: &Field) -> Place {
 }
 
 /// Whether tag, length and values are known (3).
-fn known(field: &Field) -> bool {
+fn known(field: &Field, level: Level) -> bool {
     match (field.tag, field.value) {
         (KEYWORD | NAME | RESULT, _) => true,
         (BLOCK | ALTERNATIVE, []) => true,
@@ -275,7 +286,9 @@ fn known(field: &Field) -> bool {
         (ITEM, [ITEM_IDE, sort]) => (1..=3).contains(sort),
         (ITEM, [ITEM_NUMBER | ITEM_LOCAL, operand]) => *operand == 0,
         (ITEM, [ITEM_CALL, nonterminal, ..]) => *nonterminal < 64,
+        (ITEM, [ITEM_PLACE, sort]) => *sort < 7 && level >= TEXTS,
         (ROOT, [nonterminal]) => *nonterminal < 64,
+        (TEXT, [nonterminal, ..]) => *nonterminal < 64 && level >= TEXTS,
         _ => false,
     }
 }
@@ -290,7 +303,7 @@ fn step(stage: Stage, tag: u8) -> Option<Stage> {
         (DEFINITION, Block | Alternatives) => Some(Definition),
         (ALTERNATIVE, Definition | Alternatives) => Some(Alternative(0)),
         (ITEM, Alternative(items)) => Some(Alternative(items + 1)),
-        (RESULT, Alternative(_)) => Some(Alternatives),
+        (RESULT | TEXT, Alternative(_)) => Some(Alternatives),
         (ROOT, Keywords | Names | Block | Alternatives) => Some(Root),
         _ => None,
     }

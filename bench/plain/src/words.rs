@@ -10,12 +10,15 @@ const SLOTS: usize = 16_384;
 /// Words of a formula are numbered from here, wherever the outside names end.
 pub const FORMULA_WORDS: usize = 64;
 
-/// What a word means: its kind, and its spelling number where it is no keyword.
+/// What a word means: its kind, and its spelling number where it has one.
 #[derive(Clone, Copy)]
 pub struct Meaning {
     pub kind: u8,
     pub spelling: u32,
 }
+
+/// A keyword that is no outside name has no spelling number.
+pub const NO_SPELLING: u32 = u32::MAX;
 
 /// Where a word stands: in the table or in the formula.
 #[derive(Clone, Copy, Default)]
@@ -116,7 +119,7 @@ impl Words {
         if !self.is_empty(&self.slots[at]) {
             return false;
         }
-        self.slots[at] = Slot { stamp: self.stamp, hash: (hash >> 32) as u32, place, kind, spelling: u32::MAX };
+        self.slots[at] = Slot { stamp: self.stamp, hash: (hash >> 32) as u32, place, kind, spelling: NO_SPELLING };
         true
     }
 
@@ -130,7 +133,7 @@ impl Words {
         let slot = &mut self.slots[at];
         if empty {
             *slot = Slot { stamp: self.stamp, hash: (hash >> 32) as u32, place, kind, spelling };
-        } else if slot.spelling == u32::MAX {
+        } else if slot.spelling == NO_SPELLING {
             slot.spelling = spelling;
         } else {
             return false;
@@ -144,11 +147,17 @@ impl Words {
         let word = place.of(table, &[]);
         let at = self.slot(word, self.hash(word), table, &[]);
         let slot = &mut self.slots[at];
-        if slot.spelling == u32::MAX {
+        if slot.spelling == NO_SPELLING {
             slot.place = Place::default();
         } else {
             slot.kind = kind;
         }
+    }
+
+    /// The meaning that the table gives a word of its own, at some place in it; none if it is neither a keyword nor an outside name.
+    pub fn find(&self, table: &[u8], word: &[u8]) -> Option<Meaning> {
+        let slot = &self.slots[self.slot(word, self.hash(word), table, &[])];
+        (!self.is_empty(slot)).then_some(Meaning { kind: slot.kind, spelling: slot.spelling })
     }
 
     /// The meaning of a word of the formula; a new one gets the next spelling number.

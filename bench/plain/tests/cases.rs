@@ -1,6 +1,6 @@
 //! The conformance cases: number, values, every cell and every byte of text.
 
-use plain::{check, expand, Answer};
+use plain::{Answer, PRESENT, TEXTS};
 
 struct Reader<'a>(&'a [u8]);
 
@@ -37,16 +37,18 @@ fn every_case() {
         }
         let written = reader.part();
         text_owed[..written.len()].copy_from_slice(written);
-        let (mut cells, mut text) = (vec![0xaaaa_aaaa; rows_lent], vec![0xee; text_lent]);
-        let found = expand(table, formula, &mut cells, &mut text);
-        assert_eq!(found, expected, "case {cases}");
-        assert!(cells == cells_owed, "cells of case {cases}");
-        assert!(text == text_owed, "text of case {cases}");
-        let verdict = check(table);
-        if (1..=13).contains(&expected.number) {
-            assert_eq!(verdict, expected, "check of case {cases}");
-        } else {
-            assert_eq!(verdict.number, 0, "check of case {cases}");
+        for level in [PRESENT, TEXTS] {
+            let (mut cells, mut text) = (vec![0xaaaa_aaaa; rows_lent], vec![0xee; text_lent]);
+            let found = level.expand(table, formula, &mut cells, &mut text);
+            assert_eq!(found, expected, "case {cases}");
+            assert!(cells == cells_owed, "cells of case {cases}");
+            assert!(text == text_owed, "text of case {cases}");
+            let verdict = level.check(table);
+            if (1..=13).contains(&expected.number) {
+                assert_eq!(verdict, expected, "check of case {cases}");
+            } else {
+                assert_eq!(verdict.number, 0, "check of case {cases}");
+            }
         }
         cases += 1;
     }

@@ -38,7 +38,7 @@ unsafe fn room<'a, T>(from: *mut T, length: usize) -> &'a mut [T] {
 /// As the header asks.
 #[no_mangle]
 pub unsafe extern "C" fn vegzump_check(table: *const u8, table_len: usize) -> Answer {
-    answer(plain::check(bytes(table, table_len)))
+    answer(plain::PRESENT.check(bytes(table, table_len)))
 }
 
 /// # Safety
@@ -55,7 +55,7 @@ pub unsafe extern "C" fn vegzump_expand(
     text_len: usize,
 ) -> Answer {
     let (cells, text) = (room(cells, cells_len), room(text, text_len));
-    let found = plain::expand(bytes(table, table_len), bytes(formula, formula_len), cells, text);
+    let found = plain::PRESENT.expand(bytes(table, table_len), bytes(formula, formula_len), cells, text);
     #[cfg(feature = "wrong")]
     if found.number == 0 && found.a == 3 {
         text[0] = b'X';
@@ -79,7 +79,7 @@ pub unsafe extern "C" fn vegzump_portions(
     list_len: usize,
 ) -> Answer {
     let (cells, list) = (room(cells, cells_len), room(list, list_len));
-    answer(plain::portions(bytes(table, table_len), bytes(formula, formula_len), written, wanted, cells, list))
+    answer(plain::PRESENT.portions(bytes(table, table_len), bytes(formula, formula_len), written, wanted, cells, list))
 }
 
 #[repr(C)]
@@ -120,7 +120,7 @@ pub unsafe extern "C" fn vegzump_expand_each(
     let (ends, answers) = (room(ends.cast_mut(), count), room(answers, 4 * count));
     let formulas = run(formulas, formulas_len);
     let mut found = vec![plain::Answer { number: 0, a: 0, b: 0, c: 0 }; count];
-    plain::expand_each(bytes(table, table_len), formulas, ends, room(cells, cells_len), room(text, text_len), &mut found);
+    plain::PRESENT.expand_each(bytes(table, table_len), formulas, ends, room(cells, cells_len), room(text, text_len), &mut found);
     for (numbers, found) in answers.chunks_exact_mut(4).zip(found) {
         numbers.copy_from_slice(&[u64::from(found.number), found.a, found.b, found.c]);
     }
