@@ -33,13 +33,13 @@ module _ (table : Table) (passing : Passing table) (tokens : List Token) (cells 
   items-within p m = each-fits table (passing .within) (passing .meets .sorted) p m .items
 
   abbrev IsParted : Moment → Type 0
-  IsParted = Parted (grammarOf table) items-within (passing .meets .not-left-recursive) tokens (rowsLent (length cells))
+  IsParted = Parted (grammarOf table) items-within (passing .meets .not-left-recursive) (λ is. 0) tokens (rowsLent (length cells))
 
   all-parted : (m : Moment) → IsMoment m → IsParted m
   all-parted m h =
       each-at
       (each-more (record { apart = apart-none; since = each-none })
-      (outermost-parted (grammarOf table) items-within (passing .meets .not-left-recursive) tokens (rowsLent (length cells)) mostOpen (table .root)
+      (outermost-parted (grammarOf table) items-within (passing .meets .not-left-recursive) (λ is. 0) tokens (rowsLent (length cells)) mostOpen (table .root)
       (passing .within .root) [] initialState cells))
       h
 

@@ -6,7 +6,6 @@ use mathlib.Core.Bool.{Bool, true, false}
 use mathlib.Core.List.{List, [], _∷_, _++_}
 use native.Mathlib.Omega.{arith}
 use lib.Dec.{ltb}
-use lib.ListN.{drop}
 use Rattle.grammar.specs.Table.{Templates, Item}
 use Rattle.grammar.specs.Table as Table
 use Rattle.decoding.specs.Within.{Each, each-none, each-more, Among, ItemWithin, call-within}
@@ -18,13 +17,12 @@ use Rattle.clashes.specs.Clashes.{Never, LeftRecursive}
 use Rattle.expansion.specs.declared.State.{State}
 use Rattle.expansion.specs.Run.{Result, done, halt, Run}
 use Rattle.expansion.specs.Limits.{mostCalls}
-use Rattle.expansion.specs.Expansion.{Input, Rule, ready, Choice, unfit, chosen, choice, nextToken, buildAll, runItem, runCall, callBegun}
-use Rattle.expansion.specs.Parsing.{input}
-use Rattle.expansion.proofs.Choosing.{nextKind, kind-next, Picks, picks, picks-none, choice-picks, rule}
+use Rattle.expansion.specs.Expansion.{Input, Rule, readyFor, Choice, unfit, chosen, choice, nextToken, buildAll, runItem, runCall, callBegun}
+use Rattle.expansion.proofs.Choosing.{rule}
 use Rattle.soundness.proofs.Normalizing.{each-append}
-use Rattle.soundness.proofs.Typing.{taken-of}
 use Rattle.soundness.proofs.StopLaws.{Stays, build-all-stays}
 use Rattle.chains.specs.Moments.{Call, Moment, Trace, moment, following, itemMoments, itemsMoments, callMoments, Apart, apart-none, apart-more}
+use Rattle.chains.proofs.Chosen.{Chosen, of-production, none-chosen, choice-of}
 use Rattle.chains.proofs.Nulls.{Onward, Goes, GoingCallee, item-goes, call-goes}
 
 -- ------------------------------------------------------------------ where a call opens
@@ -50,9 +48,9 @@ module _ (depth : ℕ) (lent : Input) (around : List Call) (n : ℕ) (vs : List 
   moments-chosen r e f = rw (e, f, callMoments) refl
 
 module _ (g : List Production) (within : (p : Production) → Among g p → Each ItemWithin (p .items)) (never : Never (LeftRecursive g))
-    (tokens : List Token) (rows : ℕ) where
+    (patterns : List Item → ℕ) (tokens : List Token) (rows : ℕ) where
   abbrev J : Input
-  J = input g tokens rows
+  J = record { grammar = readyFor patterns g; tokens = tokens; rows = rows }
 
   -- an open call began at a token taken or at the next one, and its nonterminal has a production
   pub record Since (at : ℕ) (c : Call) : Type 0 where
@@ -112,7 +110,7 @@ module _ (g : List Production) (within : (p : Production) → Among g p → Each
       (n : ℕ) → n < 64 → (ts : Templates) (is : List Item) (vs : List ℕ) (s : State) (cells : List ℕ) → Each (Around (s .at) (Table.call n ts ∷ is)) stack
       → Each Parted (inside n vs s cells)
 
-  module _ (stack : List Call) (apart : Apart stack) (called : ℕ → List ℕ → Run ℕ) (callee : GoingCallee g within tokens rows called)
+  module _ (stack : List Call) (apart : Apart stack) (called : ℕ → List ℕ → Run ℕ) (callee : GoingCallee g within patterns tokens rows called)
       (inside : ℕ → List ℕ → Trace) (parts : PartedInside stack inside) where
     item-parted : (item : Item) → ItemWithin item → (is : List Item) (xs : List ℕ) (state : State) (cells : List ℕ)
         → Each (Around (state .at) (item ∷ is)) stack → Each Parted (itemMoments inside J item xs state cells)
@@ -131,7 +129,7 @@ module _ (g : List Production) (within : (p : Production) → Among g p → Each
     items-parted (i ∷ is) (each-more w ws) xs state cells h =
         each-more (parted state stack apart h)
         (each-append (item-parted i w is xs state cells h)
-        (go (runItem called J i xs state cells) (item-goes g within tokens rows J called callee i w xs state cells)
+        (go (runItem called J i xs state cells) (item-goes g within patterns tokens rows J called callee i w xs state cells)
         (λ v s′ c′ k. items-parted is ws (xs ++ (v ∷ [])) s′ c′ k)))
       where
         go : (result : Result ℕ) → Goes (NullItems g (i ∷ [])) (state .at) result
@@ -147,24 +145,24 @@ module _ (g : List Production) (within : (p : Production) → Among g p → Each
   unfolding callMoments
   call-parted zero stack apart n l ts is vs state cells h = each-none
   call-parted (suc depth) stack apart n l ts is vs state cells h =
-      go (call-parted depth) (ltb (state .calls) mostCalls) refl (choice-picks g n l (drop (state .at) tokens))
+      go (call-parted depth) (ltb (state .calls) mostCalls) refl (choice-of patterns g n l (nextToken J state .kind))
     where
       now-stack : List Call
       now-stack = record { nonterminal = n; began = state .at } ∷ stack
 
       go : ((around : List Call) → Apart around → PartedInside around (callMoments depth J around)) → (test : Bool) → ltb (state .calls) mostCalls ≡ test
-          → Picks g n (drop (state .at) tokens) (choice (ready g) n (nextKind (drop (state .at) tokens)))
+          → Chosen g n (choice (J .grammar) n (nextToken J state .kind))
           → Each Parted (callMoments (suc depth) J stack n vs state cells)
       go f false e q = subst⁻¹ (Each Parted) (moments-full depth J stack n vs state cells e) each-none
-      go f true e (picks p t z) =
+      go f true e (of-production p o z) =
           let new : Apart now-stack = apart-more (each-map (other-call l) h) apart in
           subst⁻¹ (Each Parted)
-          (moments-chosen depth J stack n vs state cells (rule g p) e (ap (choice (ready g) n) (kind-next (state .at) tokens) ∙ z))
-          (items-parted now-stack new (runCall depth J) (call-goes g within tokens rows depth) (callMoments depth J now-stack) (f now-stack new) (p .items)
-          (within p (taken-of t .member)) vs (callBegun state) cells
-          (each-more (around-new (taken-of t)) (each-map (around-inside (taken-of t)) h)))
-      go f true e (picks-none a z) =
-          subst⁻¹ (Each Parted) (moments-unfit depth J stack n vs state cells e (ap (choice (ready g) n) (kind-next (state .at) tokens) ∙ z)) each-none
+          (moments-chosen depth J stack n vs state cells (rule g p) e z)
+          (items-parted now-stack new (runCall depth J) (call-goes g within patterns tokens rows depth) (callMoments depth J now-stack) (f now-stack new) (p .items)
+          (within p (o .member)) vs (callBegun state) cells
+          (each-more (around-new o) (each-map (around-inside o) h)))
+      go f true e (none-chosen z) =
+          subst⁻¹ (Each Parted) (moments-unfit depth J stack n vs state cells e z) each-none
 
   -- all moments of a call where no call is open are parted
   pub outermost-parted : (depth n : ℕ) → n < 64 → (vs : List ℕ) (state : State) (cells : List ℕ) → Each Parted (callMoments depth J [] n vs state cells)

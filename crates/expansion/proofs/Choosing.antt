@@ -89,7 +89,8 @@ module _ (rule : Production → Rule) (owned : (p : Production) → rule p .nont
   missing-later {p} e m other among-first o t = true≢false (sym (and-eq-true-iff _ _ .1 (eq-eqb (rule p .nonterminal) nonterminal (owned p ∙ o), t)) ∙ e)
   missing-later e m other (among-later k) o t = m .none-passed other k o t
 
-  first-rule : (g : List Production) → Found g ⊎ Missing g
+  -- one of the two
+  pub first-rule : (g : List Production) → Found g ⊎ Missing g
   unfolding firstRule
   first-rule [] = inr (record { none-passed = λ p m o t. omega (arith, members m); answer = refl })
   first-rule (p ∷ g) = go (eqb (rule p .nonterminal) nonterminal && test (rule p)) refl (first-rule g)
