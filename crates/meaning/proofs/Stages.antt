@@ -27,6 +27,7 @@ use Rattle.tokens.specs.Tiling.{bytesOf}
 use Rattle.tokens.specs.Unscanned.{Unscans}
 use Rattle.tokens.proofs.SpellingLaws.{Spelled, Every, scan-spelled, spelled-number}
 use Rattle.tokens.proofs.ScannerTheorems as scanner
+use Rattle.checker.proofs.PassedNames.{names-within}
 use Rattle.checker.specs.Syntax.{Syntax, syntaxOf}
 use Rattle.checker.specs.Check.{passedTable, check}
 use Rattle.checker.specs.Passes.{grammarOf, Passes}
@@ -125,7 +126,7 @@ module _ (table : Table) (passing : Passing table) (formula : List ℕ) where
   lex = syntax .lexicon
 
   few : length (table .outsides) ≤ 64
-  few = passing .within .outsideCount
+  few = names-within (passing .within) (passing .meets) .outsideCount
 
   abbrev Lexing : List Token → List (List ℕ) → Lexed
   Lexing ts ws = record { answer = Tokens (length ts) (length ws); tokens = ts; words = ws }
@@ -197,7 +198,7 @@ module _ (table : Table) (passing : Passing table) (formula : List ℕ) where
     unfolding lexemes
     worded P =
         expansion.derived-is-worded table passing lexemes (λ w a k. ap isWord (words-as-written w a k) ∙ spelled-at w a k .is-word)
-        (λ n l. ap isWord (outsides-as-listed n l) ∙ each-getD (passing .within .outsides) n [] l) P
+        (λ n l. ap isWord (outsides-as-listed n l) ∙ each-getD (names-within (passing .within) (passing .meets) .outsides) n [] l) P
 
   -- A formula has one term at most.
   pub means-one : {core-term other : Term Name} → Means syntax formula core-term → Means syntax formula other → core-term ≡ other
