@@ -6,8 +6,8 @@ use mathlib.Core.List.{List, [], _∷_, _++_, reverse, reverse-cons, append-asso
 use native.Mathlib.Omega.{arith}
 use lib.ListN.{length}
 use Rattle.grammar.specs.Sorts.{gives}
-use Rattle.grammar.specs.Table.{Template, variable, keyword, ide, number, Item, terminal, local, call, Alternative, Mode, add, extend, update}
-use Rattle.grammar.specs.Table.{Definition, Table}
+use Rattle.grammar.specs.Table.{Template, keyword, ide, number, Item, terminal, local, call, Mode, add, extend, update}
+use Rattle.grammar.specs.Written.{template, noResult, WrittenAlternative, WrittenDefinition, Written}
 use Rattle.grammar.specs.Values.{Field, field, templateThen, itemValue, modeCode, headValue}
 use Rattle.grammar.specs.Encode.{tableFields}
 use Rattle.decoding.specs.Layout.{follows}
@@ -54,11 +54,11 @@ module _ (last : ℕ) (low : last ≤ 8) (rest : Decoded) where
     record { blocks = g .blocks; definitions = g .definitions; begun = not-begun 6 last refl order },
   )
 
-  result-goes : (template : Template) → follows 7 last ≡ true → Filled 7 rest → Goes last (field 7 (templateThen template [])) rest
+  result-goes : (made : Template) → follows 7 last ≡ true → Filled 7 rest → Goes last (field 7 (templateThen made [])) rest
   unfolding follows
-  result-goes template order g = (
-    withResult template rest,
-    opens-result rest template last low order,
+  result-goes made order g = (
+    withResult (template made) rest,
+    opens-result rest made last low order,
     record { blocks = g .blocks; definitions = g .definitions; begun = not-begun 7 last refl order },
   )
 
@@ -82,7 +82,7 @@ module _ (last : ℕ) (low : last ≤ 8) (rest : Decoded) where
   )
   goes (rules.definition {n} {mode} {result} {params} hn hm hr hp hl) w order g =
       let (m, is) = mode-of mode hm in
-      let d : Definition = record { nonterminal = n; mode = m; signature = gives params result; alternatives = rest .alternatives } in (
+      let d : WrittenDefinition = record { nonterminal = n; mode = m; signature = gives params result; alternatives = rest .alternatives } in (
         withDefinition d rest,
         cc (opens-definition rest d refl last low order, is),
         record { blocks = g .blocks; definitions = each-more (g .begun refl) (g .definitions); begun = not-begun 4 last refl order },
@@ -99,7 +99,7 @@ module _ (last : ℕ) (low : last ≤ 8) (rest : Decoded) where
   goes (rules.call-item {n} {templates} h) w order g =
       let (ts, within, bytes) = w .arguments refl refl in
       subst⁻¹ (λ v. Goes last (field 6 (4 ∷ n ∷ v)) rest) bytes (item-goes (call n ts) order g)
-  goes (rules.result {template}) w order g =
+  goes rules.result w order g =
       let (t, within, bytes) = w .result refl in
       subst⁻¹ (λ v. Goes last (field 7 v) rest) bytes (result-goes t order g)
   goes (rules.root {n} h) w order g = (
@@ -121,7 +121,7 @@ module _ {bs : List ℕ} where
 
   -- whatever parts are left behind the fields that are reached, both together are a table
   reached-with : {at : ℕ} {before : List Field} {rest : List ℕ} → Reaches bs at before rest → (parts : Decoded) → Filled (lastTag before) parts
-      → (table : Table) × Each (Each HasAlternative) (table .blocks) × (tableFields table ≡ reverse before ++ left (lastTag before) parts)
+      → (table : Written) × Each (Each HasAlternative) (table .blocks) × (tableFields table ≡ reverse before ++ left (lastTag before) parts)
   unfolding left tableFields
   reached-with (at-start l) parts g = (tableOf parts, g .blocks, refl)
   reached-with (past-field {at} {before} {f} {rest} reached p) parts g =
@@ -137,7 +137,7 @@ module _ {bs : List ℕ} where
   -- Fields that are reached are the first fields of a table.
   pub reached-begins : {at : ℕ} {before : List Field} {rest : List ℕ} → Reaches bs at before rest → Begins before
   reached-begins {before = before} reached =
-      let one : Alternative = record { items = []; result = variable 0 } in
-      let parts = decoded [] [] [] 0 [] (one ∷ []) [] (variable 0) in
+      let one : WrittenAlternative = record { items = []; result = noResult } in
+      let parts = decoded [] [] [] 0 [] (one ∷ []) [] noResult in
       let (table, has, fields) = reached-with reached parts (record { blocks = each-none; definitions = each-none; begun = λ e. omega arith }) in
       record { table = table; alternatives = has; behind = left (lastTag before) parts; fields = fields }

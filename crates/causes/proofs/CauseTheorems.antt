@@ -15,6 +15,7 @@ use Rattle.answers.specs.declared.Verdict.the-variants.{Passed, Refused}
 use Rattle.answers.specs.Refusals.{refusal}
 use Rattle.answers.specs.Checked.{Checked, ok, bad, _>>=_, _>>_, verdict}
 use Rattle.grammar.specs.Table.{Table, Definition}
+use Rattle.grammar.specs.Written.{Written}
 use Rattle.grammar.specs.Values.{Field}
 use Rattle.grammar.specs.Encode.{encode}
 use Rattle.decoding.specs.Decode.{decode}
@@ -22,8 +23,8 @@ use Rattle.decoding.specs.Within.{Among, Within}
 use Rattle.decoding.proofs.LayoutTheorems.{decode-exactly}
 use Rattle.decoding.proofs.RefusalNumbers.{isLayoutNumber, decode-answers}
 use Rattle.judgements.specs.CheckSorts.{checkSorts}
-use Rattle.judgements.specs.Judgements.{WellSorted}
-use Rattle.judgements.proofs.SortTheorems.{sorts-exactly, checked-as-is, sort-refusals}
+use Rattle.judgements.specs.Elaboration.{Elaborates}
+use Rattle.judgements.proofs.SortTheorems.{sorts-exactly, sort-refusals}
 use Rattle.productions.specs.Normal.{Production, normalized}
 use Rattle.clashes.specs.CheckFirsts.{checkFirsts}
 use Rattle.clashes.specs.FirstRefusals.{Says}
@@ -55,7 +56,7 @@ pub reached-begins : {bs : List ℕ} {at : ℕ} {before : List Field} {rest : Li
 reached-begins = beginnings.reached-begins
 
 -- The check of sorts refuses exactly as the rules of the sorts do: 7, 8, 9 and 11.
-pub missorted-exactly : (table : Table) → Within table → (cause : Refusal) → (checkSorts table ≡ bad cause) ↔ Missorted table cause
+pub missorted-exactly : (table : Written) → Within table → (cause : Refusal) → (checkSorts table ≡ bad cause) ↔ Missorted table cause
 missorted-exactly = sorting.missorted-exactly
 
 -- The normalized grammar of blocks is the one that the rules give, in table order.
@@ -66,13 +67,13 @@ normal-exactly = normalizing.normal-exactly
 pub normalized-member : (blocks : List (List Definition)) (p : Production) → Among (normalized blocks) p ↔ Remains p (inOrder blocks)
 normalized-member = normalizing.normalized-member
 
--- In a well sorted table that is one whose nonterminal no later block updates.
-pub normalized-in-blocks : (table : Table) → WellSorted table → (p : Production)
-    → Among (normalized (table .blocks)) p ↔ RemainsInBlocks p (table .blocks)
-normalized-in-blocks table sorted p =
-    let (to, back) = normalized-member (table .blocks) p in (
-      λ m. blocks.to-blocks (table .blocks) (to m),
-      λ r. back (blocks.from-blocks (sorted .sequence) r),
+-- In an elaborated table that is one whose nonterminal no later block updates.
+pub normalized-in-blocks : (table : Written) (made : Table) → Elaborates table made → (p : Production)
+    → Among (normalized (made .blocks)) p ↔ RemainsInBlocks p (made .blocks)
+normalized-in-blocks table made elaborates p =
+    let (to, back) = normalized-member (made .blocks) p in (
+      λ m. blocks.to-blocks (made .blocks) (to m),
+      λ r. back (blocks.from-blocks (elaborates .sequence) r),
     )
 
 -- ------------------------------------------------------------------ the whole check
@@ -82,29 +83,26 @@ same e = cc
 
 module _ (bs : List ℕ) (bytes : (place : ℕ) → getD bs place 0 < 256) where
   -- what the check refuses, part by part
-  from-firsts : (table : Table) {cause : Refusal} → decode bs ≡ ok table → checkSorts table ≡ ok table → (checked : Checked (Unit {0}))
-      → checkFirsts (grammarOf table) ≡ checked → verdict (checked >> ok (syntaxOf table)) ≡ Refused cause → RefusesTable bs cause
-  from-firsts table {cause} d s (ok u) e h = never cause (sym h)
-  from-firsts table {cause} d s (bad q) e h =
+  from-firsts : (table : Written) (made : Table) {cause : Refusal} → decode bs ≡ ok table → checkSorts table ≡ ok made → (checked : Checked (Unit {0}))
+      → checkFirsts (grammarOf made) ≡ checked → verdict (checked >> ok (syntaxOf made)) ≡ Refused cause → RefusesTable bs cause
+  from-firsts table made {cause} d s (ok u) e h = never cause (sym h)
+  from-firsts table made {cause} d s (bad q) e h =
       let (encoded, within) = decode-exactly bs bytes table .0 d in
-      by encoded within (sorts-exactly table within .0 s) (result-exactly (grammarOf table) (bad _) .0 (e ∙ ap bad (same h)))
+      by encoded within (sorts-exactly table made within .0 s) (result-exactly (grammarOf made) (bad _) .0 (e ∙ ap bad (same h)))
     where
-      by : bs ≡ encode table → Within table → WellSorted table → Says (grammarOf table) (bad cause) → RefusesTable bs cause
-      by encoded within sorted (inl says) = subst⁻¹ (RefusesTable bs) (says .answer) (left-recursive encoded within sorted (says .lowest))
-      by encoded within sorted (inr says) =
-          subst⁻¹ (RefusesTable bs) (says .answer) (clashing encoded within sorted (says .earlier) (says .lowest) (says .shared))
+      by : bs ≡ encode table → Within table → Elaborates table made → Says (grammarOf made) (bad cause) → RefusesTable bs cause
+      by encoded within elaborates (inl says) = subst⁻¹ (RefusesTable bs) (says .answer) (left-recursive encoded within elaborates (says .lowest))
+      by encoded within elaborates (inr says) =
+          subst⁻¹ (RefusesTable bs) (says .answer) (clashing encoded within elaborates (says .earlier) (says .lowest) (says .shared))
 
-  from-sorts : (table : Table) {cause : Refusal} → decode bs ≡ ok table → (checked : Checked Table) → checkSorts table ≡ checked
+  from-sorts : (table : Written) {cause : Refusal} → decode bs ≡ ok table → (checked : Checked Table) → checkSorts table ≡ checked
       → verdict (checked >>= λ u. checkFirsts (grammarOf u) >> ok (syntaxOf u)) ≡ Refused cause → RefusesTable bs cause
-  from-sorts table {cause} d (ok u) e h =
-      let same-table : table ≡ u = checked-as-is (decode-exactly bs bytes table .0 d .1) e in
-      from-firsts table d (e ∙ ap ok (sym same-table)) (checkFirsts (grammarOf table)) refl
-      (subst⁻¹ (λ t. verdict (checkFirsts (grammarOf t) >> ok (syntaxOf t)) ≡ Refused cause) same-table h)
+  from-sorts table d (ok made) e h = from-firsts table made d e (checkFirsts (grammarOf made)) refl h
   from-sorts table d (bad q) e h =
       let (encoded, within) = decode-exactly bs bytes table .0 d in
       unlaid (by-sorts encoded within (missorted-exactly table within _ .0 (e ∙ ap bad (same h))))
 
-  from-layout : {cause : Refusal} (checked : Checked Table) → decode bs ≡ checked
+  from-layout : {cause : Refusal} (checked : Checked Written) → decode bs ≡ checked
       → verdict (checked >>= λ t. checkSorts t >>= λ u. checkFirsts (grammarOf u) >> ok (syntaxOf u)) ≡ Refused cause → RefusesTable bs cause
   from-layout (ok t) e h = from-sorts t e (checkSorts t) refl h
   from-layout (bad q) e h = unlaid (by-layout (misplaced-exactly bs bytes _ .0 (e ∙ ap bad (same h))))
@@ -118,18 +116,18 @@ module _ (bs : List ℕ) (bytes : (place : ℕ) → getD bs place 0 < 256) where
   refused-unlaid {cause} (by-sorts {t} e w m) =
       refused-by-sorts bs t cause (decode-exactly bs bytes t .1 (e, w)) (missorted-exactly t w cause .1 m)
 
-  of-firsts : (table : Table) (cause : Refusal) → bs ≡ encode table → Within table → WellSorted table → Says (grammarOf table) (bad cause)
-      → check bs ≡ Refused cause
-  of-firsts table cause encoded within sorted says =
-      refused-by-firsts bs table cause (decode-exactly bs bytes table .1 (encoded, within)) (sorts-exactly table within .1 sorted)
-      (result-exactly (grammarOf table) (bad cause) .1 says)
+  of-firsts : (table : Written) (made : Table) (cause : Refusal) → bs ≡ encode table → Within table → Elaborates table made
+      → Says (grammarOf made) (bad cause) → check bs ≡ Refused cause
+  of-firsts table made cause encoded within elaborates says =
+      refused-by-firsts bs table made cause (decode-exactly bs bytes table .1 (encoded, within)) (sorts-exactly table made within .1 elaborates)
+      (result-exactly (grammarOf made) (bad cause) .1 says)
 
   refused : {cause : Refusal} → RefusesTable bs cause → check bs ≡ Refused cause
   refused (unlaid u) = refused-unlaid u
-  refused (left-recursive {t} {n} encoded within sorted lowest) =
-      of-firsts t _ encoded within sorted (inl (record { nonterminal = n; answer = refl; lowest = lowest }))
-  refused (clashing {t} {n} {bit} encoded within sorted earlier lowest shared) =
-      of-firsts t _ encoded within sorted
+  refused (left-recursive {t} {u} {n} encoded within elaborates lowest) =
+      of-firsts t u _ encoded within elaborates (inl (record { nonterminal = n; answer = refl; lowest = lowest }))
+  refused (clashing {t} {u} {n} {bit} encoded within elaborates earlier lowest shared) =
+      of-firsts t u _ encoded within elaborates
       (inr (record { nonterminal = n; kind = bit; answer = refl; earlier = earlier; lowest = lowest; shared = shared }))
 
   -- The check gives a refusal exactly if the rules of 1 to 13 do.
@@ -170,7 +168,7 @@ module _ (bs : List ℕ) (bytes : (place : ℕ) → getD bs place 0 < 256) where
       e : decode bs ≡ bad cause
       e = misplaced-exactly bs bytes cause .1 m
 
-      by : ((table : Table) × (decode bs ≡ ok table)) ⊎ ((other : Refusal) × (decode bs ≡ bad other) × (isLayoutNumber (other .number) ≡ true))
+      by : ((table : Written) × (decode bs ≡ ok table)) ⊎ ((other : Refusal) × (decode bs ≡ bad other) × (isLayoutNumber (other .number) ≡ true))
           → cause .number ≤ 11
       by (inl a) = let z : _≡_ {A = ℕ} 0 1 = cc (e, a .1) in absurd (omega arith)
       by (inr a) = let z : a .0 ≡ cause = cc (e, a .1) in laid-number (rw z at (a .2))
@@ -182,37 +180,37 @@ module _ (bs : List ℕ) (bytes : (place : ℕ) → getD bs place 0 < 256) where
     where
       by : {other : Refusal} → RefusesTable bs other → other .number ≤ 11 → Unlaid bs other
       by (unlaid u) small = u
-      by (left-recursive encoded within sorted lowest) small = absurd (omega arith)
-      by (clashing encoded within sorted earlier lowest shared) small = absurd (omega arith)
+      by (left-recursive encoded within elaborates lowest) small = absurd (omega arith)
+      by (clashing encoded within elaborates earlier lowest shared) small = absurd (omega arith)
 
   -- Bytes that are laid out and sorted are not refused by 1 to 11.
   pub laid-not-unlaid : Laid bs → (cause : Refusal) → ¬ Unlaid bs cause
   laid-not-unlaid laid cause u = by u
     where
-      d : decode bs ≡ ok (laid .table)
-      d = decode-exactly bs bytes (laid .table) .1 (laid .encoded, laid .within)
+      d : decode bs ≡ ok (laid .written)
+      d = decode-exactly bs bytes (laid .written) .1 (laid .encoded, laid .within)
 
       by : Unlaid bs cause → ⊥
       by (by-layout m) = let z : _≡_ {A = ℕ} 0 1 = cc (d, misplaced-exactly bs bytes cause .1 m) in omega arith
       by (by-sorts {t} e w m) =
-          let same-table : t ≡ laid .table = cc (d, decode-exactly bs bytes t .1 (e, w)) in
-          let z : _≡_ {A = ℕ} 0 1
-          = cc (same-table, missorted-exactly t w cause .1 m, sorts-exactly (laid .table) (laid .within) .1 (laid .sorted)) in
+          let same-table : t ≡ laid .written = cc (d, decode-exactly bs bytes t .1 (e, w)) in
+          let passed = sorts-exactly (laid .written) (laid .table) (laid .within) .1 (laid .elaborates) in
+          let z : _≡_ {A = ℕ} 0 1 = cc (same-table, missorted-exactly t w cause .1 m, passed) in
           omega arith
 
   -- All others are, by one.
   pub laid-or-unlaid : Laid bs ⊎ ((cause : Refusal) × Unlaid bs cause)
   laid-or-unlaid = by (decode bs) refl
     where
-      by-table : (table : Table) → decode bs ≡ ok table → (checked : Checked Table) → checkSorts table ≡ checked
+      by-table : (table : Written) → decode bs ≡ ok table → (checked : Checked Table) → checkSorts table ≡ checked
           → Laid bs ⊎ ((cause : Refusal) × Unlaid bs cause)
       by-table table d (ok u) e =
           let (encoded, within) = decode-exactly bs bytes table .0 d in
-          inl (record { table = table; encoded = encoded; within = within; sorted = sorts-exactly table within .0 (e ∙ ap ok (sym (checked-as-is within e))) })
+          inl (record { written = table; table = u; encoded = encoded; within = within; elaborates = sorts-exactly table u within .0 e })
       by-table table d (bad q) e =
           let (encoded, within) = decode-exactly bs bytes table .0 d in
           inr (q, by-sorts encoded within (missorted-exactly table within q .0 e))
 
-      by : (checked : Checked Table) → decode bs ≡ checked → Laid bs ⊎ ((cause : Refusal) × Unlaid bs cause)
+      by : (checked : Checked Written) → decode bs ≡ checked → Laid bs ⊎ ((cause : Refusal) × Unlaid bs cause)
       by (ok t) e = by-table t e (checkSorts t) refl
       by (bad q) e = inr (q, by-layout (misplaced-exactly bs bytes q .0 e))

@@ -16,12 +16,14 @@ use Rattle.grammar.specs.Sorts.{Signature, gives, unit, term}
 use Rattle.grammar.specs.SortTests.{fits}
 use Rattle.grammar.specs.Table.{Template, Templates, variable, outsideVar, outsideLabel, make, none, more, keyword, ide, number, Item, terminal}
 use Rattle.grammar.specs.Table.{local, call}
-use Rattle.grammar.specs.Table.{Mode, add, extend, update, Definition}
-use Rattle.decoding.specs.Within.{TemplateWithin, TemplatesWithin, ide-within, ItemWithin, terminal-within, call-within}
+use Rattle.grammar.specs.Table.{Mode, add, extend, update}
+use Rattle.grammar.specs.Written.{WrittenResult, template, WrittenDefinition}
+use Rattle.decoding.specs.Within.{TemplatesWithin, ide-within, ItemWithin, terminal-within, call-within, ResultWithin, template-within}
 use Rattle.judgements.specs.Scopes.{Env, Scope}
 use Rattle.judgements.specs.CheckSorts.{isDefined, signatureOf, sameSignature, isAsBefore, isUnused, consistent, isClosed, areClosed, sortOf, isSorted, fill}
 use Rattle.judgements.specs.CheckSorts.{checkItem, checkResult, checkRoot}
 use Rattle.judgements.specs.Judgements.{Newest, Undeclared, Fits, Sorted, Fill, ItemSorted, by-keyword, by-ide, by-number, by-local, by-call}
+use Rattle.judgements.specs.Elaboration.{ResultSorted, by-template}
 use Rattle.judgements.proofs.Environments.{defined-here, defined-later, defined-newest, newest-defined, newest-signature, undefined-absent}
 use Rattle.judgements.proofs.Environments.{absent-undefined, same-signature, signature-same}
 use Rattle.judgements.proofs.TemplateSorts.{both, pair, fits-rule, rule-fits, sorted-rule, rule-sorted, fill-rule, rule-fill}
@@ -75,10 +77,6 @@ pub outcome : {A C : Type 0} {at : ℕ} {p : Part} {R : A → Type 0} {checked :
     → ((a : A) → R a → checked ≡ ok a → C) → ((r : Refusal) → Fails at p r → checked ≡ bad r → C) → C
 outcome (passing a r e) f g = f a r e
 outcome (failing {r} h e) f g = g r h e
-
--- a result is the template that is answered, and has a sort that fits
-abbrev pub ResultSorted : Scope → List ℕ → ℕ → Template → Template → Type 0
-ResultSorted G L B t u = (t ≡ u) × (A : ℕ) × Sorted (G .outsides) L t A × Fits A B
 
 module _ (G : Scope) (L : List ℕ) (at : ℕ) where
   closed-call : (n : ℕ) (ts : Templates) → isDefined (G .env) n ≡ true → areClosed ts G (length L) ≡ true → ¬ UndefinedItem G (length L) (call n ts)
@@ -143,29 +141,30 @@ module _ (G : Scope) (L : List ℕ) (at : ℕ) where
       true≢false (sym (pair (isSorted t L) (fits (sortOf t L) B) k (cc (is, rule-fits f))) ∙ e)
 
   -- a result passes by a judgement, or fails
-  pub result-view : (B : ℕ) (t : Template) → TemplateWithin t → Outcome at (result G L B t) (ResultSorted G L B t) (checkResult G L B at t)
-  result-view B t w =
+  pub result-view : (B : ℕ) {r : WrittenResult} → ResultWithin r → Outcome at (result G L B r) (ResultSorted G L B r) (checkResult G L B at r)
+  result-view B (template-within {t} w) =
       by-test (isClosed t G (length L))
       (λ c. by-test (isSorted t L && fits (sortOf t L) B)
       (λ s.
       let (k, f) = both (isSorted t L) (fits (sortOf t L) B) s in
-      passing t (refl, sortOf t L, sorted-rule G L t w c k, fits-rule (sortOf t L) B f) (rw (c, s) refl))
+      passing t (by-template (sorted-rule G L t w c k) (fits-rule (sortOf t L) B f)) (rw (c, s) refl))
       (λ s. failing (rules.unsorted-result (closed-result t c) (unfit B t s)) (rw (c, s) refl)))
       (λ c. failing (rules.undefined-result (open-rule G (length L) t c)) (rw c refl))
 
   -- a result with a sort that fits passes
-  pub result-passes : (B : ℕ) (t : Template) {u : Template} → ResultSorted G L B t u → checkResult G L B at t ≡ ok u
-  result-passes B t (e, A, s, f) =
-      let (closed, sorted, is) = rule-sorted G L t s in rw (closed, sorted, is, rule-fits f) (ap ok e)
+  pub result-passes : {B : ℕ} {r : WrittenResult} {made : Template} → ResultSorted G L B r made → checkResult G L B at r ≡ ok made
+  result-passes (by-template {t = t} s f) =
+      let (closed, sorted, is) = rule-sorted G L t s in rw (closed, sorted, is, rule-fits f) refl
 
   -- a result that fails is refused
-  pub result-fails : {B : ℕ} {t : Template} {r : Refusal} → TemplateWithin t → Fails at (result G L B t) r → checkResult G L B at t ≡ bad r
-  result-fails {B} {t} w h = by (result-view B t w) h
+  pub result-fails : {B : ℕ} {result : WrittenResult} {r : Refusal} → ResultWithin result → Fails at (rules.result G L B result) r
+      → checkResult G L B at result ≡ bad r
+  result-fails {B} (template-within {t} w) h = by (result-view B (template-within w)) h
     where
-      by : {r : Refusal} → Outcome at (result G L B t) (ResultSorted G L B t) (checkResult G L B at t) → Fails at (result G L B t) r
-          → checkResult G L B at t ≡ bad r
-      by (passing u (q, A, s, f) e) (rules.undefined-result v) = absurd (closed-result t (rule-sorted G L t s .0) v)
-      by (passing u (q, A, s, f) e) (rules.unsorted-result d v) = absurd (v A s f)
+      by : {r : Refusal} → Outcome at (result G L B (template t)) (ResultSorted G L B (template t)) (checkResult G L B at (template t))
+          → Fails at (result G L B (template t)) r → checkResult G L B at (template t) ≡ bad r
+      by (passing u (by-template s f) e) (rules.undefined-result v) = absurd (closed-result t (rule-sorted G L t s .0) v)
+      by (passing u (by-template {A = A} s f) e) (rules.unsorted-result d v) = absurd (v A s f)
       by (failing (rules.undefined-result v) e) (rules.undefined-result u) = e
       by (failing (rules.unsorted-result d v) e) (rules.undefined-result u) = absurd (d u)
       by (failing (rules.undefined-result v) e) (rules.unsorted-result d u) = absurd (d v)
@@ -222,7 +221,7 @@ defined-append (e ∷ own) E n =
     by-test (eqb (e .nonterminal) n) (λ q. rw (defined-here e (own ++ E) n q, defined-here e own n q) refl)
     (λ q. rw (defined-later e (own ++ E) n q, defined-later e own n q) (defined-append own E n))
 
-module _ (E own : Env) (d : Definition) (at : ℕ) where
+module _ (E own : Env) (d : WrittenDefinition) (at : ℕ) where
   abbrev n : ℕ
   n = d .nonterminal
 

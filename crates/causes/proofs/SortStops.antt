@@ -7,17 +7,19 @@ use native.Mathlib.Omega.{arith}
 use lib.ListN.{length}
 use Rattle.answers.specs.declared.Refusal.{Refusal}
 use Rattle.answers.specs.Checked.{Checked, ok, bad, _>>=_, _>>_}
-use Rattle.grammar.specs.Table.{Item, Alternative, Definition, Table}
+use Rattle.grammar.specs.Table.{Item, Alternative, Definition}
+use Rattle.grammar.specs.Written.{WrittenAlternative, WrittenDefinition, Written}
 use Rattle.grammar.specs.Values.{Field, field, headValue}
 use Rattle.grammar.specs.Encode.{itemsThen, alternativesThen, definitionsThen}
 use Rattle.decoding.specs.Within.{Each, AlternativeWithin, DefinitionWithin, Within}
 use Rattle.judgements.specs.Sizes.{fieldSize, spellingsSize, itemsSize, alternativesSize, definitionsSize}
 use Rattle.judgements.specs.Scopes.{Env, Before, Scope}
 use Rattle.judgements.specs.CheckSorts.{collect, checkItems, checkResult, checkAlternative, checkBodies, checkBlocks, blocksSize, checkRoot, checkSorts}
-use Rattle.judgements.specs.Judgements.{Bodies, Defines, Ok, Sequence}
+use Rattle.judgements.specs.Judgements.{Numbered, Defines}
+use Rattle.judgements.specs.Elaboration.{Bodies, Ok}
 use Rattle.judgements.proofs.SequenceSorts.{atFirst}
 use Rattle.judgements.proofs.SizeLaws.{bytesOf, one-field, no-bytes, items-bytes, alternatives-bytes, definitions-bytes, front-size}
-use Rattle.causes.specs.Missorted.{Part, head, result, root, Fails, At, Numbered, Next, placeBehind, headPlace, bodyPlace, within, Missorted}
+use Rattle.causes.specs.Missorted.{Part, head, result, root, Fails, At, Next, Derived, placeBehind, headPlace, bodyPlace, within, Missorted}
 use Rattle.causes.specs.Missorted as rules
 use Rattle.causes.proofs.PartTests.{outcome, item-view, item-fails, result-view, result-fails, head-view, head-fails, root-view, root-fails}
 use Rattle.causes.proofs.Walking.{no-refusal, first-or-next, then-is, this-of, Stop, stops, stopped, passes, passed}
@@ -25,7 +27,7 @@ use Rattle.causes.proofs.SortWalks.{items, alternatives, bodies, heads,
 
 -- ------------------------------------------------------------------ the whole table
 
-module _ (t : Table) where
+module _ (t : Written) where
   abbrev K : ℕ
   K = length (t .keywords)
 
@@ -36,16 +38,16 @@ module _ (t : Table) where
   abbrev first : ℕ
   first = spellingsSize (t .keywords) + spellingsSize (t .outsides)
 
-  place-behind : (bs : List (List Definition)) (follow : List Field) → placeBehind t bs follow ≡ first + blocksSize bs + bytesOf follow
+  place-behind : (bs : List (List WrittenDefinition)) (follow : List Field) → placeBehind t bs follow ≡ first + blocksSize bs + bytesOf follow
   place-behind = front-size (t .keywords) (t .outsides)
 
   -- the place of a head, and of what stands in a body
-  head-place : (bs : List (List Definition)) (ds : List Definition)
+  head-place : (bs : List (List WrittenDefinition)) (ds : List WrittenDefinition)
       → placeBehind t bs (field 3 [] ∷ definitionsThen ds []) ≡ first + blocksSize bs + 3 + definitionsSize ds
   head-place bs ds =
       omega (arith, place-behind bs (field 3 [] ∷ definitionsThen ds []), one-field (field 3 []) (definitionsThen ds []), definitions-bytes [] ds, no-bytes)
 
-  body-place : (bs : List (List Definition)) (ds : List Definition) (d : Definition) (choices : List Alternative) (is : List Item)
+  body-place : (bs : List (List WrittenDefinition)) (ds : List WrittenDefinition) (d : WrittenDefinition) (choices : List WrittenAlternative) (is : List Item)
       → placeBehind t bs (field 3 [] ∷ definitionsThen ds (field 4 (headValue d) ∷ alternativesThen choices (field 5 [] ∷ itemsThen is [])))
       ≡ first + blocksSize bs + 3 + definitionsSize ds + fieldSize (headValue d) + alternativesSize choices + 3 + itemsSize is
   body-place bs ds d choices is =
@@ -75,9 +77,9 @@ module _ (t : Table) where
     E = block .state .env
 
     -- the blocks before it are derived
-    derived : Sequence K N [] (block .here .before) E
+    derived : Derived t (block .here .before) E
     unfolding blocks
-    derived = block .before .0
+    derived = (block .before .0, block .before .1)
 
     by-head : Stop (heads E) [] (block .place + 3) (block .here .this) r → Missorted t r
     unfolding heads blocks
@@ -92,11 +94,11 @@ module _ (t : Table) where
       abbrev G : Scope
       G = within t (own ++ E)
 
-      abbrev d : Definition
+      abbrev d : WrittenDefinition
       d = body .here .this
 
       module _ (choice : Stop (alternatives G (d .signature)) [] (body .place + fieldSize (headValue d)) (d .alternatives) r) where
-        abbrev a : Alternative
+        abbrev a : WrittenAlternative
         a = choice .here .this
 
         abbrev params : List ℕ
@@ -116,7 +118,7 @@ module _ (t : Table) where
         reached : {L : List ℕ} {is : List Item} {p : Part} → Numbered G params is L → Next G L (d .signature .result) a is p
             → rules.Reaches t (bodyPlace t (block .here) (body .here) (choice .here) is) p
         unfolding alternatives bodies blocks
-        reached = rules.in-body (block .here) (body .here) (choice .here) derived defines (body .before .0) (choice .before .0)
+        reached = rules.in-body (block .here) (body .here) (choice .here) derived defines (body .before .1) (choice .before .1)
 
         by-item : AlternativeWithin a → Stop (items G) params (choice .place + 3) (a .items) r → Missorted t r
         unfolding items
@@ -129,7 +131,7 @@ module _ (t : Table) where
         by-result : AlternativeWithin a → (L : List ℕ) → Numbered G params (a .items) L
             → checkResult G L (d .signature .result) (choice .place + 3 + itemsSize (a .items)) (a .result) ≡ bad r → Missorted t r
         by-result w L n h =
-            outcome (result-view G L (choice .place + 3 + itemsSize (a .items)) (d .signature .result) (a .result) (w .result))
+            outcome (result-view G L (choice .place + 3 + itemsSize (a .items)) (d .signature .result) (w .result))
             (λ u s q. no-refusal (sym q ∙ h))
             (λ r′ f q. missorted (reached n rules.the-result) f (sym q ∙ h) (place (a .items)))
 
@@ -174,7 +176,9 @@ module _ (t : Table) where
       (λ h. let block = stops (blocks K N) (t .blocks) atFirst first (w .blocks) h in by-block block (this-of (block .here) (w .blocks)))
       (λ P p h. first-or-next (checkRoot (P .env) root-at (t .root)) _ (sym (then-is (checkRoot (P .env) root-at (t .root)) _) ∙ h)
       (λ h. outcome (root-view (P .env) root-at (t .root)) (λ u d q. no-refusal (sym q ∙ h))
-      (λ r′ f q. missorted (rules.at-root (passes (blocks K N) (t .blocks) atFirst P first (w .blocks) p .0)) f (sym q ∙ h) (sym root-place)))
+      (λ r′ f q.
+      let (hs, s, is) = passes (blocks K N) (t .blocks) atFirst P first (w .blocks) p in
+      missorted (rules.at-root (hs, s)) f (sym q ∙ h) (sym root-place)))
       (λ u q h. no-refusal h))
 
   -- ------------------------------------------------------------------ from the rules to the check
@@ -183,27 +187,27 @@ module _ (t : Table) where
   abbrev standing : Env → List (List Definition) → Before
   standing E bs = record { env = E; blocks = bs }
 
-  in-block : {r : Refusal} {E : Env} (b : At (t .blocks)) → Sequence K N [] (b .before) E
-      → checkBlock K N (standing E (b .before)) (first + blocksSize (b .before)) (b .this) ≡ bad r
+  in-block : {r : Refusal} {E : Env} (b : At (t .blocks)) (s : Derived t (b .before) E)
+      → checkBlock K N (standing E (s .0)) (first + blocksSize (b .before)) (b .this) ≡ bad r
       → checkSorts t ≡ bad r
   unfolding checkSorts blocks
   in-block {E = E} b s h =
       let stop : Stop (blocks K N) atFirst first (t .blocks) _
       = record {
         here = b;
-        state = standing E (b .before);
-        before = (s, refl);
+        state = standing E (s .0);
+        before = (s .0, s .1, refl);
         place = first + blocksSize (b .before);
         place-is = refl;
         refused = h;
       } in
       rw (stopped (blocks K N) stop) refl
 
-  at-root : {r : Refusal} {E : Env} → Sequence K N [] (t .blocks) E → checkRoot E root-at (t .root) ≡ bad r → checkSorts t ≡ bad r
+  at-root : {r : Refusal} {E : Env} → Derived t (t .blocks) E → checkRoot E root-at (t .root) ≡ bad r → checkSorts t ≡ bad r
   unfolding checkSorts blocks
-  at-root {E = E} s h = rw (passed (blocks K N) (t .blocks) atFirst (standing E (t .blocks)) first (s, refl), h) refl
+  at-root {E = E} s h = rw (passed (blocks K N) (t .blocks) atFirst (standing E (s .0)) first (s .0, s .1, refl), h) refl
 
-  at-head : {r : Refusal} {E own : Env} (b : At (t .blocks)) (d : At (b .this)) → Sequence K N [] (b .before) E → Defines E [] (d .before) own
+  at-head : {r : Refusal} {E own : Env} (b : At (t .blocks)) (d : At (b .this)) → Derived t (b .before) E → Defines E [] (d .before) own
       → Fails (headPlace t b d) (head E own (d .this)) r → checkSorts t ≡ bad r
   unfolding heads
   at-head {r} {E} {own} b d s k f =
@@ -219,27 +223,28 @@ module _ (t : Table) where
       } in
       in-block b s (rw (stopped (heads E) stop) refl)
 
-  in-body : {r : Refusal} {E own : Env} (b : At (t .blocks)) (d : At (b .this)) (a : At (d .this .alternatives))
-      → Sequence K N [] (b .before) E
+  in-body : {r : Refusal} {E own : Env} {es : List Definition} {others : List Alternative} (b : At (t .blocks)) (d : At (b .this))
+      (a : At (d .this .alternatives))
+      → Derived t (b .before) E
       → Defines E [] (b .this) own
-      → Ok (within t (own ++ E)) (d .before)
-      → Bodies (within t (own ++ E)) (d .this .signature) (a .before)
+      → Ok (within t (own ++ E)) (d .before) es
+      → Bodies (within t (own ++ E)) (d .this .signature) (a .before) others
       → checkAlternative (within t (own ++ E)) (d .this .signature)
       (first + blocksSize (b .before) + 3 + definitionsSize (d .before) + fieldSize (headValue (d .this)) + alternativesSize (a .before)) (a .this)
       ≡ bad r
       → checkSorts t ≡ bad r
   unfolding heads bodies alternatives
-  in-body {r} {E} {own} b d a s k o c h =
+  in-body {r} {E} {own} {es} {others} b d a s k o c h =
       let G : Scope = within t (own ++ E) in
       let place : ℕ = first + blocksSize (b .before) + 3 in
       let behind : ℕ = place + definitionsSize (d .before) + fieldSize (headValue (d .this)) in
       let choice : Stop (alternatives G (d .this .signature)) [] behind (d .this .alternatives) r
-      = record { here = a; state = a .before; before = (c, refl); place = _; place-is = refl; refused = h } in
+      = record { here = a; state = others; before = (others, c, refl); place = _; place-is = refl; refused = h } in
       let body : Stop (bodies G) [] place (b .this) r
       = record {
         here = d;
-        state = d .before;
-        before = (o, refl);
+        state = es;
+        before = (es, o, refl);
         place = place + definitionsSize (d .before);
         place-is = refl;
         refused = stopped (alternatives G (d .this .signature)) choice;

@@ -7,27 +7,26 @@ use native.Mathlib.Omega.{arith}
 use Rattle.answers.specs.Checked.{Checked, ok, bad, _>>=_, _>>_}
 use Rattle.grammar.specs.Sorts.{Signature}
 use Rattle.grammar.specs.Table.{Template, Item, Alternative, Mode, add, extend, update, Definition}
+use Rattle.grammar.specs.Written.{WrittenResult, WrittenAlternative, WrittenDefinition, withAlternatives}
 use Rattle.grammar.specs.Values.{itemValue, headValue}
 use Rattle.decoding.specs.Within.{Each, ItemWithin, AlternativeWithin, DefinitionWithin}
 use Rattle.judgements.specs.Sizes.{fieldSize, itemsSize, alternativeSize, alternativesSize, definitionSize, definitionsSize}
 use Rattle.judgements.specs.Scopes.{Env, Before, Scope, entryOf}
 use Rattle.judgements.specs.CheckSorts.{consistent, collect, checkItem, checkItems, checkResult, checkAlternative, checkAlternatives, checkBodies, checkBlocks}
 use Rattle.judgements.specs.CheckSorts.{blocksSize}
-use Rattle.judgements.specs.Judgements.{Sorted, Fits, ItemSorted, Body, by-result, by-binding, Bodies, no-alternative, by-choice, Ok, ok-empty, ok-definition}
-use Rattle.judgements.specs.Judgements.{Defines, no-definition, by-add, by-extend, by-update, scope, Sequence, no-grammar, by-grammar}
-use Rattle.judgements.proofs.BodySorts.{withAlternatives}
+use Rattle.judgements.specs.Judgements.{ItemSorted, Numbered, no-item, one-more, Defines, no-definition, by-add, by-extend, by-update, scope}
+use Rattle.judgements.specs.Elaboration.{ResultSorted, Bodies, no-alternative, by-choice, Ok, ok-empty, ok-definition, Sequence, no-grammar, by-grammar}
 use Rattle.judgements.proofs.SequenceSorts.{behindBlock}
-use Rattle.causes.specs.Missorted.{Numbered, no-item, one-more}
-use Rattle.causes.proofs.PartTests.{outcome, item-view, item-passes, ResultSorted, result-view, result-passes, Consistent, head-view, inconsistent}
+use Rattle.causes.proofs.PartTests.{outcome, item-view, item-passes, result-view, result-passes, Consistent, head-view, inconsistent}
 use Rattle.causes.proofs.Walking.{no-refusal, both-pass, then-is, Walk, passes, passed}
 
 -- ------------------------------------------------------------------ bodies
 
--- some members are right, and are laid as they are behind those that were checked before
-abbrev pub AsIs : {A : Type 0} → (List A → Type 0) → List A → List A → List A → Type 0
-AsIs Right done xs all = Right xs × (done ++ xs ≡ all)
+-- some members are elaborated, and what they are elaborated to is laid behind that of those before
+abbrev pub Elaborated : {A B : Type 0} → (List A → List B → Type 0) → List B → List A → List B → Type 0
+Elaborated {B = B} Right done xs all = (made : List B) × Right xs made × (done ++ made ≡ all)
 
--- a member that is answered as it is, laid behind those before it
+-- what a member is elaborated to, laid behind that of those before it
 pub laid-behind : {A : Type 0} (done rest : List A) {x y : A} {all : List A} → x ≡ y → ((done ++ (y ∷ [])) ++ rest) ≡ all → (done ++ (x ∷ rest)) ≡ all
 laid-behind done rest {x} e q = sym (append-assoc done (x ∷ []) rest) ∙ ap (λ z. (done ++ (z ∷ [])) ++ rest) e ∙ q
 
@@ -66,41 +65,33 @@ module _ (G : Scope) where
           → (A : ℕ) × ((at : ℕ) → checkItem G L at i ≡ ok A) × Numbered G (L ++ (A ∷ [])) is L′
       more-is L L′ i is (one-more {A = A} s n) = (A, λ at. item-passes G L at s, n)
 
-  -- an alternative has the sort exactly if its items number its variables, and its result then has a sort that fits
-  of-parts : {L L′ : List ℕ} {is : List Item} {t u : Template} {B : ℕ} → Numbered G L is L′ → ResultSorted G L′ B t u → Body G L is t B
-  of-parts no-item (e, A, s, f) = by-result s f
-  of-parts (one-more i n) r = by-binding i (of-parts n r)
-
-  parts-of : {L : List ℕ} {is : List Item} {t : Template} {B : ℕ} → Body G L is t B → (L′ : List ℕ) × Numbered G L is L′ × ResultSorted G L′ B t t
-  parts-of (by-result {L} {A = A} s f) = (L, no-item, (refl, A, s, f))
-  parts-of (by-binding i b) = let (L′, n, r) = parts-of b in (L′, one-more i n, r)
-
   module _ (S : Signature) where
-    -- an alternative that passes has the sort, and is answered as it is
-    pub alternative-sorted : (at : ℕ) (a : Alternative) {b : Alternative} → AlternativeWithin a → checkAlternative G S at a ≡ ok b
-        → Body G (S .params) (a .items) (a .result) (S .result) × (a ≡ b)
+    -- an alternative that passes numbers its variables, and its result has the sort; it is answered with the template of the result
+    pub alternative-sorted : (at : ℕ) (a : WrittenAlternative) {b : Alternative} → AlternativeWithin a → checkAlternative G S at a ≡ ok b
+        → (L : List ℕ) × (made : Template) × Numbered G (S .params) (a .items) L × ResultSorted G L (S .result) (a .result) made
+        × (record { items = a .items; result = made } ≡ b)
     unfolding checkAlternative items
     alternative-sorted at a {b} w e =
         let from : ℕ = at + 3 + itemsSize (a .items) in
         let whole : Template → Alternative = λ t. record { items = a .items; result = t } in
         both-pass (checkItems G (S .params) (at + 3) (a .items)) _ e
         (λ L p h. both-pass (checkResult G L (S .result) from (a .result)) _ h
-        (λ t q k. outcome (result-view G L from (S .result) (a .result) (w .result))
+        (λ t q k. outcome (result-view G L from (S .result) (w .result))
         (λ u r q′.
         let answered : whole t ≡ b = cc in
-        let same : a .result ≡ t = cc (r .0) in
-        (of-parts (passes items (a .items) (S .params) L (at + 3) (w .items) p) r, ap whole same ∙ answered))
+        let same : u ≡ t = cc in
+        (L, u, passes items (a .items) (S .params) L (at + 3) (w .items) p, r, ap whole same ∙ answered))
         (λ r f q′. no-refusal (sym q ∙ q′))))
 
     -- and the other way round
-    pub alternative-passes : (at : ℕ) (a : Alternative) → Body G (S .params) (a .items) (a .result) (S .result) → checkAlternative G S at a ≡ ok a
+    pub alternative-passes : (at : ℕ) (a : WrittenAlternative) {L : List ℕ} {made : Template} → Numbered G (S .params) (a .items) L
+        → ResultSorted G L (S .result) (a .result) made → checkAlternative G S at a ≡ ok (record { items = a .items; result = made })
     unfolding checkAlternative items
-    alternative-passes at a b =
-        let (L, n, r) = parts-of b in
-        rw (passed items (a .items) (S .params) L (at + 3) n, result-passes G L (at + 3 + itemsSize (a .items)) (S .result) (a .result) r) refl
+    alternative-passes at a {L} n r =
+        rw (passed items (a .items) (S .params) L (at + 3) n, result-passes G L (at + 3 + itemsSize (a .items)) r) refl
 
-    -- the alternatives of a definition: each has its sort, and is answered as it is
-    unfoldable pub alternatives : Walk (List Alternative) Alternative Alternative
+    -- the alternatives of a definition: each has its sort, and is elaborated
+    unfoldable pub alternatives : Walk (List Alternative) WrittenAlternative Alternative
     unfolding checkAlternatives alternativesSize
     alternatives =
         record {
@@ -113,24 +104,30 @@ module _ (G : Scope) where
           size-more = λ a rest. refl;
           at-end = λ done at. refl;
           goes-on = λ done at a rest. refl;
-          Leads = AsIs (Bodies G S);
-          none = λ done. (no-alternative, append-nil done);
-          none-is = λ done all b. sym (append-nil done) ∙ b .1;
+          Leads = Elaborated (Bodies G S);
+          none = λ done. ([], no-alternative, append-nil done);
+          none-is = none-is;
           Fine = AlternativeWithin;
           more = more;
           more-is = more-is;
         }
       where
-        more : (done all : List Alternative) (at : ℕ) (a : Alternative) (rest : List Alternative) (b : Alternative) → AlternativeWithin a
-            → checkAlternative G S at a ≡ ok b → AsIs (Bodies G S) (done ++ (b ∷ [])) rest all → AsIs (Bodies G S) done (a ∷ rest) all
-        more done all at a rest b w e (bs, q) = let (s, is) = alternative-sorted at a w e in (by-choice s bs, laid-behind done rest is q)
+        none-is : (done all : List Alternative) → Elaborated (Bodies G S) done [] all → done ≡ all
+        none-is done all (made, no-alternative, q) = sym (append-nil done) ∙ q
 
-        more-is : (done all : List Alternative) (a : Alternative) (rest : List Alternative) → AsIs (Bodies G S) done (a ∷ rest) all
-            → (b : Alternative) × ((at : ℕ) → checkAlternative G S at a ≡ ok b) × (AsIs (Bodies G S) (done ++ (b ∷ [])) rest all)
-        more-is done all a rest (by-choice b bs, q) = (a, λ at. alternative-passes at a b, (bs, append-assoc done (a ∷ []) rest ∙ q))
+        more : (done all : List Alternative) (at : ℕ) (a : WrittenAlternative) (rest : List WrittenAlternative) (b : Alternative) → AlternativeWithin a
+            → checkAlternative G S at a ≡ ok b → Elaborated (Bodies G S) (done ++ (b ∷ [])) rest all → Elaborated (Bodies G S) done (a ∷ rest) all
+        more done all at a rest b w e (others, bs, q) =
+            let (L, made, n, r, is) = alternative-sorted at a w e in (_, by-choice n r bs, laid-behind done others is q)
 
-  -- the bodies of a block's definitions: each is right, and answered as it is
-  unfoldable pub bodies : Walk (List Definition) Definition (List Alternative)
+        more-is : (done all : List Alternative) (a : WrittenAlternative) (rest : List WrittenAlternative) → Elaborated (Bodies G S) done (a ∷ rest) all
+            → (b : Alternative) × ((at : ℕ) → checkAlternative G S at a ≡ ok b) × (Elaborated (Bodies G S) (done ++ (b ∷ [])) rest all)
+        more-is done all a rest (made, by-choice {t = t} {others = others} n r bs, q) =
+            let one : Alternative = record { items = a .items; result = t } in
+            (one, λ at. alternative-passes at a n r, (others, bs, append-assoc done (one ∷ []) others ∙ q))
+
+  -- the bodies of a block's definitions: each is right, and elaborated
+  unfoldable pub bodies : Walk (List Definition) WrittenDefinition (List Alternative)
   unfolding checkBodies definitionsSize alternatives
   bodies =
       record {
@@ -143,42 +140,45 @@ module _ (G : Scope) where
         size-more = λ d ds. refl;
         at-end = λ done at. refl;
         goes-on = λ done at d ds. refl;
-        Leads = AsIs (Ok G);
-        none = λ done. (ok-empty, append-nil done);
-        none-is = λ done all o. sym (append-nil done) ∙ o .1;
+        Leads = Elaborated (Ok G);
+        none = λ done. ([], ok-empty, append-nil done);
+        none-is = none-is;
         Fine = DefinitionWithin;
         more = more;
         more-is = more-is;
       }
     where
-      checkDefinition : ℕ → Definition → Checked (List Alternative)
+      checkDefinition : ℕ → WrittenDefinition → Checked (List Alternative)
       checkDefinition at d = checkAlternatives G (d .signature) [] (at + fieldSize (headValue d)) (d .alternatives)
 
-      more : (done all : List Definition) (at : ℕ) (d : Definition) (ds : List Definition) (choices : List Alternative) → DefinitionWithin d
-          → checkDefinition at d ≡ ok choices → AsIs (Ok G) (done ++ (withAlternatives d choices ∷ [])) ds all → AsIs (Ok G) done (d ∷ ds) all
-      more done all at d ds choices w e (o, q) =
-          let (b, is) = passes (alternatives (d .signature)) (d .alternatives) [] choices _ (w .alternatives) e in
-          (ok-definition b o, laid-behind done ds (ap (withAlternatives d) is) q)
+      none-is : (done all : List Definition) → Elaborated (Ok G) done [] all → done ≡ all
+      none-is done all (made, ok-empty, q) = sym (append-nil done) ∙ q
 
-      more-is : (done all : List Definition) (d : Definition) (ds : List Definition) → AsIs (Ok G) done (d ∷ ds) all
+      more : (done all : List Definition) (at : ℕ) (d : WrittenDefinition) (ds : List WrittenDefinition) (choices : List Alternative) → DefinitionWithin d
+          → checkDefinition at d ≡ ok choices → Elaborated (Ok G) (done ++ (withAlternatives d choices ∷ [])) ds all → Elaborated (Ok G) done (d ∷ ds) all
+      more done all at d ds choices w e (es, o, q) =
+          let (made, b, is) = passes (alternatives (d .signature)) (d .alternatives) [] choices _ (w .alternatives) e in
+          (withAlternatives d made ∷ es, ok-definition b o, laid-behind done es (ap (withAlternatives d) is) q)
+
+      more-is : (done all : List Definition) (d : WrittenDefinition) (ds : List WrittenDefinition) → Elaborated (Ok G) done (d ∷ ds) all
           → (choices : List Alternative) × ((at : ℕ) → checkDefinition at d ≡ ok choices)
-          × (AsIs (Ok G) (done ++ (withAlternatives d choices ∷ [])) ds all)
-      more-is done all d ds (ok-definition b o, q) = (
-        d .alternatives,
-        λ at. passed (alternatives (d .signature)) (d .alternatives) [] (d .alternatives) (at + fieldSize (headValue d)) (b, refl),
-        (o, append-assoc done (d ∷ []) ds ∙ q),
+          × (Elaborated (Ok G) (done ++ (withAlternatives d choices ∷ [])) ds all)
+      more-is done all d ds (made, ok-definition {choices = choices} {es = es} b o, q) = (
+        choices,
+        λ at. passed (alternatives (d .signature)) (d .alternatives) [] choices (at + fieldSize (headValue d)) (choices, b, refl),
+        (es, o, append-assoc done (withAlternatives d choices ∷ []) es ∙ q),
       )
 
 -- ------------------------------------------------------------------ heads
 
 module _ (E : Env) where
   -- a consistent head passes
-  pub consistent-passes : (own : Env) (d : Definition) (at : ℕ) → Consistent E own d at tt → consistent (d .mode) E own d at ≡ ok tt
+  pub consistent-passes : (own : Env) (d : WrittenDefinition) (at : ℕ) → Consistent E own d at tt → consistent (d .mode) E own d at ≡ ok tt
   consistent-passes own d at c =
       outcome {C = consistent (d .mode) E own d at ≡ ok tt} (head-view E own d at) (λ u k e. e) (λ r f e. absurd (inconsistent E own d at f c))
 
   -- a consistent definition is one more
-  pub define : {own own′ : Env} {d : Definition} {ds : List Definition} → Consistent E own d 0 tt → Defines E (entryOf d ∷ own) ds own′
+  pub define : {own own′ : Env} {d : WrittenDefinition} {ds : List WrittenDefinition} → Consistent E own d 0 tt → Defines E (entryOf d ∷ own) ds own′
       → Defines E own (d ∷ ds) own′
   define (inl (m, o, e)) k = by-add m o e k
   define {own} {own′} {d} {ds} (inr (m, o, e)) k = by (d .mode) refl
@@ -189,14 +189,14 @@ module _ (E : Env) where
       by update q = by-update q o e k
 
   -- and the other way round
-  pub defined : {own own′ : Env} {d : Definition} {ds : List Definition} → Defines E own (d ∷ ds) own′
+  pub defined : {own own′ : Env} {d : WrittenDefinition} {ds : List WrittenDefinition} → Defines E own (d ∷ ds) own′
       → Consistent E own d 0 tt × Defines E (entryOf d ∷ own) ds own′
   defined (by-add m o e k) = (inl (m, o, e), k)
   defined (by-extend m o e k) = (inr (λ q. let z : _≡_ {A = ℕ} 0 1 = cc in omega arith, o, e), k)
   defined (by-update m o e k) = (inr (λ q. let z : _≡_ {A = ℕ} 0 1 = cc in omega arith, o, e), k)
 
   -- the heads of a block's definitions: they are defined one after the other
-  unfoldable pub heads : Walk Env Definition (Unit {0})
+  unfoldable pub heads : Walk Env WrittenDefinition (Unit {0})
   unfolding collect definitionsSize
   heads =
       record {
@@ -217,14 +217,14 @@ module _ (E : Env) where
         more-is = λ own own′ d ds k. let (c, rest) = defined k in (tt, λ at. consistent-passes own d at c, rest);
       }
     where
-      none-is : (own own′ : Env) → Defines {R = Template} E own [] own′ → own ≡ own′
+      none-is : (own own′ : Env) → Defines {R = WrittenResult} E own [] own′ → own ≡ own′
       none-is own own′ no-definition = refl
 
 -- ------------------------------------------------------------------ blocks
 
 module _ (K N : ℕ) where
   -- a block's heads, then its bodies; its value is what stands behind it
-  abbrev pub checkBlock : Before → ℕ → List Definition → Checked Before
+  abbrev pub checkBlock : Before → ℕ → List WrittenDefinition → Checked Before
   checkBlock P at b =
       collect (P .env) [] (at + 3) b >>= λ own. checkBodies (scope K N (own ++ P .env)) [] (at + 3) b >>= λ ds. ok (behindBlock P own ds)
 
@@ -238,8 +238,8 @@ module _ (K N : ℕ) where
       by (ok b) = refl
       by (bad r) = refl
 
-  -- the blocks: each is derived and answered as it is, and its signatures stand in front of the earlier ones
-  unfoldable pub blocks : Walk Before (List Definition) Before
+  -- the blocks: each is derived and elaborated, and its signatures stand in front of the earlier ones
+  unfoldable pub blocks : Walk Before (List WrittenDefinition) Before
   unfolding checkBlocks blocksSize heads bodies
   blocks =
       record {
@@ -253,30 +253,30 @@ module _ (K N : ℕ) where
         at-end = λ P at. refl;
         goes-on = goes-on;
         Leads = Leads;
-        none = λ P. (no-grammar, append-nil (P .blocks));
-        none-is = λ P P′ s. ap₂ standing (none-is (s .0)) (sym (append-nil (P .blocks)) ∙ s .1);
+        none = λ P. ([], no-grammar, append-nil (P .blocks));
+        none-is = λ P P′ s. let (same, rest) = none-is (s .1) in ap₂ standing same (sym (ap (P .blocks ++_) rest ∙ append-nil (P .blocks)) ∙ s .2);
         Fine = Each DefinitionWithin;
         more = λ P P′ at b bs Q w e s. both-pass (collect (P .env) [] (at + 3) b) _ e
             (λ own p h. both-pass (checkBodies (scope K N (own ++ P .env)) [] (at + 3) b) _ h
             (λ ds q same. derived P P′ (at + 3) w p q (subst (λ R. Leads R bs P′) (let is : Q ≡ behindBlock P own ds = cc in is) s)));
         more-is = λ P P′ b bs s.
-            let (own, d, o, rest) = first-of (s .0) in (
-              behindBlock P own b,
-              λ at. rw (passed (heads (P .env)) b [] own (at + 3) d, passed (bodies (scope K N (own ++ P .env))) b [] b (at + 3) (o, refl)) refl,
-              (rest, append-assoc (P .blocks) (b ∷ []) bs ∙ s .1),
+            let (own, made, hs, d, o, rest, is) = first-of (s .1) in (
+              behindBlock P own made,
+              λ at. rw (passed (heads (P .env)) b [] own (at + 3) d, passed (bodies (scope K N (own ++ P .env))) b [] made (at + 3) (made, o, refl)) refl,
+              (hs, rest, append-assoc (P .blocks) (made ∷ []) hs ∙ ap (P .blocks ++_) is ∙ s .2),
             );
       }
     where
-      Leads : Before → List (List Definition) → Before → Type 0
-      Leads P bs P′ = Sequence K N (P .env) bs (P′ .env) × (P .blocks ++ bs ≡ P′ .blocks)
+      Leads : Before → List (List WrittenDefinition) → Before → Type 0
+      Leads P bs P′ = (hs : List (List Definition)) × Sequence K N (P .env) bs (P′ .env) hs × (P .blocks ++ hs ≡ P′ .blocks)
 
       standing : Env → List (List Definition) → Before
       standing E bs = record { env = E; blocks = bs }
 
-      none-is : {E E′ : Env} → Sequence K N E [] E′ → E ≡ E′
-      none-is no-grammar = refl
+      none-is : {E E′ : Env} {hs : List (List Definition)} → Sequence K N E [] E′ hs → (E ≡ E′) × (hs ≡ [])
+      none-is no-grammar = (refl, refl)
 
-      goes-on : (P : Before) (at : ℕ) (b : List Definition) (bs : List (List Definition))
+      goes-on : (P : Before) (at : ℕ) (b : List WrittenDefinition) (bs : List (List WrittenDefinition))
           → checkBlocks K N P at (b ∷ bs) ≡ (checkBlock P at b >>= λ P′. checkBlocks K N P′ (at + (3 + definitionsSize b)) bs)
       goes-on P at b bs =
           let next : ℕ = at + 3 + definitionsSize b in
@@ -285,13 +285,15 @@ module _ (K N : ℕ) where
           (regrouped (collect (P .env) [] (at + 3) b) (λ own. checkBodies (scope K N (own ++ P .env)) [] (at + 3) b) (behindBlock P)
           (λ P′. checkBlocks K N P′ next bs))
 
-      derived : (P P′ : Before) {own : Env} (at : ℕ) {b ds : List Definition} {bs : List (List Definition)} → Each DefinitionWithin b
+      derived : (P P′ : Before) {own : Env} (at : ℕ) {b : List WrittenDefinition} {ds : List Definition} {bs : List (List WrittenDefinition)}
+          → Each DefinitionWithin b
           → collect (P .env) [] at b ≡ ok own → checkBodies (scope K N (own ++ P .env)) [] at b ≡ ok ds → Leads (behindBlock P own ds) bs P′
           → Leads P (b ∷ bs) P′
-      derived P P′ {own} at {b} {ds} {bs} w p q (s, e) =
-          let (o, is) = passes (bodies (scope K N (own ++ P .env))) b [] ds at w q in
-          (by-grammar (passes (heads (P .env)) b [] own at w p) o s, laid-behind (P .blocks) bs is e)
+      derived P P′ {own} at {b} {ds} w p q (hs, s, e) =
+          let (made, o, is) = passes (bodies (scope K N (own ++ P .env))) b [] ds at w q in
+          (made ∷ hs, by-grammar (passes (heads (P .env)) b [] own at w p) o s, laid-behind (P .blocks) hs is e)
 
-      first-of : {E E′ : Env} {b : List Definition} {bs : List (List Definition)} → Sequence K N E (b ∷ bs) E′
-          → (own : Env) × Defines E [] b own × Ok (scope K N (own ++ E)) b × Sequence K N (own ++ E) bs E′
-      first-of (by-grammar {own = own} d o s) = (own, d, o, s)
+      first-of : {E E′ : Env} {b : List WrittenDefinition} {bs : List (List WrittenDefinition)} {all : List (List Definition)} → Sequence K N E (b ∷ bs) E′ all
+          → (own : Env) × (made : List Definition) × (hs : List (List Definition)) × Defines E [] b own × Ok (scope K N (own ++ E)) b made
+          × Sequence K N (own ++ E) bs E′ hs × (made ∷ hs ≡ all)
+      first-of (by-grammar {own = own} {h = made} {hs = hs} d o s) = (own, made, hs, d, o, s, refl)

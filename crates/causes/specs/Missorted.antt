@@ -10,11 +10,13 @@ use Rattle.answers.specs.declared.Refusal.{Refusal}
 use Rattle.answers.specs.Refusals.{refusal}
 use Rattle.grammar.specs.Sorts.{Signature, gives, term}
 use Rattle.grammar.specs.Table.{Template, Templates, variable, outsideVar, outsideLabel, make, more, keyword, Item, terminal, call, Alternative, add}
-use Rattle.grammar.specs.Table.{Definition, Table}
+use Rattle.grammar.specs.Table.{Definition}
+use Rattle.grammar.specs.Written.{WrittenResult, template, WrittenAlternative, WrittenDefinition, Written}
 use Rattle.grammar.specs.Values.{Field, field, headValue}
 use Rattle.grammar.specs.Encode.{fieldBytes, spellingsThen, itemsThen, alternativesThen, definitionsThen, blocksThen}
 use Rattle.judgements.specs.Scopes.{Env, Scope}
-use Rattle.judgements.specs.Judgements.{Newest, Undeclared, Fits, Sorted, ItemSorted, Bodies, Defines, Ok, scope, Sequence}
+use Rattle.judgements.specs.Judgements.{Newest, Undeclared, Fits, Sorted, ItemSorted, Numbered, Defines, scope}
+use Rattle.judgements.specs.Elaboration.{Bodies, Ok, Sequence}
 
 -- ------------------------------------------------------------------ 9: what is not defined
 
@@ -42,25 +44,25 @@ pub data UndefinedItem (G : Scope) (n : ℕ) : Item → Type 0 where
 -- What is tested: the head of a definition, where E has the signatures of earlier blocks and `own` those before it in its block; an item or, where the
 -- sort B is asked, a result, in a scope G where L has the sorts of the variables numbered already; the root.
 pub data Part : Type 0 where
-  head : (E own : Env) → Definition → Part
+  head : (E own : Env) → WrittenDefinition → Part
   item : (G : Scope) (L : List ℕ) → Item → Part
-  result : (G : Scope) (L : List ℕ) (B : ℕ) → Template → Part
+  result : (G : Scope) (L : List ℕ) (B : ℕ) → WrittenResult → Part
   root : (E : Env) → ℕ → Part
 
 -- the refusal of a part at a place, by the first test that it fails
 pub data Fails (at : ℕ) : Part → Refusal → Type 0 where
   -- "add of a number in use, in this or an earlier block"
-  in-use : {E own : Env} {d : Definition} {S : Signature}
+  in-use : {E own : Env} {d : WrittenDefinition} {S : Signature}
       → d .mode ≡ add
       → Newest (own ++ E) (d .nonterminal) S
       → Fails at (head E own d) (refusal 7 at 0 0)
   -- "extend or update: defined already in this block, no earlier one, or other signature"
-  again : {E own : Env} {d : Definition} {S : Signature}
+  again : {E own : Env} {d : WrittenDefinition} {S : Signature}
       → ¬ (d .mode ≡ add)
       → Newest own (d .nonterminal) S
       → Fails at (head E own d) (refusal 8 at 0 0)
-  no-earlier : {E own : Env} {d : Definition} → ¬ (d .mode ≡ add) → Undeclared E (d .nonterminal) → Fails at (head E own d) (refusal 8 at 0 0)
-  other-signature : {E own : Env} {d : Definition} {S : Signature}
+  no-earlier : {E own : Env} {d : WrittenDefinition} → ¬ (d .mode ≡ add) → Undeclared E (d .nonterminal) → Fails at (head E own d) (refusal 8 at 0 0)
+  other-signature : {E own : Env} {d : WrittenDefinition} {S : Signature}
       → ¬ (d .mode ≡ add)
       → Newest E (d .nonterminal) S
       → ¬ (S ≡ d .signature)
@@ -71,11 +73,13 @@ pub data Fails (at : ℕ) : Part → Refusal → Type 0 where
       → ¬ UndefinedItem G (length L) i
       → ((A : ℕ) → ¬ ItemSorted G L i A)
       → Fails at (item G L i) (refusal 11 at 0 0)
-  undefined-result : {G : Scope} {L : List ℕ} {B : ℕ} {t : Template} → Undefined (G .outsides) (length L) t → Fails at (result G L B t) (refusal 9 at 0 0)
+  undefined-result : {G : Scope} {L : List ℕ} {B : ℕ} {t : Template}
+      → Undefined (G .outsides) (length L) t
+      → Fails at (result G L B (template t)) (refusal 9 at 0 0)
   unsorted-result : {G : Scope} {L : List ℕ} {B : ℕ} {t : Template}
       → ¬ Undefined (G .outsides) (length L) t
       → ((A : ℕ) → Sorted (G .outsides) L t A → ¬ Fits A B)
-      → Fails at (result G L B t) (refusal 11 at 0 0)
+      → Fails at (result G L B (template t)) (refusal 11 at 0 0)
   -- "root with parameters or not Term"
   undefined-root : {E : Env} {n : ℕ} → Undeclared E n → Fails at (root E n) (refusal 9 at 0 0)
   unfit-root : {E : Env} {n : ℕ} {S : Signature} → Newest E n S → ¬ (S ≡ gives [] term) → Fails at (root E n) (refusal 11 at 0 0)
@@ -89,27 +93,22 @@ pub record At {A : Type 0} (xs : List A) : Type 0 where
   pub behind : List A
   pub whole : xs ≡ before ++ (this ∷ behind)
 
--- the sorts of the variables after some items of an alternative
-pub data Numbered (G : Scope) : List ℕ → List Item → List ℕ → Type 0 where
-  no-item : {L : List ℕ} → Numbered G L [] L
-  one-more : {L L′ : List ℕ} {i : Item} {is : List Item} {A : ℕ} → ItemSorted G L i A → Numbered G (L ++ (A ∷ [])) is L′ → Numbered G L (i ∷ is) L′
-
 -- what is tested after some items of an alternative: the next item; behind all of them the result, where the sort B is asked
-pub data Next (G : Scope) (L : List ℕ) (B : ℕ) (a : Alternative) : List Item → Part → Type 0 where
+pub data Next (G : Scope) (L : List ℕ) (B : ℕ) (a : WrittenAlternative) : List Item → Part → Type 0 where
   next-item : (i : At (a .items)) → Next G L B a (i .before) (item G L (i .this))
   the-result : Next G L B a (a .items) (result G L B (a .result))
 
-module _ (t : Table) where
+module _ (t : Written) where
   -- where keywords and outside names are those of the table
   abbrev pub within : Env → Scope
   within E = scope (length (t .keywords)) (length (t .outsides)) E
 
   -- blocks from the first on are derived, and give E
-  abbrev pub Derived : List (List Definition) → Env → Type 0
-  Derived bs E = Sequence (length (t .keywords)) (length (t .outsides)) [] bs E
+  abbrev pub Derived : List (List WrittenDefinition) → Env → Type 0
+  Derived bs E = (hs : List (List Definition)) × Sequence (length (t .keywords)) (length (t .outsides)) [] bs E hs
 
   -- the place behind the keywords, the outside names, some blocks, and some fields of the next
-  abbrev pub placeBehind : List (List Definition) → List Field → ℕ
+  abbrev pub placeBehind : List (List WrittenDefinition) → List Field → ℕ
   placeBehind bs follow = length (fieldBytes (spellingsThen 1 (t .keywords) (spellingsThen 2 (t .outsides) (blocksThen bs follow))))
 
   -- that of a definition's head, and that behind some items of an alternative
@@ -128,11 +127,12 @@ module _ (t : Table) where
         → Derived (b .before) E
         → Defines E [] (d .before) own
         → Reaches (headPlace b d) (head E own (d .this))
-    in-body : {E own : Env} {L : List ℕ} {is : List Item} {p : Part} (b : At (t .blocks)) (d : At (b .this)) (a : At (d .this .alternatives))
+    in-body : {E own : Env} {L : List ℕ} {is : List Item} {p : Part} {es : List Definition} {others : List Alternative} (b : At (t .blocks)) (d : At (b .this))
+        (a : At (d .this .alternatives))
         → Derived (b .before) E
         → Defines E [] (b .this) own
-        → Ok (within (own ++ E)) (d .before)
-        → Bodies (within (own ++ E)) (d .this .signature) (a .before)
+        → Ok (within (own ++ E)) (d .before) es
+        → Bodies (within (own ++ E)) (d .this .signature) (a .before) others
         → Numbered (within (own ++ E)) (d .this .signature .params) is L
         → Next (within (own ++ E)) L (d .this .signature .result) (a .this) is p
         → Reaches (bodyPlace b d a is) p

@@ -8,6 +8,8 @@ use Rattle.answers.specs.declared.Verdict.the-variants.{Passed, Refused}
 use Rattle.answers.specs.Checked.{Checked, ok, bad, _>>_, verdict}
 use Rattle.grammar.specs.Limits.{most}
 use Rattle.grammar.specs.Table.{Table}
+use Rattle.grammar.specs.Written.{Written}
+use Rattle.grammar.specs.Templated.{templated}
 use Rattle.grammar.specs.Encode.{encode}
 use Rattle.decoding.specs.Layout.{layout}
 use Rattle.decoding.specs.Decode.{decode}
@@ -15,7 +17,8 @@ use Rattle.decoding.specs.Within.{Within}
 use Rattle.decoding.proofs.Split.{Bytes}
 use Rattle.decoding.proofs.Inverse.{layout-encoded, decode-encoded}
 use Rattle.judgements.specs.CheckSorts.{checkSorts}
-use Rattle.judgements.proofs.SortTheorems.{checked-as-is}
+use Rattle.judgements.proofs.SortTheorems.{sorts-exactly}
+use Rattle.judgements.proofs.Elaborated.{elaborated-blocks}
 use Rattle.sorts.specs.ByBytes.{sortsOf}
 use Rattle.sorts.proofs.SortedBytes.{bytes-checked}
 use Rattle.clashes.specs.CheckFirsts.{checkFirsts}
@@ -26,6 +29,7 @@ use Rattle.productions.proofs.FewAlternatives.{few-alternatives}
 use Rattle.productions.proofs.Places.{productions-at, whole-places}
 use Rattle.firsts.specs.Room.{productionsIn, tableRoom, tableRoomFor, WholeIndex}
 use Rattle.clashes.specs.CheckCalls.{FirstsChecked}
+use Rattle.productions.specs.Normal.{normalized}
 use Rattle.productions.proofs.NormalizedByFields.{normalized-by}
 use Rattle.checker.specs.Syntax.{syntaxOf}
 use Rattle.checker.specs.Check.{passedTable, check}
@@ -67,7 +71,7 @@ module _ (bs : List ℕ) where
     layout-right = passed-ok (layout bs) laid .1
 
     -- the table that the bytes are
-    pub encoded : (table : Table) × (bs ≡ encode table) × Within table
+    pub encoded : (table : Written) × (bs ≡ encode table) × Within table
     encoded = layout-encoded bs bytes layout-right
 
     decoded : decode bs ≡ ok (encoded .0)
@@ -102,26 +106,26 @@ module _ (bs : List ℕ) where
           whole = rw (i .entries) (whole-places bs layout-right);
         }
 
-    -- the productions of the table's bytes are its grammar
-    pub indexed : productionsIn bs ≡ grammarOf (encoded .0)
+    -- the productions of the table's bytes are those of its templates
+    pub indexed : productionsIn bs ≡ normalized (templated (encoded .0 .blocks))
     indexed = cc (productions-at bs, encoded .1, normalized-by (encoded .0) (encoded .2))
 
     module _ (sorted : sortsOf bs ≡ Passed) where
-      sorts-ok : checkSorts (encoded .0) ≡ ok (encoded .0)
-      sorts-ok =
-          let (answered, e) = passed-ok (checkSorts (encoded .0)) (sym sorts-here ∙ sorted) in
-          e ∙ ap ok (sym (checked-as-is (encoded .2) e))
+      -- what its check of sorts answers
+      sorts-ok : (made : Table) × (checkSorts (encoded .0) ≡ ok made)
+      sorts-ok = passed-ok (checkSorts (encoded .0)) (sym sorts-here ∙ sorted)
 
       by-firsts : check bs ≡ verdict (checkFirsts (productionsIn bs))
       unfolding check passedTable
       by-firsts =
-          let t = encoded .0 in
-          cc (decoded, sorts-ok, verdict-then (checkFirsts (grammarOf t)) (syntaxOf t), indexed)
+          let (made, answered) = sorts-ok in
+          let same = elaborated-blocks (sorts-exactly (encoded .0) made (encoded .2) .0 answered) in
+          cc (decoded, answered, verdict-then (checkFirsts (grammarOf made)) (syntaxOf made), indexed, same)
 
       room-written : (room : List ℕ) → roomAfter bs room ≡ overwritten (tableRoom bs) room
       unfolding roomAfter
       room-written room =
-          cc (decoded, sorts-ok)
+          cc (decoded, sorts-ok .1)
 
       -- a table with neither refusal is answered by the check of its first sets
       pub into-firsts : {many : ℕ} {owners starts : List ℕ} → Index (placesOf bs) (most .alternatives) many owners starts

@@ -14,6 +14,7 @@ use Rattle.decoding.proofs.Split.{Bytes}
 use Rattle.decoding.proofs.Spelled.{each-map}
 use Rattle.decoding.proofs.LayoutTheorems.{decode-exactly}
 use Rattle.judgements.proofs.SortTheorems.{sorts-exactly}
+use Rattle.judgements.proofs.Elaborated.{elaborated-blocks}
 use Rattle.decoding.specs.Within.{Each}
 use Rattle.productions.specs.Index.{Whole, placesOf}
 use Rattle.productions.proofs.FewAlternatives.{few-alternatives}
@@ -31,8 +32,8 @@ laid (ok a) given e = refl
 laid (bad r) given e = let z : _≡_ {A = ℕ} 0 1 = cc in absurd (omega arith)
 
 module _ {bs : List ℕ} (bytes : Bytes bs) (passes : Passes bs) where
-  decoded : decode bs ≡ ok (passes .table)
-  decoded = decode-exactly bs bytes (passes .table) .1 (passes .encoded, passes .within)
+  decoded : decode bs ≡ ok (passes .written)
+  decoded = decode-exactly bs bytes (passes .written) .1 (passes .encoded, passes .within)
 
   laid-out : layout bs ≡ ok tt
   unfolding decode
@@ -40,7 +41,7 @@ module _ {bs : List ℕ} (bytes : Bytes bs) (passes : Passes bs) where
 
   -- The productions of its bytes are the grammar of the table.
   pub passed-grammar : productionsIn bs ≡ grammarOf (passes .table)
-  passed-grammar = cc (productions-at bs, passes .encoded, normalized-by (passes .table) (passes .within))
+  passed-grammar = cc (productions-at bs, passes .encoded, normalized-by (passes .written) (passes .within), elaborated-blocks (passes .meets .elaborates))
 
   -- The room after its check holds its grammar, each production a whole alternative.
   pub passed-holds : {room₀ room : List ℕ} {verdict : Verdict} → CheckedInto bs room₀ room verdict → HoldsGrammar bs room
@@ -51,7 +52,7 @@ module _ {bs : List ℕ} (bytes : Bytes bs) (passes : Passes bs) where
         few = few-places bs laid-out;
         rest = drop (length (tableRoom bs)) room₀;
         held =
-            cc (c .held, decoded, sorts-exactly (passes .table) (passes .within) .1 (passes .meets .sorted));
+            cc (c .held, decoded, sorts-exactly (passes .written) (passes .table) (passes .within) .1 (passes .meets .elaborates));
         whole = each-map (λ q w. w .whole) (whole-places bs laid-out);
       }
 

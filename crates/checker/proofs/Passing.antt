@@ -1,11 +1,11 @@
 -- The check of a table accepts exactly the tables that pass, and gives the first refusal otherwise.
-use Prim.Native.Nat.{ℕ, _<_, _≤_}
-use mathlib.Core.Path.{_≡_, refl, sym, ap, _∙_, subst⁻¹}
+use Prim.Native.Nat.{ℕ, _<_}
+use mathlib.Core.Path.{_≡_, refl, sym, ap, _∙_}
 use mathlib.Core.Bool.{Bool, true, false, true≢false, _&&_, _||_}
 use native.Mathlib.Omega.{arith}
 use mathlib.Core.Logic.{_↔_, _⊎_, inl, inr}
 use mathlib.Core.List.{List, [], _∷_, List·Memᴰ, List·Memᴰ·head, List·Memᴰ·tail}
-use lib.ListN.{length, getD}
+use lib.ListN.{getD}
 use lib.Dec.{eqb, leb}
 use borrow.Author.Tests.{eqb-true, leb-true}
 use Rattle.spellings.proofs.BytesLaws.{by-test}
@@ -16,19 +16,15 @@ use Rattle.answers.specs.declared.Refusal.{Refusal}
 use Rattle.answers.specs.declared.Verdict.{Verdict}
 use Rattle.answers.specs.declared.Verdict.the-variants.{Passed, Refused}
 use Rattle.answers.specs.Checked.{Checked, ok, bad, _>>=_, _>>_, verdict}
-use Rattle.grammar.specs.Limits.{most}
 use Rattle.grammar.specs.Table.{Table}
-use Rattle.decoding.specs.Within.{Within}
-use Rattle.keywords.proofs.KeptLaws.{kept-many}
-use Rattle.firsts.specs.Reach.{kindsReached}
+use Rattle.grammar.specs.Written.{Written}
 use Rattle.decoding.specs.Decode.{decode}
 use Rattle.decoding.proofs.LayoutTheorems.{decode-exactly}
 use Rattle.decoding.proofs.Inverse.{decode-encoded}
 use Rattle.judgements.specs.CheckSorts.{checkSorts}
-use Rattle.judgements.proofs.SortTheorems.{sorts-exactly, checked-as-is, sort-refusals}
+use Rattle.judgements.proofs.SortTheorems.{sorts-exactly, sort-refusals}
 use Rattle.clashes.specs.CheckFirsts.{checkFirsts}
 use Rattle.clashes.proofs.ClashTheorems.{passes-exactly, left-recursion-lowest, clash-lowest}
-use Rattle.checker.specs.Keywords.{lexiconOfTable}
 use Rattle.checker.specs.Syntax.{Syntax, syntaxOf}
 use Rattle.checker.specs.Check.{passedTable, check}
 use Rattle.checker.specs.Passes.{grammarOf, Passes}
@@ -38,7 +34,7 @@ use Rattle.checker.specs.Laid.{Laid}
 abbrev firstsOf : Table → Checked Syntax
 firstsOf t = checkFirsts (grammarOf t) >> ok (syntaxOf t)
 
-abbrev rules : Table → Checked Syntax
+abbrev rules : Written → Checked Syntax
 rules t = checkSorts t >>= firstsOf
 
 -- a refusal is no pass
@@ -63,49 +59,47 @@ module _ (bs : List ℕ) where
   refused-by-layout cause e = cc
 
   -- then a table is refused as the check of sorts refuses it
-  pub refused-by-sorts : (table : Table) (cause : Refusal) → decode bs ≡ ok table → checkSorts table ≡ bad cause → check bs ≡ Refused cause
+  pub refused-by-sorts : (table : Written) (cause : Refusal) → decode bs ≡ ok table → checkSorts table ≡ bad cause → check bs ≡ Refused cause
   unfolding check passedTable
   refused-by-sorts table cause e s = cc
 
   -- and then as the check of first sets refuses it
-  pub refused-by-firsts : (table : Table) (cause : Refusal) → decode bs ≡ ok table → checkSorts table ≡ ok table → checkFirsts (grammarOf table) ≡ bad cause
-      → check bs ≡ Refused cause
+  pub refused-by-firsts : (table : Written) (made : Table) (cause : Refusal) → decode bs ≡ ok table → checkSorts table ≡ ok made
+      → checkFirsts (grammarOf made) ≡ bad cause → check bs ≡ Refused cause
   unfolding check passedTable
-  refused-by-firsts table cause e s f =
-      cc
+  refused-by-firsts table made cause e s f = cc
 
   -- ------------------------------------------------------------------ the bytes that pass
 
   -- the table that was decoded, and what its check of sorts answered, with both checks passed
-  accepted : (checked : Checked Table) → decode bs ≡ checked → verdict (checked >>= rules) ≡ Passed
-      → (table sorted : Table) × (decode bs ≡ ok table) × (checkSorts table ≡ ok sorted) × (checkFirsts (grammarOf sorted) ≡ ok tt)
+  accepted : (checked : Checked Written) → decode bs ≡ checked → verdict (checked >>= rules) ≡ Passed
+      → (table : Written) × (made : Table) × (decode bs ≡ ok table) × (checkSorts table ≡ ok made) × (checkFirsts (grammarOf made) ≡ ok tt)
   accepted (ok t) e h = let (u, s, f) = both (checkSorts t) h in (t, u, e, s, f)
   accepted (bad r) e h = never r h
 
-  accepts : (table : Table) → decode bs ≡ ok table → checkSorts table ≡ ok table → checkFirsts (grammarOf table) ≡ ok tt → check bs ≡ Passed
+  accepts : (table : Written) (made : Table) → decode bs ≡ ok table → checkSorts table ≡ ok made → checkFirsts (grammarOf made) ≡ ok tt → check bs ≡ Passed
   unfolding check passedTable
-  accepts table e s f =
-      cc
+  accepts table made e s f = cc
 
   module _ (bytes : (place : ℕ) → getD bs place 0 < 256) where
     passing : check bs ≡ Passed → Passes bs
     unfolding check passedTable
     passing h =
-        let (table, sorted, d, s, firsts) = accepted (decode bs) refl h in
+        let (table, made, d, s, firsts) = accepted (decode bs) refl h in
         let (encoded, within) = decode-exactly bs bytes table .0 d in
-        let same : table ≡ sorted = checked-as-is within s in
-        let f = passes-exactly (grammarOf table) .0 (subst⁻¹ (λ t. checkFirsts (grammarOf t) ≡ ok tt) same firsts) in
+        let f = passes-exactly (grammarOf made) .0 firsts in
         record {
-          table = table;
+          written = table;
+          table = made;
           encoded = encoded;
           within = within;
-          meets = record { sorted = sorts-exactly table within .0 (s ∙ ap ok (sym same)); not-left-recursive = f .0; without-clash = f .1 };
+          meets = record { elaborates = sorts-exactly table made within .0 s; not-left-recursive = f .0; without-clash = f .1 };
         }
 
     passed : Passes bs → check bs ≡ Passed
     passed p =
-        accepts (p .table) (decode-exactly bs bytes (p .table) .1 (p .encoded, p .within))
-        (sorts-exactly (p .table) (p .within) .1 (p .meets .sorted))
+        accepts (p .written) (p .table) (decode-exactly bs bytes (p .written) .1 (p .encoded, p .within))
+        (sorts-exactly (p .written) (p .table) (p .within) .1 (p .meets .elaborates))
         (passes-exactly (grammarOf (p .table)) .1 (p .meets .not-left-recursive, p .meets .without-clash))
 
     -- the bytes that pass are exactly those of a table that meets the demands
@@ -147,28 +141,27 @@ module _ (bs : List ℕ) (bytes : (place : ℕ) → getD bs place 0 < 256) where
       passed-never : {A : Type 0} → Passed ≡ Refused cause → A
       passed-never e = never cause (sym e)
 
-      by-firsts : (table : Table) → decode bs ≡ ok table → checkSorts table ≡ ok table → (checked : Checked (Unit {0}))
-          → checkFirsts (grammarOf table) ≡ checked → verdict (checked >> ok (syntaxOf table)) ≡ Refused cause
+      by-firsts : (table : Written) (made : Table) → decode bs ≡ ok table → checkSorts table ≡ ok made → (checked : Checked (Unit {0}))
+          → checkFirsts (grammarOf made) ≡ checked → verdict (checked >> ok (syntaxOf made)) ≡ Refused cause
           → (laid : Laid bs) × (checkFirsts (grammarOf (laid .table)) ≡ bad cause)
-      by-firsts table d s (ok u) e h = passed-never h
-      by-firsts table d s (bad q) e h =
-          let w = decode-exactly bs bytes table .0 d in
-          (record { table = table; encoded = w .0; within = w .1; sorted = sorts-exactly table (w .1) .0 s }, e ∙ ap bad (same h))
+      by-firsts table made d s (ok u) e h = passed-never h
+      by-firsts table made d s (bad q) e h =
+          let w = decode-exactly bs bytes table .0 d in (
+            record { written = table; table = made; encoded = w .0; within = w .1; elaborates = sorts-exactly table made (w .1) .0 s },
+            e ∙ ap bad (same h),
+          )
 
-      by-sorts : (table : Table) → decode bs ≡ ok table → (checked : Checked Table) → checkSorts table ≡ checked
+      by-sorts : (table : Written) → decode bs ≡ ok table → (checked : Checked Table) → checkSorts table ≡ checked
           → verdict (checked >>= firstsOf) ≡ Refused cause → (laid : Laid bs) × (checkFirsts (grammarOf (laid .table)) ≡ bad cause)
-      by-sorts table d (ok u) e h =
-          let same : table ≡ u = checked-as-is (decode-exactly bs bytes table .0 d .1) e in
-          by-firsts table d (e ∙ ap ok (sym same)) (checkFirsts (grammarOf table)) refl
-          (subst⁻¹ (λ t. verdict (firstsOf t) ≡ Refused cause) same h)
+      by-sorts table d (ok made) e h = by-firsts table made d e (checkFirsts (grammarOf made)) refl h
       by-sorts table d (bad q) e h = not-sort {number = q .number} (omega (arith, over, ap (λ (x : Refusal). x .number) (same h))) (sort-refusals table q e .0)
 
-      by-layout : (checked : Checked Table) → decode bs ≡ checked → verdict (checked >>= rules) ≡ Refused cause
+      by-layout : (checked : Checked Written) → decode bs ≡ checked → verdict (checked >>= rules) ≡ Refused cause
           → (laid : Laid bs) × (checkFirsts (grammarOf (laid .table)) ≡ bad cause)
       by-layout (ok t) e h = by-sorts t e (checkSorts t) refl h
       by-layout (bad q) e h = go (decode-answers bs)
         where
-          go : ((table : Table) × (decode bs ≡ ok table))
+          go : ((table : Written) × (decode bs ≡ ok table))
               ⊎ ((given-refusal : Refusal) × (decode bs ≡ bad given-refusal) × (isLayoutNumber (given-refusal .number) ≡ true))
               → (laid : Laid bs) × (checkFirsts (grammarOf (laid .table)) ≡ bad cause)
           go (inl a) = let z : ok (a .0) ≡ bad q = sym (a .1) ∙ e in let z′ : _≡_ {A = ℕ} 0 1 = cc in absurd (omega arith)
@@ -181,8 +174,8 @@ module _ (bs : List ℕ) (bytes : (place : ℕ) → getD bs place 0 < 256) where
 
       back : ((laid : Laid bs) × (checkFirsts (grammarOf (laid .table)) ≡ bad cause)) → check bs ≡ Refused cause
       back p =
-          refused-by-firsts bs (p .0 .table) cause (decode-exactly bs bytes (p .0 .table) .1 (p .0 .encoded, p .0 .within))
-          (sorts-exactly (p .0 .table) (p .0 .within) .1 (p .0 .sorted)) (p .1)
+          refused-by-firsts bs (p .0 .written) (p .0 .table) cause (decode-exactly bs bytes (p .0 .written) .1 (p .0 .encoded, p .0 .within))
+          (sorts-exactly (p .0 .written) (p .0 .table) (p .0 .within) .1 (p .0 .elaborates)) (p .1)
 
   -- 12 is given, with `nonterminal`, exactly to a table that is laid out and sorted and whose lowest nonterminal that reaches itself is `nonterminal`.
   pub refused-12 : (nonterminal : ℕ) → (check bs ≡ Refused (refusal 12 nonterminal 0 0))
@@ -212,11 +205,7 @@ unfolding passedTable
 passed-table bs passes =
     rw (
       passes .encoded,
-      decode-encoded (passes .table) (passes .within),
-      sorts-exactly (passes .table) (passes .within) .1 (passes .meets .sorted),
+      decode-encoded (passes .written) (passes .within),
+      sorts-exactly (passes .written) (passes .table) (passes .within) .1 (passes .meets .elaborates),
       passes-exactly (grammarOf (passes .table)) .1 (passes .meets .not-left-recursive, passes .meets .without-clash),
     )
-
--- Each of its keywords keeps its number among those that its scanner knows, so that there are at most 62.
-pub few-keywords : (table : Table) → Within table → length (lexiconOfTable table .keywords) ≤ most .keywords
-few-keywords table within = omega (arith, kept-many (kindsReached (grammarOf table) (table .root)) 0 (table .keywords), within .keywordCount)

@@ -12,11 +12,12 @@ use Rattle.answers.specs.Refusals.{refusal}
 use Rattle.answers.specs.Checked.{ok, bad}
 use Rattle.kinds.specs.Kinds.{hasKind}
 use Rattle.grammar.specs.Table.{Table}
+use Rattle.grammar.specs.Written.{Written}
 use Rattle.grammar.specs.Encode.{encode}
 use Rattle.decoding.specs.Within.{Within}
 use Rattle.decoding.specs.Decode.{decode}
 use Rattle.decoding.proofs.LayoutTheorems as layout
-use Rattle.judgements.specs.Judgements.{WellSorted}
+use Rattle.judgements.specs.Elaboration.{Elaborates}
 use Rattle.judgements.specs.CheckSorts.{checkSorts}
 use Rattle.judgements.proofs.SortTheorems as sorting
 use Rattle.productions.specs.Normal.{Production}
@@ -34,19 +35,24 @@ use Rattle.checker.proofs.Passing as passing
 -- ------------------------------------------------------------------ 1. layout
 
 -- The decoder gives a table exactly if the bytes are its encoding and it is within document 01's counts, spellings and ranges.
-pub decode-exactly : (bs : List ℕ) → ((place : ℕ) → getD bs place 0 < 256) → (table : Table) → (decode bs ≡ ok table) ↔ ((bs ≡ encode table) × Within table)
+pub decode-exactly : (bs : List ℕ) → ((place : ℕ) → getD bs place 0 < 256) → (table : Written)
+    → (decode bs ≡ ok table) ↔ ((bs ≡ encode table) × Within table)
 decode-exactly = layout.decode-exactly
 
 -- Two tables never share an encoding.
-pub encode-injective : (table other : Table) → Within table → Within other → encode table ≡ encode other → table ≡ other
+pub encode-injective : (table other : Written) → Within table → Within other → encode table ≡ encode other → table ≡ other
 encode-injective = layout.encode-injective
 
 -- ------------------------------------------------------------------ 2. sorts
 
--- None of 7, 8, 9 and 11 is given to a table within the counts and ranges exactly if the judgements of 001 derive the sequence, and the root is
--- defined, without parameters, of sort Term.
-pub sorts-exactly : (table : Table) → Within table → (checkSorts table ≡ ok table) ↔ WellSorted table
+-- None of 7, 8, 9 and 11 is given to a table within the counts and ranges, and `made` is answered, exactly if the judgements of 001 derive the sequence and
+-- elaborate it to that of `made`, and the root is defined, without parameters, of sort Term.
+pub sorts-exactly : (table : Written) (made : Table) → Within table → (checkSorts table ≡ ok made) ↔ Elaborates table made
 sorts-exactly = sorting.sorts-exactly
+
+-- A table is elaborated in one way.
+pub elaborated-once : {table : Written} {made other : Table} → Elaborates table made → Elaborates table other → made ≡ other
+elaborated-once = sorting.elaborated-once
 
 -- ------------------------------------------------------------------ 3. nullables and first sets
 
@@ -86,12 +92,12 @@ module _ (bs : List ℕ) where
   refused-by-layout = passing.refused-by-layout bs
 
   -- A table that decodes has the refusal of its sorts, if they give one.
-  pub refused-by-sorts : (table : Table) (cause : Refusal) → decode bs ≡ ok table → checkSorts table ≡ bad cause → check bs ≡ Refused cause
+  pub refused-by-sorts : (table : Written) (cause : Refusal) → decode bs ≡ ok table → checkSorts table ≡ bad cause → check bs ≡ Refused cause
   refused-by-sorts = passing.refused-by-sorts bs
 
   -- A well sorted table has the refusal of its first sets, 12 or 13, if they give one.
-  pub refused-by-firsts : (table : Table) (cause : Refusal) → decode bs ≡ ok table → checkSorts table ≡ ok table → checkFirsts (grammarOf table) ≡ bad cause
-      → check bs ≡ Refused cause
+  pub refused-by-firsts : (table : Written) (made : Table) (cause : Refusal) → decode bs ≡ ok table → checkSorts table ≡ ok made
+      → checkFirsts (grammarOf made) ≡ bad cause → check bs ≡ Refused cause
   refused-by-firsts = passing.refused-by-firsts bs
 
   -- 12 is given, with `nonterminal`, exactly if the bytes are a well sorted table and `nonterminal` is the lowest nonterminal that reaches itself by

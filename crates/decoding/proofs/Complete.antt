@@ -9,12 +9,14 @@ use borrow.Author.Tests.{lt-ltb}
 use Rattle.answers.specs.Checked.{ok}
 use Rattle.spellings.specs.Bytes.{isWord, isKeyword}
 use Rattle.grammar.specs.Limits.{most}
-use Rattle.grammar.specs.Table.{Item, Alternative, Definition, Table}
+use Rattle.grammar.specs.Table.{Item}
+use Rattle.grammar.specs.Written.{WrittenResult, resultField, WrittenAlternative, WrittenDefinition, Written}
 use Rattle.grammar.specs.Encode.{spellingsThen, itemsThen, alternativesThen, definitionsThen, blocksThen, tableFields}
 use Rattle.grammar.specs.Values.{Field, field, templateThen, itemValue, headValue}
 use Rattle.decoding.specs.declared.Progress.{Progress}
 use Rattle.decoding.specs.Layout.{isKnown, follows, isRepeated, isSpelled, hasRoom, isWhole, passed, initialProgress, checkFields}
-use Rattle.decoding.specs.Within.{Each, each-none, each-more, ItemWithin, AlternativeWithin, DefinitionWithin, alternativesOf, alternativesIn, Within}
+use Rattle.decoding.specs.Within.{Each, each-none, each-more, ItemWithin, ResultWithin, template-within, AlternativeWithin, DefinitionWithin}
+use Rattle.decoding.specs.Within.{alternativesOf, alternativesIn, Within}
 use Rattle.decoding.proofs.Split.{spread}
 use Rattle.decoding.proofs.Values.{root-known, head-known, result-whole, item-known, item-whole}
 use Rattle.decoding.proofs.Accept.{Passes, accept}
@@ -59,23 +61,28 @@ items-accepted (each-more {x} {xs} h t) before progress i m follow c =
     (items-accepted t (field 6 (itemValue x) ∷ before) (passed 6 progress) (record { item = refl; result = refl }) (omega arith) follow
     (λ b t i e f. c b t i (omega arith) (omega arith)))
 
-alternative-accepted : {alternative : Alternative} → AlternativeWithin alternative → (before : List Field) (progress : Progress)
+result-accepted : {result : WrittenResult} → ResultWithin result → (before : List Field) (progress : Progress) → Inside (progress .last) → (follow : List Field)
+    → ((passed-fields : List Field) (next : Progress) → next .last ≡ 7 → next .blocks ≡ progress .blocks → next .alternatives ≡ progress .alternatives
+    → Accepted passed-fields next follow) → Accepted before progress (resultField result ∷ follow)
+unfolding passed isKnown isSpelled hasRoom
+result-accepted (template-within {t} w) before progress i follow c =
+    and-then (record { known = refl; ordered = i .result; spelled = refl; room = refl; whole = result-whole w })
+    (c (field 7 (templateThen t []) ∷ before) (passed 7 progress) refl (omega arith) (omega arith))
+
+alternative-accepted : {alternative : WrittenAlternative} → AlternativeWithin alternative → (before : List Field) (progress : Progress)
     → follows 5 (progress .last) ≡ true → progress .alternatives < most .alternatives → (follow : List Field)
     → ((passed-fields : List Field) (next : Progress) → next .last ≡ 7 → next .blocks ≡ progress .blocks → next .alternatives ≡ progress .alternatives + 1
     → Accepted passed-fields next follow)
-    → Accepted before progress (field 5 [] ∷ itemsThen (alternative .items) (field 7 (templateThen (alternative .result) []) ∷ follow))
+    → Accepted before progress (field 5 [] ∷ itemsThen (alternative .items) (resultField (alternative .result) ∷ follow))
 unfolding passed follows isKnown isSpelled hasRoom isWhole
 alternative-accepted {alternative} w before progress f m follow c =
     and-then
     (record { known = refl; ordered = f; spelled = refl; room = rw (lt-ltb (progress .alternatives) (most .alternatives) m) refl; whole = refl })
     (items-accepted (w .items) (field 5 [] ∷ before) (passed 5 progress) (record { item = refl; result = refl }) (omega (arith, w .itemCount))
-    (field 7 (templateThen (alternative .result) []) ∷ follow)
-    (λ b t i e g.
-    and-then
-    (record { known = refl; ordered = i .result; spelled = refl; room = refl; whole = result-whole (w .result) })
-    (c (field 7 (templateThen (alternative .result) []) ∷ b) (passed 7 t) refl (omega arith) (omega arith))))
+    (resultField (alternative .result) ∷ follow)
+    (λ b t i e g. result-accepted (w .result) b t i follow (λ b u l e′ g′. c b u l (omega arith) (omega arith))))
 
-alternatives-accepted : {rest : List Alternative} → Each AlternativeWithin rest → (before : List Field) (progress : Progress)
+alternatives-accepted : {rest : List WrittenAlternative} → Each AlternativeWithin rest → (before : List Field) (progress : Progress)
     → follows 5 (progress .last) ≡ true → (length rest ≡ 0 → progress .last ≡ 7) → progress .alternatives + length rest ≤ most .alternatives
     → (follow : List Field)
     → ((passed-fields : List Field) (next : Progress) → next .last ≡ 7 → next .blocks ≡ progress .blocks → next .alternatives
@@ -99,7 +106,7 @@ closed-after : (last : ℕ) → last ≡ 7 → Closed last
 unfolding follows
 closed-after last e = record { block = ap (follows 3) e; root = ap (follows 8) e }
 
-definitions-accepted : {ds : List Definition} → Each DefinitionWithin ds → (before : List Field) (progress : Progress)
+definitions-accepted : {ds : List WrittenDefinition} → Each DefinitionWithin ds → (before : List Field) (progress : Progress)
     → follows 4 (progress .last) ≡ true → Closed (progress .last) → progress .alternatives + alternativesOf ds ≤ most .alternatives → (follow : List Field)
     → ((passed-fields : List Field) (next : Progress) → Closed (next .last) → next .blocks ≡ progress .blocks → next .alternatives
     ≡ progress .alternatives + alternativesOf ds → Accepted passed-fields next follow)
@@ -121,7 +128,7 @@ module _ (root : ℕ) (below : root < most .nonterminals) where
       and-then (record { known = root-known root below; ordered = n .root; spelled = refl; room = refl; whole = refl })
       (record { from = λ at. refl })
 
-  blocks-accepted : {bs : List (List Definition)} → Each (Each DefinitionWithin) bs → (before : List Field) (progress : Progress)
+  blocks-accepted : {bs : List (List WrittenDefinition)} → Each (Each DefinitionWithin) bs → (before : List Field) (progress : Progress)
       → Closed (progress .last) → progress .blocks + length bs ≤ most .blocks → progress .alternatives + alternativesIn bs ≤ most .alternatives
       → Accepted before progress (blocksThen bs (field 8 (root ∷ []) ∷ []))
   unfolding blocksThen alternativesIn passed follows isKnown isSpelled hasRoom isWhole
@@ -178,7 +185,7 @@ module _ (follow : List Field)
       (omega arith) (omega arith) (omega arith) (omega arith))
 
 -- The fields of a table within the bounds are accepted.
-pub table-accepted : (table : Table) → Within table → Accepted [] initialProgress (tableFields table)
+pub table-accepted : (table : Written) → Within table → Accepted [] initialProgress (tableFields table)
 unfolding tableFields follows isRepeated
 table-accepted table w =
     keywords-accepted (blocksThen (table .blocks) (field 8 (table .root ∷ []) ∷ []))

@@ -11,7 +11,7 @@ use borrow.Author.Tests.{leb-true}
 use Rattle.answers.specs.Checked.{ok}
 use Rattle.spellings.proofs.BytesLaws.{by-test}
 use Rattle.grammar.specs.Limits.{most}
-use Rattle.grammar.specs.Table.{Table}
+use Rattle.grammar.specs.Written.{Written}
 use Rattle.grammar.specs.Values.{Field, field}
 use Rattle.grammar.specs.Fields.{RawFields, end, cut, next, fieldsOf}
 use Rattle.grammar.specs.Lookup.{leading, afterLeading, lexiconOf}
@@ -142,7 +142,7 @@ spells (next at tag v fs) before progress h =
     steps tag v (both .0 .known) at v fs before progress (both .0) (spells fs (field tag v ∷ before) (passed tag progress) (both .1))
 
 -- The spellings that lead the fields of bytes that are decoded as a table are the table's.
-pub leading-decoded : (bs : List ℕ) (table : Table) → decode bs ≡ ok table
+pub leading-decoded : (bs : List ℕ) (table : Written) → decode bs ≡ ok table
     → (leading 1 (fieldsOf bs) ≡ table .keywords) × (leading 2 (afterLeading 1 (fieldsOf bs)) ≡ table .outsides)
 leading-decoded bs table h =
     let right = decoded-layout bs table h in
@@ -150,7 +150,7 @@ leading-decoded bs table h =
     (cc (w .keywords, right .1), cc (w .outsides, right .1))
 
 -- The lexicon of bytes that are decoded as a table is the table's.
-pub lexicon-decoded : (bs : List ℕ) (table : Table) → decode bs ≡ ok table
+pub lexicon-decoded : (bs : List ℕ) (table : Written) → decode bs ≡ ok table
     → lexiconOf bs ≡ record { keywords = table .keywords; outsides = table .outsides; variables = [] }
 unfolding lexiconOf
 lexicon-decoded bs table h =

@@ -4,9 +4,10 @@ use mathlib.Core.Path.{_≡_, refl, ap, _∙_}
 use mathlib.Core.List.{List, [], _∷_, _++_, append-assoc}
 use lib.ListN.{length, take}
 use lib.Seq.{take-append-seam}
-use Rattle.grammar.specs.Table.{Item, Alternative, Definition, Table}
+use Rattle.grammar.specs.Table.{Item}
+use Rattle.grammar.specs.Written.{WrittenAlternative, WrittenDefinition, Written, resultField}
 use Rattle.grammar.specs.Encode.{fieldBytes, spellingsThen, itemsThen, alternativesThen, definitionsThen, blocksThen, tableFields, encode}
-use Rattle.grammar.specs.Values.{Field, field, templateThen, itemValue, headValue}
+use Rattle.grammar.specs.Values.{Field, field, itemValue, headValue}
 
 -- ------------------------------------------------------------------ what is laid in front of two lists of fields
 
@@ -21,17 +22,17 @@ module _ (first second : List Field) where
   items-then [] = refl
   items-then (i ∷ is) = ap (field 6 (itemValue i) ∷_) (items-then is)
 
-alternatives-then : (first second : List Field) (choices : List Alternative)
+alternatives-then : (first second : List Field) (choices : List WrittenAlternative)
     → alternativesThen choices (first ++ second) ≡ alternativesThen choices first ++ second
 unfolding alternativesThen
 alternatives-then first second [] = refl
 alternatives-then first second (a ∷ rest) =
-    let result : Field = field 7 (templateThen (a .result) []) in
+    let result : Field = resultField (a .result) in
     ap (field 5 [] ∷_)
     (ap (λ fs. itemsThen (a .items) (result ∷ fs)) (alternatives-then first second rest)
     ∙ items-then (result ∷ alternativesThen rest first) second (a .items))
 
-definitions-then : (first second : List Field) (ds : List Definition) → definitionsThen ds (first ++ second) ≡ definitionsThen ds first ++ second
+definitions-then : (first second : List Field) (ds : List WrittenDefinition) → definitionsThen ds (first ++ second) ≡ definitionsThen ds first ++ second
 unfolding definitionsThen
 definitions-then first second [] = refl
 definitions-then first second (d ∷ ds) =
@@ -39,13 +40,13 @@ definitions-then first second (d ∷ ds) =
     (ap (alternativesThen (d .alternatives)) (definitions-then first second ds)
     ∙ alternatives-then (definitionsThen ds first) second (d .alternatives))
 
-blocks-then : (first second : List Field) (bs : List (List Definition)) → blocksThen bs (first ++ second) ≡ blocksThen bs first ++ second
+blocks-then : (first second : List Field) (bs : List (List WrittenDefinition)) → blocksThen bs (first ++ second) ≡ blocksThen bs first ++ second
 unfolding blocksThen
 blocks-then first second [] = refl
 blocks-then first second (b ∷ bs) =
     ap (field 3 [] ∷_) (ap (definitionsThen b) (blocks-then first second bs) ∙ definitions-then (blocksThen bs first) second b)
 
-blocks-split : (before behind : List (List Definition)) (follow : List Field)
+blocks-split : (before behind : List (List WrittenDefinition)) (follow : List Field)
     → blocksThen (before ++ behind) follow ≡ blocksThen before (blocksThen behind follow)
 unfolding blocksThen
 blocks-split [] behind follow = refl
@@ -60,10 +61,10 @@ bytes-both (f ∷ first) second = rw (bytes-both first second, append-assoc (f .
 -- ------------------------------------------------------------------ the front of a table
 
 -- the fields up to a block: keywords, outside names and the blocks before it
-abbrev pub frontFields : Table → List (List Definition) → List Field
+abbrev pub frontFields : Written → List (List WrittenDefinition) → List Field
 frontFields table before = spellingsThen 1 (table .keywords) (spellingsThen 2 (table .outsides) (blocksThen before []))
 
-module _ (table : Table) (before behind : List (List Definition)) (whole : table .blocks ≡ before ++ behind) where
+module _ (table : Written) (before behind : List (List WrittenDefinition)) (whole : table .blocks ≡ before ++ behind) where
   fields-both : tableFields table ≡ frontFields table before ++ blocksThen behind (field 8 (table .root ∷ []) ∷ [])
   unfolding tableFields
   fields-both =

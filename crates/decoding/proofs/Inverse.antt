@@ -9,7 +9,7 @@ use borrow.Author.Tests.{le-leb, leb-true}
 use Rattle.answers.specs.Refusals.{refusal}
 use Rattle.answers.specs.Checked.{Checked, ok, bad, _>>_}
 use Rattle.spellings.proofs.BytesLaws.{by-test}
-use Rattle.grammar.specs.Table.{Table}
+use Rattle.grammar.specs.Written.{Written}
 use Rattle.grammar.specs.Encode.{fieldBytes, tableFields, encode}
 use Rattle.grammar.specs.Fields.{fieldsOf}
 use Rattle.decoding.specs.Layout.{initialProgress, checkFields, layout}
@@ -45,12 +45,12 @@ passed-first (ok tt) item other h = (refl, cc)
 passed-first (bad r) item other h = absurd (subst⁻¹ Accepts h tt)
 
 -- bytes that are decoded have the layout of a table, and it is built from them
-pub decoded-layout : (bs : List ℕ) (table : Table) → decode bs ≡ ok table → (layout bs ≡ ok tt) × (tableOf (decodeFields (fieldsOf bs)) ≡ table)
+pub decoded-layout : (bs : List ℕ) (table : Written) → decode bs ≡ ok table → (layout bs ≡ ok tt) × (tableOf (decodeFields (fieldsOf bs)) ≡ table)
 unfolding decode
 decoded-layout bs table h = passed-first (layout bs) (tableOf (decodeFields (fieldsOf bs))) table h
 
 -- The encoding of a table within the bounds is decoded as this table.
-pub decode-encoded : (table : Table) → Within table → decode (encode table) ≡ ok table
+pub decode-encoded : (table : Written) → Within table → decode (encode table) ≡ ok table
 unfolding decode encode
 decode-encoded table w =
     let bs = fieldBytes (tableFields table) in
@@ -60,7 +60,7 @@ decode-encoded table w =
     cc (table-built table 0 w)
 
 -- Bytes whose layout is right are the encoding of a table within the bounds.
-pub layout-encoded : (bs : List ℕ) → Bytes bs → layout bs ≡ ok tt → (table : Table) × (bs ≡ encode table) × Within table
+pub layout-encoded : (bs : List ℕ) → Bytes bs → layout bs ≡ ok tt → (table : Written) × (bs ≡ encode table) × Within table
 unfolding encode
 layout-encoded bs b h =
     let parts = layout-parts bs h in
@@ -70,11 +70,11 @@ layout-encoded bs b h =
     (found .0, same, found .2 (rw (← same) (parts .0)))
 
 -- bytes that are decoded as a table are its encoding
-pub decoded-encoding : (bs : List ℕ) → Bytes bs → (table : Table) → decode bs ≡ ok table → (bs ≡ encode table) × Within table
+pub decoded-encoding : (bs : List ℕ) → Bytes bs → (table : Written) → decode bs ≡ ok table → (bs ≡ encode table) × Within table
 decoded-encoding bs b table h =
     let found = layout-encoded bs b (decoded-layout bs table h .0) in
     let one : found .0 ≡ table = same-value (sym (ap decode (found .1) ∙ decode-encoded (found .0) (found .2)) ∙ h) in
     (found .1 ∙ ap encode one, subst Within one (found .2))
   where
-    same-value : {other other-table : Table} → ok other ≡ ok other-table → other ≡ other-table
+    same-value : {other other-table : Written} → ok other ≡ ok other-table → other ≡ other-table
     same-value e = cc

@@ -5,7 +5,8 @@ use mathlib.Core.Bool.{true, false, false≢true}
 use mathlib.Core.List.{List, [], _∷_}
 use native.Mathlib.Omega.{arith}
 use lib.ListN.{getD}
-use Rattle.grammar.specs.Table.{Template, Item, Alternative, Definition}
+use Rattle.grammar.specs.Table.{Template, Item}
+use Rattle.grammar.specs.Written.{WrittenResult, template, resultField, WrittenAlternative, WrittenDefinition}
 use Rattle.grammar.specs.Encode.{spellingsThen, itemsThen, alternativesThen, definitionsThen, blocksThen}
 use Rattle.grammar.specs.Values.{Field, field, templateThen, itemValue, headValue}
 use Rattle.decoding.specs.Layout.{follows}
@@ -32,7 +33,7 @@ module _ (rest : Decoded) where
 
   -- the items and the result of the alternative that is open, then what is behind it
   abbrev pub itemsLeft : List Field
-  itemsLeft = itemsThen (rest .items) (field 7 (templateThen (rest .result) []) ∷ alternativesLeft)
+  itemsLeft = itemsThen (rest .items) (resultField (rest .result) ∷ alternativesLeft)
 
   -- the outside names, then the blocks
   abbrev pub outsidesLeft : List Field
@@ -102,11 +103,11 @@ abbrev pub withBlock : Decoded → Decoded
 withBlock b = decoded [] [] (b .definitions ∷ b .blocks) (b .root) [] [] [] (b .result)
 
 -- a definition
-abbrev pub withDefinition : Definition → Decoded → Decoded
+abbrev pub withDefinition : WrittenDefinition → Decoded → Decoded
 withDefinition d b = decoded [] [] (b .blocks) (b .root) (d ∷ b .definitions) [] [] (b .result)
 
 -- the alternative that is open, with its items and its result
-abbrev pub alternativeOf : Decoded → Alternative
+abbrev pub alternativeOf : Decoded → WrittenAlternative
 alternativeOf b = record { items = b .items; result = b .result }
 
 -- an alternative
@@ -118,8 +119,8 @@ abbrev pub withItem : Item → Decoded → Decoded
 withItem i b = decoded [] [] (b .blocks) (b .root) (b .definitions) (b .alternatives) (i ∷ b .items) (b .result)
 
 -- a result
-abbrev pub withResult : Template → Decoded → Decoded
-withResult t b = decoded [] [] (b .blocks) (b .root) (b .definitions) (b .alternatives) [] t
+abbrev pub withResult : WrittenResult → Decoded → Decoded
+withResult r b = decoded [] [] (b .blocks) (b .root) (b .definitions) (b .alternatives) [] r
 
 -- and a root
 abbrev pub withRoot : ℕ → Decoded → Decoded
@@ -146,7 +147,7 @@ module _ (rest : Decoded) where
       by-last 3 (withBlock rest) (field 3 [] ∷ left 3 rest) (λ e. refl) (λ e. refl) (λ e. refl) (λ e. refl) never never never (λ e. refl) never
 
   -- a definition
-  pub opens-definition : (definition : Definition) → definition .alternatives ≡ rest .alternatives
+  pub opens-definition : (definition : WrittenDefinition) → definition .alternatives ≡ rest .alternatives
       → Opens 4 (withDefinition definition rest) (field 4 (headValue definition) ∷ left 4 rest)
   unfolding left follows definitionsThen alternativesThen
   opens-definition definition a =
@@ -164,11 +165,12 @@ module _ (rest : Decoded) where
   opens-item item =
       by-last 6 (withItem item rest) (field 6 (itemValue item) ∷ left 6 rest) never never never never never (λ e. refl) (λ e. refl) never never
 
-  -- a result
-  pub opens-result : (template : Template) → Opens 7 (withResult template rest) (field 7 (templateThen template []) ∷ left 7 rest)
+  -- a template as a result
+  pub opens-result : (made : Template) → Opens 7 (withResult (template made) rest) (field 7 (templateThen made []) ∷ left 7 rest)
   unfolding left follows itemsThen
-  opens-result template =
-      by-last 7 (withResult template rest) (field 7 (templateThen template []) ∷ left 7 rest) never never never never never (λ e. refl) (λ e. refl) never never
+  opens-result made =
+      by-last 7 (withResult (template made) rest) (field 7 (templateThen made []) ∷ left 7 rest) never never never never never (λ e. refl) (λ e. refl) never
+      never
 
   -- and the root
   pub opens-root : (root : ℕ) → Opens 8 (withRoot root rest) (field 8 (root ∷ []) ∷ left 8 rest)

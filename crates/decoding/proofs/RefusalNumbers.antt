@@ -9,7 +9,7 @@ use lib.ListN.{length}
 use Rattle.answers.specs.declared.Refusal.{Refusal}
 use Rattle.answers.specs.Refusals.{refusal}
 use Rattle.answers.specs.Checked.{Checked, ok, bad, _>>=_, _>>_, need}
-use Rattle.grammar.specs.Table.{Table}
+use Rattle.grammar.specs.Written.{Written}
 use Rattle.grammar.specs.Limits.{most}
 use Rattle.grammar.specs.Values.{Field, field}
 use Rattle.grammar.specs.Fields.{RawFields, end, cut, next, fieldsOf}
@@ -69,14 +69,14 @@ layout-numbered bs = by (leb (length bs) (most .bytes))
 
 -- Bytes are decoded as a table, or refused with one of these numbers.
 pub decode-answers : (bs : List ℕ)
-    → ((table : Table) × (decode bs ≡ ok table)) ⊎ ((cause : Refusal) × (decode bs ≡ bad cause) × (isLayoutNumber (cause .number) ≡ true))
+    → ((table : Written) × (decode bs ≡ ok table)) ⊎ ((cause : Refusal) × (decode bs ≡ bad cause) × (isLayoutNumber (cause .number) ≡ true))
 unfolding decode
 decode-answers bs = by (layout bs) (layout-numbered bs)
   where
-    t : Table
+    t : Written
     t = tableOf (decodeFields (fieldsOf bs))
 
     by : (checked : Checked (Unit {0})) → Numbered checked
-        → ((other : Table) × ((checked >> ok t) ≡ ok other)) ⊎ ((cause : Refusal) × ((checked >> ok t) ≡ bad cause) × (isLayoutNumber (cause .number) ≡ true))
+        → ((other : Written) × ((checked >> ok t) ≡ ok other)) ⊎ ((cause : Refusal) × ((checked >> ok t) ≡ bad cause) × (isLayoutNumber (cause .number) ≡ true))
     by (ok tt) h = inl (t, refl)
     by (bad r) h = inr (r, refl, h)

@@ -9,7 +9,8 @@ use lib.ListN.{length}
 use borrow.Author.Tests.{eqb-true, ltb-true, not-true}
 use Rattle.answers.specs.Checked.{ok, need}
 use Rattle.spellings.specs.Bytes.{isWord, isKeyword}
-use Rattle.grammar.specs.Table.{Template, Item, Definition, Table}
+use Rattle.grammar.specs.Table.{Item}
+use Rattle.grammar.specs.Written.{WrittenResult, template, WrittenDefinition, Written}
 use Rattle.grammar.specs.Encode.{tableFields, encode}
 use Rattle.grammar.specs.Limits.{most}
 use Rattle.grammar.specs.Values.{Field, field}
@@ -17,8 +18,8 @@ use Rattle.grammar.specs.Fields.{RawFields, end, cut, next}
 use Rattle.decoding.specs.declared.Progress.{Progress}
 use Rattle.decoding.specs.Layout.{isKnown, follows, isRepeated, isSpelled, hasRoom, passed, initialProgress, checkFields}
 use Rattle.decoding.specs.Decode.{Decoded, nothing, definitionOf, tableOf}
-use Rattle.decoding.specs.Within.{Each, each-none, each-more, TemplateWithin, variable-within, ItemWithin, AlternativeWithin, DefinitionWithin}
-use Rattle.decoding.specs.Within.{alternativesOf, alternativesIn, Within}
+use Rattle.decoding.specs.Within.{Each, each-none, each-more, variable-within, ItemWithin, ResultWithin, template-within}
+use Rattle.decoding.specs.Within.{AlternativeWithin, DefinitionWithin, alternativesOf, alternativesIn, Within}
 use Rattle.decoding.proofs.Split.{Bytes, ValueBytes, flat}
 use Rattle.decoding.proofs.Values.{and-left, block-value, alternative-value, root-value, head-value, result-value, item-value}
 use Rattle.decoding.proofs.Accept.{Passes, Accepts, accepted, by-tag}
@@ -78,7 +79,7 @@ module _ (progress : Progress) where
     unfolding passed alternativesOf alternativesIn
     room-block h r = omega arith
 
-    room-definition : (definition : Definition) → length (definition .alternatives) ≡ length (decoded .alternatives) → Room (passed 4 progress) decoded
+    room-definition : (definition : WrittenDefinition) → length (definition .alternatives) ≡ length (decoded .alternatives) → Room (passed 4 progress) decoded
         → Room progress (withDefinition definition decoded)
     unfolding passed alternativesOf
     room-definition definition e r = omega arith
@@ -91,9 +92,9 @@ module _ (progress : Progress) where
     unfolding passed
     room-item item h r = omega arith
 
-    room-result : (template : Template) → Room (passed 7 progress) decoded → Room progress (withResult template decoded)
+    room-result : (result : WrittenResult) → Room (passed 7 progress) decoded → Room progress (withResult result decoded)
     unfolding passed
-    room-result template r = omega arith
+    room-result result r = omega arith
 
     room-root : (root : ℕ) → Room progress (withRoot root decoded)
     unfolding alternativesOf alternativesIn
@@ -118,7 +119,7 @@ pub record Fits (before : List Field) (progress : Progress) (decoded : Decoded) 
   -- the items are within the bounds
   pub items : Each ItemWithin (decoded .items)
   -- so is the result
-  pub result : TemplateWithin (decoded .result)
+  pub result : ResultWithin (decoded .result)
   -- the root is a nonterminal
   pub root : decoded .root < most .nonterminals
   -- the counts leave room for all
@@ -185,7 +186,7 @@ step-outside before s v fs l bytes p r =
 -- parts without spellings
 later : (before : List Field) {progress : Progress} {decoded : Decoded} → decoded .keywords ≡ [] → decoded .outsides ≡ []
     → Each (Each DefinitionWithin) (decoded .blocks) → Each DefinitionWithin (decoded .definitions) → Each AlternativeWithin (decoded .alternatives)
-    → (progress .last ≡ 4 → 1 ≤ length (decoded .alternatives)) → Each ItemWithin (decoded .items) → TemplateWithin (decoded .result)
+    → (progress .last ≡ 4 → 1 ≤ length (decoded .alternatives)) → Each ItemWithin (decoded .items) → ResultWithin (decoded .result)
     → decoded .root < most .nonterminals → Room progress decoded → Fits before progress decoded
 later before k o bs ds rest n is t r m =
     record {
@@ -255,10 +256,10 @@ step-result before s v fs l bytes p r =
     let b = r .0 in
     let g = r .2 in
     let result = result-value v bytes (p .whole) in (
-      withResult (result .0) b,
+      withResult (template (result .0)) b,
       cc (result .1, r .1, opens-result b (result .0) (s .last) l (p .ordered)),
       later before refl refl (g .blocks) (g .definitions) (g .alternatives) (not-begun 7 (s .last) refl (p .ordered)) each-none
-          (result .2) (g .root) (room-result s b (result .0) (g .room)),
+          (template-within (result .2)) (g .root) (room-result s b (template (result .0)) (g .room)),
     )
 
 step-root : Step 8
@@ -297,7 +298,7 @@ unfolding left alternativesOf alternativesIn
 left-none before progress e = (
   nothing,
   cc,
-  later before refl refl each-none each-none each-none (λ z. omega arith) each-none (variable-within (omega arith)) (omega arith)
+  later before refl refl each-none each-none each-none (λ z. omega arith) each-none (template-within (variable-within (omega arith))) (omega arith)
       (omega arith),
 )
 
@@ -314,7 +315,7 @@ sound (next at tag v fs) before progress l b h =
 
 -- Accepted fields are those of a table, and the table is within the counts, spellings and ranges if it is not too long.
 pub accepted-table : (fs : RawFields) → ValueBytes fs → checkFields fs [] initialProgress ≡ ok tt
-    → (table : Table) × (flat fs ≡ tableFields table) × (length (encode table) ≤ most .bytes → Within table)
+    → (table : Written) × (flat fs ≡ tableFields table) × (length (encode table) ≤ most .bytes → Within table)
 unfolding left tableFields
 accepted-table fs b h =
     let r = sound fs [] initialProgress (omega arith) b h in

@@ -10,8 +10,9 @@ use borrow.Author.Tests.{le-leb, leb-true, lt-ltb, ltb-true, eqb-true}
 use Rattle.spellings.specs.Bytes.{every}
 use Rattle.grammar.specs.Limits.{most}
 use Rattle.grammar.specs.SortTests.{isSort, isIdeSort}
-use Rattle.grammar.specs.Table.{Template, Templates, none, more, keyword, ide, number, Item, terminal, local, call, Alternative}
-use Rattle.grammar.specs.Table.{Mode, add, extend, update, Definition}
+use Rattle.grammar.specs.Table.{Template, Templates, none, more, keyword, ide, number, Item, terminal, local, call}
+use Rattle.grammar.specs.Table.{Mode, add, extend, update}
+use Rattle.grammar.specs.Written.{WrittenAlternative, WrittenDefinition}
 use Rattle.grammar.specs.Values.{templateThen, templatesThen, itemValue, modeCode, headValue}
 use Rattle.decoding.specs.Prefix.{ReadTemplates, fault, parsed, templatesOf, isTemplates, isTemplate, found, headTemplate}
 use Rattle.decoding.specs.Layout.{isEmpty, isHead, isItem, isRoot, isKnown, isWhole}
@@ -122,7 +123,7 @@ mode-low extend = omega arith
 mode-low update = omega arith
 
 -- a head that is known is that of a definition
-pub head-value : (value : List ℕ) → isKnown 4 value ≡ true → (rest : List Alternative) → Each AlternativeWithin rest → 1 ≤ length rest
+pub head-value : (value : List ℕ) → isKnown 4 value ≡ true → (rest : List WrittenAlternative) → Each AlternativeWithin rest → 1 ≤ length rest
     → (value ≡ headValue (definitionOf value rest)) × DefinitionWithin (definitionOf value rest)
 unfolding isHead headValue definitionOf every
 head-value value e rest w l = by value (sym (known-head value) ∙ e)
@@ -150,7 +151,7 @@ head-value value e rest w l = by value (sym (known-head value) ∙ e)
         )
 
 -- the head of a definition is known
-pub head-known : {definition : Definition} → DefinitionWithin definition → isKnown 4 (headValue definition) ≡ true
+pub head-known : {definition : WrittenDefinition} → DefinitionWithin definition → isKnown 4 (headValue definition) ≡ true
 unfolding headValue isHead every
 head-known {definition} w =
     known-head (headValue definition)
@@ -164,7 +165,7 @@ head-known {definition} w =
     (each-sorts (w .params))
 
 -- it is read as the definition
-pub head-read : (definition : Definition) → definitionOf (headValue definition) (definition .alternatives) ≡ definition
+pub head-read : (definition : WrittenDefinition) → definitionOf (headValue definition) (definition .alternatives) ≡ definition
 unfolding headValue definitionOf
 head-read definition =
     rw (mode-read (definition .mode))

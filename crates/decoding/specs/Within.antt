@@ -7,7 +7,8 @@ use lib.ListN.{length}
 use Rattle.spellings.specs.Bytes.{isWord, isKeyword}
 use Rattle.grammar.specs.Sorts.{arity}
 use Rattle.grammar.specs.Table.{Template, Templates, variable, outsideVar, outsideLabel, make, none, more, Terminal, keyword, ide, number}
-use Rattle.grammar.specs.Table.{Item, terminal, local, call, Alternative, Definition, Table}
+use Rattle.grammar.specs.Table.{Item, terminal, local, call}
+use Rattle.grammar.specs.Written.{WrittenResult, template, WrittenAlternative, WrittenDefinition, Written}
 use Rattle.grammar.specs.Encode.{encode}
 use Rattle.grammar.specs.Limits.{most}
 
@@ -56,14 +57,18 @@ pub data ItemWithin : Item → Type 0 where
   local-within : ItemWithin local
   call-within : {n : ℕ} {ts : Templates} → n < most .nonterminals → TemplatesWithin ts → ItemWithin (call n ts)
 
+-- 07: a template
+pub data ResultWithin : WrittenResult → Type 0 where
+  template-within : {t : Template} → TemplateWithin t → ResultWithin (template t)
+
 -- 05 to 07
-pub record AlternativeWithin (a : Alternative) : Type 0 where
+pub record AlternativeWithin (a : WrittenAlternative) : Type 0 where
   pub items : Each ItemWithin (a .items)
   pub itemCount : length (a .items) ≤ most .items
-  pub result : TemplateWithin (a .result)
+  pub result : ResultWithin (a .result)
 
 -- 04: sorts 0 to 6, one alternative or more
-pub record DefinitionWithin (d : Definition) : Type 0 where
+pub record DefinitionWithin (d : WrittenDefinition) : Type 0 where
   pub nonterminal : d .nonterminal < most .nonterminals
   pub result : d .signature .result ≤ 6
   pub params : Each (λ s. s ≤ 6) (d .signature .params)
@@ -72,16 +77,16 @@ pub record DefinitionWithin (d : Definition) : Type 0 where
   pub alternativeCount : 1 ≤ length (d .alternatives)
 
 -- the alternatives of a block, and of all blocks
-unfoldable pub alternativesOf : List Definition → ℕ
+unfoldable pub alternativesOf : List WrittenDefinition → ℕ
 alternativesOf [] = 0
 alternativesOf (d ∷ ds) = length (d .alternatives) + alternativesOf ds
 
-unfoldable pub alternativesIn : List (List Definition) → ℕ
+unfoldable pub alternativesIn : List (List WrittenDefinition) → ℕ
 alternativesIn [] = 0
 alternativesIn (b ∷ bs) = alternativesOf b + alternativesIn bs
 
 -- The spellings under each of 01 and 02, the counts, the ranges of every part, and the length of the whole, which bounds that of every value.
-pub record Within (t : Table) : Type 0 where
+pub record Within (t : Written) : Type 0 where
   pub keywords : Each (λ k. isKeyword k ≡ true) (t .keywords)
   pub keywordsDiffer : Different (t .keywords)
   pub keywordCount : length (t .keywords) ≤ most .keywords

@@ -1,10 +1,10 @@
--- The encoding of a table as bytes. Document 01, "Phrase table".
--- Each part is laid in front of what follows it.
+-- The encoding of a table as bytes, each part laid in front of what follows it. Document 01, "Phrase table".
 use Prim.Native.Nat.{ℕ, _/_, _%_}
 use mathlib.Core.List.{List, [], _∷_, _++_}
 use lib.ListN.{length}
-use Rattle.grammar.specs.Table.{Item, Alternative, Definition, Table}
-use Rattle.grammar.specs.Values.{Field, field, templateThen, itemValue, headValue}
+use Rattle.grammar.specs.Table.{Item}
+use Rattle.grammar.specs.Values.{Field, field, itemValue, headValue}
+use Rattle.grammar.specs.Written.{WrittenAlternative, WrittenDefinition, Written, resultField}
 
 -- one byte of tag, two of length with the high byte first, then the value
 abbrev pub fieldThen : Field → List ℕ → List ℕ
@@ -24,27 +24,27 @@ unfoldable pub itemsThen : List Item → List Field → List Field
 itemsThen [] follow = follow
 itemsThen (i ∷ is) follow = field 6 (itemValue i) ∷ itemsThen is follow
 
--- 05, the items, 07
-unfoldable pub alternativesThen : List Alternative → List Field → List Field
+-- 05, the items, the result
+unfoldable pub alternativesThen : List WrittenAlternative → List Field → List Field
 alternativesThen [] follow = follow
 alternativesThen (a ∷ rest) follow =
-    field 5 [] ∷ itemsThen (a .items) (field 7 (templateThen (a .result) []) ∷ alternativesThen rest follow)
+    field 5 [] ∷ itemsThen (a .items) (resultField (a .result) ∷ alternativesThen rest follow)
 
 -- 04 and the alternatives
-unfoldable pub definitionsThen : List Definition → List Field → List Field
+unfoldable pub definitionsThen : List WrittenDefinition → List Field → List Field
 definitionsThen [] follow = follow
 definitionsThen (d ∷ ds) follow = field 4 (headValue d) ∷ alternativesThen (d .alternatives) (definitionsThen ds follow)
 
 -- 03 and the definitions
-unfoldable pub blocksThen : List (List Definition) → List Field → List Field
+unfoldable pub blocksThen : List (List WrittenDefinition) → List Field → List Field
 blocksThen [] follow = follow
 blocksThen (b ∷ bs) follow = field 3 [] ∷ definitionsThen b (blocksThen bs follow)
 
 -- all 01, all 02, blocks, root
-unfoldable pub tableFields : Table → List Field
+unfoldable pub tableFields : Written → List Field
 tableFields t =
     spellingsThen 1 (t .keywords)
     (spellingsThen 2 (t .outsides) (blocksThen (t .blocks) (field 8 (t .root ∷ []) ∷ [])))
 
-unfoldable pub encode : Table → List ℕ
+unfoldable pub encode : Written → List ℕ
 encode t = fieldBytes (tableFields t)

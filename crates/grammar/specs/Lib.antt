@@ -2,6 +2,8 @@ pub mod Limits
 pub mod Variables
 pub mod Sorts
 pub mod Table
+pub mod Written
+pub mod Templated
 pub mod Encode
 pub mod Fields
 pub mod Lookup

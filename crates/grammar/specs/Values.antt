@@ -4,7 +4,7 @@ use Prim.Native.Nat.{ℕ}
 use mathlib.Core.List.{List, [], _∷_}
 use Rattle.grammar.specs.Table.{Template, Templates, variable, outsideVar, outsideLabel, make, none, more, Terminal}
 use Rattle.grammar.specs.Table.{keyword, ide, number, Item, terminal, local, call}
-use Rattle.grammar.specs.Table.{Mode, add, extend, update, Definition}
+use Rattle.grammar.specs.Table.{Mode, add, extend, update, DefinitionOf}
 
 -- a field: a tag and a value
 pub record Field : Type 0 where
@@ -41,5 +41,5 @@ modeCode add = 0
 modeCode extend = 1
 modeCode update = 2
 
-unfoldable pub headValue : Definition → List ℕ
+unfoldable pub headValue : {R : Type 0} → DefinitionOf R → List ℕ
 headValue d = d .nonterminal ∷ modeCode (d .mode) ∷ d .signature .result ∷ d .signature .params

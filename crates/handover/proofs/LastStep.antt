@@ -22,9 +22,9 @@ use Rattle.tokens.specs.Tokens.{mostTokens, spelled}
 use Rattle.scanner.specs.Rooms.{RoomFor, wordPlaces, scanInto}
 use Rattle.tokens.proofs.ScannerTheorems as scanner
 use Rattle.scanner.proofs.AfterScan.{Holds, scan-holds}
+use Rattle.checker.proofs.PassedNames.{names-within, few-keywords}
 use Rattle.checker.specs.Syntax.{Syntax, syntaxOf}
 use Rattle.checker.specs.Passes.{Passes}
-use Rattle.checker.proofs.Passing.{few-keywords}
 use Rattle.writer.specs.Pool.{spelledBy}
 use Rattle.emitter.specs.Emittable.{termOf, Emittable}
 use Rattle.emitter.specs.declared.Writing.{Writing}
@@ -67,7 +67,7 @@ module _ {bs : List ℕ} (bytes : Bytes bs) (passes : Passes bs) {formula tokens
   lex = syntax .lexicon
 
   abbrev few : length (lex .outsides) ≤ most .outsides
-  few = passes .within .outsideCount
+  few = names-within (passes .within) (passes .meets) .outsideCount
 
   abbrev lexed : Lexed
   lexed = scan lex formula
@@ -97,7 +97,7 @@ module _ {bs : List ℕ} (bytes : Bytes bs) (passes : Passes bs) {formula tokens
         spell = spell;
         tokens = lexed .tokens;
         small = expansion.scanned-is-small lex few formula;
-        formula = scanner.formula-kinds lex few (few-keywords (passes .table) (passes .within)) refl formula;
+        formula = scanner.formula-kinds lex few (few-keywords (passes .within) (passes .meets)) refl formula;
       }
 
   derived : Figure3.Parses (syntax .productions) spell (syntax .root) (lexed .tokens) (termAt (state .made) spell cells′ row)
@@ -116,7 +116,8 @@ module _ {bs : List ℕ} (bytes : Bytes bs) (passes : Passes bs) {formula tokens
   named =
       naming.placed-named spell few (expansion.derived-is-supplied (passes .table) T L derived)
       (λ w a k. ap isWord (stages.words-as-written (passes .table) T formula S w a k) ∙ stages.spelled-at (passes .table) T formula S w a k .is-word)
-      (λ n l. ap isWord (stages.outsides-as-listed (passes .table) T formula S n l) ∙ stages.each-getD (passes .within .outsides) n [] l)
+      (λ n l. ap isWord (stages.outsides-as-listed (passes .table) T formula S n l)
+      ∙ stages.each-getD (names-within (passes .within) (passes .meets) .outsides) n [] l)
       (expansion.derived-is-placed (passes .table) T L derived)
 
   abbrev spelled-is : spelledBy bs formula words′ count ≡ spell

@@ -28,6 +28,7 @@ use Rattle.soundness.specs.Places.{binder-local, Placed, placed-variable, place
 use Rattle.soundness.specs.Places.{placed-nil, placed-cons}
 use Rattle.soundness.specs.Places.{Supplied, supplied-word, supplied-outside}
 use Rattle.soundness.proofs.Normalizing as normalizing
+use Rattle.checker.proofs.PassedNames.{NamesWithin, names-within}
 use Rattle.checker.specs.Syntax.{syntaxOf}
 use Rattle.checker.specs.Passes.{Passes}
 use Rattle.parser.proofs.Joining.{outsides-passed}
@@ -98,17 +99,21 @@ module _ {tokens : List Token} {outside-count : ℕ} {given : List Given} (spell
 -- ------------------------------------------------------------------ a passed table
 
 module _ (bs : List ℕ) (bytes : Bytes bs) (passes : Passes bs) where
+  -- the names of the table
+  names : NamesWithin (passes .written) (passes .table)
+  names = names-within (passes .within) (passes .meets)
+
   -- An outside name fits the room of a spelling.
   pub outsides-fit : (number : ℕ) → length (oneOf (lexiconOf bs .outsides) number) < spellingRoom
   outsides-fit number =
-      rw (outsides-passed bytes passes) (short-words (passes .table .outsides) (λ i l. each-at (passes .within .outsides) i [] l) number)
+      rw (outsides-passed bytes passes) (short-words (passes .table .outsides) (λ i l. each-at (names .outsides) i [] l) number)
 
   module _ (formula words : List ℕ) {many count : ℕ} (answered : scan (syntaxOf (passes .table) .lexicon) formula .answer ≡ Tokens many count)
       (words-are : wordsIn formula words count ≡ scan (syntaxOf (passes .table) .lexicon) formula .words) where
     words-list : Words formula words count (scan (syntaxOf (passes .table) .lexicon) formula .words)
     words-list =
         record {
-          many = sym (tokens-counted (syntaxOf (passes .table) .lexicon) (passes .within .outsideCount) formula answered .1);
+          many = sym (tokens-counted (syntaxOf (passes .table) .lexicon) (names .outsideCount) formula answered .1);
           each =
               λ i l.
               let z : 0 + i ≡ i = omega arith in
@@ -127,7 +132,7 @@ module _ (bs : List ℕ) (bytes : Bytes bs) (passes : Passes bs) where
     -- So has a word of the formula.
     pub words-fit : (index : ℕ) → index < count → length (spanned formula words index) < spellingRoom
     words-fit index l =
-        let plain = scan-plain (syntaxOf (passes .table) .lexicon) (passes .within .outsideCount) formula in
+        let plain = scan-plain (syntaxOf (passes .table) .lexicon) (names .outsideCount) formula in
         let at = words-list .each index l in
         omega (
           arith,
@@ -138,7 +143,7 @@ module _ (bs : List ℕ) (bytes : Bytes bs) (passes : Passes bs) where
     -- Different numbers stand for different spellings.
     pub distinct : Distinct (spelledBy bs formula words count)
     distinct =
-        let plain = scan-plain (syntaxOf (passes .table) .lexicon) (passes .within .outsideCount) formula in
+        let plain = scan-plain (syntaxOf (passes .table) .lexicon) (names .outsideCount) formula in
         rw spelled-by
         (apart-lists (syntaxOf (passes .table) .lexicon) (scan (syntaxOf (passes .table) .lexicon) formula .words)
-        (different-once (passes .within .outsidesDiffer)) (plain .once) (plain .no-outside))
+        (different-once (names .outsidesDiffer)) (plain .once) (plain .no-outside))

@@ -5,24 +5,27 @@ use mathlib.Core.List.{List, [], _∷_, _++_, append-nil, append-assoc}
 use native.Mathlib.Omega.{arith}
 use native.Mathlib.Nat.{add-zero}
 use Rattle.grammar.specs.Table.{Definition}
+use Rattle.grammar.specs.Written.{WrittenDefinition}
 use Rattle.judgements.specs.Sizes.{definitionsSize}
 use Rattle.judgements.specs.Scopes.{Env, Before, Scope}
 use Rattle.judgements.specs.CheckSorts.{collect, checkBodies, checkBlocks, blocksSize}
-use Rattle.judgements.specs.Judgements.{scope, Sequence, no-grammar, by-grammar}
+use Rattle.judgements.specs.Judgements.{scope}
+use Rattle.judgements.specs.Elaboration.{Sequence, no-grammar, by-grammar}
 use Rattle.judgements.proofs.Accepting.{passes}
 use Rattle.judgements.proofs.BodySorts.{rule-ok}
 use Rattle.judgements.proofs.SequenceSorts.{behindBlock, rule-collect}
 
-module _ (keywords outsides : ℕ) (behind : List (List Definition)) where
-  -- Behind blocks that are derived the check goes on with what they give and with these blocks, at the place behind them.
-  pub carried : (P : Before) (at : ℕ) {before : List (List Definition)} {E : Env} → Sequence keywords outsides (P .env) before E
+module _ (keywords outsides : ℕ) (behind : List (List WrittenDefinition)) where
+  -- Behind blocks that are derived the check goes on with what they give and with what they are elaborated to, at the place behind them.
+  pub carried : (P : Before) (at : ℕ) {before : List (List WrittenDefinition)} {made : List (List Definition)} {E : Env}
+      → Sequence keywords outsides (P .env) before E made
       → checkBlocks keywords outsides P at (before ++ behind)
-      ≡ checkBlocks keywords outsides (record { env = E; blocks = P .blocks ++ before }) (at + blocksSize before) behind
+      ≡ checkBlocks keywords outsides (record { env = E; blocks = P .blocks ++ made }) (at + blocksSize before) behind
   unfolding checkBlocks blocksSize
   carried P at no-grammar = rw (append-nil (P .blocks), add-zero at) refl
-  carried P at (by-grammar {own = own} {g = g} {gs = gs} d o s) =
+  carried P at (by-grammar {own = own} {g = g} {h = block} {gs = gs} {hs = hs} d o s) =
       let G : Scope = scope keywords outsides (own ++ P .env) in
       let heads : collect (P .env) [] (at + 3) g ≡ _ = passes (collect (P .env) [] (at + 3) g) (rule-collect (P .env) _ (at + 3) d refl) in
       let bodies : checkBodies G [] (at + 3) g ≡ _ = passes (checkBodies G [] (at + 3) g) (rule-ok G _ [] (at + 3) o refl) in
       let place : at + 3 + definitionsSize g + blocksSize gs ≡ at + (3 + definitionsSize g + blocksSize gs) = omega arith in
-      rw (heads, bodies) (carried (behindBlock P own g) (at + 3 + definitionsSize g) s ∙ rw (append-assoc (P .blocks) (g ∷ []) gs, place) refl)
+      rw (heads, bodies) (carried (behindBlock P own block) (at + 3 + definitionsSize g) s ∙ rw (append-assoc (P .blocks) (block ∷ []) hs, place) refl)

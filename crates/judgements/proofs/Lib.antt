@@ -6,4 +6,5 @@ pub mod SequenceSorts
 pub mod SizeLaws
 pub mod BlocksBefore
 pub mod RefusalNumbers
+pub mod Elaborated
 pub mod SortTheorems

@@ -9,7 +9,8 @@ use Rattle.answers.specs.declared.Refusal.{Refusal}
 use Rattle.answers.specs.Checked.{Checked, ok, bad, _>>=_, _>>_, need}
 use Rattle.grammar.specs.Sorts.{Signature, unit, term}
 use Rattle.grammar.specs.SortTests.{fits}
-use Rattle.grammar.specs.Table.{Template, keyword, ide, number, Item, terminal, local, call, Alternative, Mode, add, extend, update, Definition, Table}
+use Rattle.grammar.specs.Table.{keyword, ide, number, Item, terminal, local, call, Alternative, Mode, add, extend, update, Definition}
+use Rattle.grammar.specs.Written.{WrittenResult, template, WrittenAlternative, WrittenDefinition, Written}
 use Rattle.grammar.specs.Values.{itemValue}
 use Rattle.judgements.specs.Sizes.{fieldSize, alternativeSize, definitionSize, definitionsSize}
 use Rattle.judgements.specs.CheckSorts.{isDefined, signatureOf, isUnused, isAsBefore, isClosed, areClosed, isSorted, sortOf, fill}
@@ -60,12 +61,12 @@ needs-sort first second at = after (need first 9 at) (need second 11 at) (need-9
 
 -- ------------------------------------------------------------------ the parts of the check
 
-consistent-sort : (mode : Mode) (E own : Env) (definition : Definition) (at : ℕ) → Sort (consistent mode E own definition at)
+consistent-sort : (mode : Mode) (E own : Env) (definition : WrittenDefinition) (at : ℕ) → Sort (consistent mode E own definition at)
 consistent-sort add E own definition at = need-7 (isUnused E own definition) at
 consistent-sort extend E own definition at = need-8 (isAsBefore E own definition) at
 consistent-sort update E own definition at = need-8 (isAsBefore E own definition) at
 
-collect-sort : (E own : Env) (at : ℕ) (ds : List Definition) → Sort (collect E own at ds)
+collect-sort : (E own : Env) (at : ℕ) (ds : List WrittenDefinition) → Sort (collect E own at ds)
 unfolding collect
 collect-sort E own at [] = none
 collect-sort E own at (d ∷ ds) =
@@ -86,11 +87,10 @@ module _ (scope : Scope) where
   items-sort L at [] = none
   items-sort L at (i ∷ is) = bind _ _ (item-sort L at i) (λ s. items-sort (L ++ (s ∷ [])) (at + fieldSize (itemValue i)) is)
 
-  result-sort : (L : List ℕ) (B at : ℕ) (template : Template) → Sort (checkResult scope L B at template)
-  result-sort L B at template =
-      after _ (ok template) (needs-sort (isClosed template scope (length L)) (isSorted template L && fits (sortOf template L) B) at) none
+  result-sort : (L : List ℕ) (B at : ℕ) (result : WrittenResult) → Sort (checkResult scope L B at result)
+  result-sort L B at (template t) = after _ (ok t) (needs-sort (isClosed t scope (length L)) (isSorted t L && fits (sortOf t L) B) at) none
 
-  alternatives-sort : (S : Signature) (done : List Alternative) (at : ℕ) (choices : List Alternative) → Sort (checkAlternatives scope S done at choices)
+  alternatives-sort : (S : Signature) (done : List Alternative) (at : ℕ) (choices : List WrittenAlternative) → Sort (checkAlternatives scope S done at choices)
   unfolding checkAlternatives checkAlternative
   alternatives-sort S done at [] = none
   alternatives-sort S done at (a ∷ rest) =
@@ -98,13 +98,13 @@ module _ (scope : Scope) where
       (bind _ _ (items-sort (S .params) _ (a .items)) (λ L. bind _ _ (result-sort L (S .result) _ (a .result)) (λ t. none)))
       (λ b. alternatives-sort S (done ++ (b ∷ [])) (at + alternativeSize a) rest)
 
-  bodies-sort : (done : List Definition) (at : ℕ) (ds : List Definition) → Sort (checkBodies scope done at ds)
+  bodies-sort : (done : List Definition) (at : ℕ) (ds : List WrittenDefinition) → Sort (checkBodies scope done at ds)
   unfolding checkBodies
   bodies-sort done at [] = none
   bodies-sort done at (d ∷ ds) =
       bind _ _ (alternatives-sort (d .signature) [] _ (d .alternatives)) (λ choices. bodies-sort _ (at + definitionSize d) ds)
 
-blocks-sort : (keywords outsides : ℕ) (before : Before) (at : ℕ) (gs : List (List Definition)) → Sort (checkBlocks keywords outsides before at gs)
+blocks-sort : (keywords outsides : ℕ) (before : Before) (at : ℕ) (gs : List (List WrittenDefinition)) → Sort (checkBlocks keywords outsides before at gs)
 unfolding checkBlocks
 blocks-sort keywords outsides before at [] = none
 blocks-sort keywords outsides before at (g ∷ gs) =
@@ -117,7 +117,7 @@ root-sort E at root =
     needs-sort (isDefined E root) (eqb (length (signatureOf E root .params)) 0 && eqb (signatureOf E root .result) term) at
 
 -- the check of sorts refuses with 7, 8, 9 or 11 only
-pub table-sort : (table : Table) (refusal : Refusal) → checkSorts table ≡ bad refusal → IsSortRefusal refusal
+pub table-sort : (table : Written) (refusal : Refusal) → checkSorts table ≡ bad refusal → IsSortRefusal refusal
 unfolding checkSorts
 table-sort table refusal e =
     refused (subst Sort e (bind _ _ (blocks-sort _ _ _ _ (table .blocks)) (λ before. after _ _ (root-sort (before .env) _ (table .root)) none)))

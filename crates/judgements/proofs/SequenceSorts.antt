@@ -9,13 +9,14 @@ use lib.ListN.{length}
 use borrow.Author.Tests.{eqb-true, eq-eqb, not-true}
 use Rattle.grammar.specs.Sorts.{Signature, term}
 use Rattle.grammar.specs.Table.{Mode, add, extend, update, Definition, Table}
+use Rattle.grammar.specs.Written.{WrittenDefinition, Written}
 use Rattle.decoding.specs.Within.{Each, each-none, each-more, DefinitionWithin, Within}
 use Rattle.judgements.specs.Sizes.{spellingsSize, definitionSize, definitionsSize}
 use Rattle.judgements.specs.CheckSorts.{isDefined, signatureOf, sameSignature, isAsBefore, isUnused, consistent, collect}
 use Rattle.judgements.specs.Scopes.{Env, Before, Scope, entryOf}
 use Rattle.judgements.specs.CheckSorts.{checkBodies, checkBlocks, blocksSize, checkRoot, checkSorts}
-use Rattle.judgements.specs.Judgements.{Newest, Undeclared, Defines, no-definition, by-add, by-extend, by-update, scope, Sequence, no-grammar}
-use Rattle.judgements.specs.Judgements.{by-grammar, WellSorted}
+use Rattle.judgements.specs.Judgements.{Newest, Undeclared, Defines, no-definition, by-add, by-extend, by-update, scope}
+use Rattle.judgements.specs.Elaboration.{Sequence, no-grammar, by-grammar, Elaborates}
 use Rattle.judgements.proofs.Accepting.{Accepts, need-passed, need-passes, needs-passed, needs-passes, bind-passed, bind-passes}
 use Rattle.judgements.proofs.Accepting.{then-passed, then-passes}
 use Rattle.judgements.proofs.Environments.{defined-newest, newest-defined, newest-signature, undefined-absent, absent-undefined, same-signature}
@@ -27,14 +28,14 @@ use Rattle.judgements.proofs.BodySorts.{ok-rule, rule-ok}
 
 module _ (E : Env) where
   -- add: neither this block nor an earlier one has the number
-  new-rule : (own : Env) (definition : Definition) → isUnused E own definition ≡ true
+  new-rule : (own : Env) (definition : WrittenDefinition) → isUnused E own definition ≡ true
       → Undeclared own (definition .nonterminal) × Undeclared E (definition .nonterminal)
   new-rule own definition h =
       let n : ℕ = definition .nonterminal in
       let b = both (not (isDefined own n)) (not (isDefined E n)) h in
       (undefined-absent own n (not-true (isDefined own n) (b .0)), undefined-absent E n (not-true (isDefined E n) (b .1)))
 
-  rule-new : (own : Env) (definition : Definition) → Undeclared own (definition .nonterminal) → Undeclared E (definition .nonterminal)
+  rule-new : (own : Env) (definition : WrittenDefinition) → Undeclared own (definition .nonterminal) → Undeclared E (definition .nonterminal)
       → isUnused E own definition ≡ true
   rule-new own definition h k =
       let n : ℕ = definition .nonterminal in
@@ -42,7 +43,7 @@ module _ (E : Env) where
 
   -- extend and update: this block does not have the number, an earlier one has it with the same signature
   before-rule :
-      (own : Env) (definition : Definition) → isAsBefore E own definition ≡ true
+      (own : Env) (definition : WrittenDefinition) → isAsBefore E own definition ≡ true
       → Undeclared own (definition .nonterminal) × Newest E (definition .nonterminal) (definition .signature)
   before-rule own definition h =
       let n : ℕ = definition .nonterminal in
@@ -53,7 +54,7 @@ module _ (E : Env) where
       )
 
   rule-before :
-      (own : Env) (definition : Definition) → Undeclared own (definition .nonterminal) → Newest E (definition .nonterminal) (definition .signature)
+      (own : Env) (definition : WrittenDefinition) → Undeclared own (definition .nonterminal) → Newest E (definition .nonterminal) (definition .signature)
       → isAsBefore E own definition ≡ true
   rule-before own definition h k =
       let n : ℕ = definition .nonterminal in
@@ -63,9 +64,9 @@ module _ (E : Env) where
 
   -- a definition passes, and its rule is left to apply
   definition-rule :
-      (P : Unit {0} → Type 0) (mode : Mode) (own : Env) (definition : Definition) (at : ℕ) → definition .mode ≡ mode
+      (P : Unit {0} → Type 0) (mode : Mode) (own : Env) (definition : WrittenDefinition) (at : ℕ) → definition .mode ≡ mode
       → Accepts (consistent mode E own definition at) P
-      → ((ds : List Definition) (own′ : Env) → Defines E (entryOf definition ∷ own) ds own′ → Defines E own (definition ∷ ds) own′) × P tt
+      → ((ds : List WrittenDefinition) (own′ : Env) → Defines E (entryOf definition ∷ own) ds own′ → Defines E own (definition ∷ ds) own′) × P tt
   definition-rule P add own definition at e h =
       let n = need-passed (isUnused E own definition) 7 at P h in
       let r = new-rule own definition (n .0) in
@@ -80,7 +81,7 @@ module _ (E : Env) where
       (λ ds own′ k. by-update e (r .0) (r .1) k, n .1)
 
   collect-rule :
-      (P : Env → Type 0) (own : Env) (at : ℕ) (ds : List Definition) → Accepts (collect E own at ds) P
+      (P : Env → Type 0) (own : Env) (at : ℕ) (ds : List WrittenDefinition) → Accepts (collect E own at ds) P
       → (own′ : Env) × Defines E own ds own′ × P own′
   unfolding collect
   collect-rule P own at [] h = (own, no-definition, h)
@@ -91,13 +92,13 @@ module _ (E : Env) where
 
   -- back to the definition's own mode
   in-mode :
-      (P : Unit {0} → Type 0) {mode : Mode} (own : Env) (definition : Definition) (at : ℕ) → definition .mode ≡ mode
+      (P : Unit {0} → Type 0) {mode : Mode} (own : Env) (definition : WrittenDefinition) (at : ℕ) → definition .mode ≡ mode
       → Accepts (consistent mode E own definition at) P → Accepts (consistent (definition .mode) E own definition at) P
   in-mode P own definition at e h = rw (← e) at h
 
   -- heads that are derived are accepted
   pub rule-collect :
-      (P : Env → Type 0) {own own′ : Env} (at : ℕ) {ds : List Definition} → Defines E own ds own′ → P own′
+      (P : Env → Type 0) {own own′ : Env} (at : ℕ) {ds : List WrittenDefinition} → Defines E own ds own′ → P own′
       → Accepts (collect E own at ds) P
   unfolding collect
   rule-collect P at no-definition p = p
@@ -130,31 +131,31 @@ module _ (keywords outsides : ℕ) (P : Before → Type 0) where
   Behind blocks E = P (record { env = E; blocks = blocks })
 
   sequence-rule :
-      (before : Before) (at : ℕ) (gs : List (List Definition)) → Each (Each DefinitionWithin) gs
+      (before : Before) (at : ℕ) (gs : List (List WrittenDefinition)) → Each (Each DefinitionWithin) gs
       → Accepts (checkBlocks keywords outsides before at gs) P
-      → (E : Env) × Sequence keywords outsides (before .env) gs E × Behind (before .blocks ++ gs) E
+      → (E : Env) × (hs : List (List Definition)) × Sequence keywords outsides (before .env) gs E hs × Behind (before .blocks ++ hs) E
   unfolding checkBlocks
-  sequence-rule before at [] each-none h = (before .env, no-grammar, rw (append-nil (before .blocks)) h)
+  sequence-rule before at [] each-none h = (before .env, [], no-grammar, rw (append-nil (before .blocks)) h)
   sequence-rule before at (g ∷ gs) (each-more w ws) h =
-      let c = collect-rule (before .env) _ [] (at + 3) g (bind-passed P (collect (before .env) [] (at + 3) g) _ h) in
-      let G : Scope = scope keywords outsides (c .0 ++ before .env) in
-      let o = ok-rule G _ [] (at + 3) g w (bind-passed P (checkBodies G [] (at + 3) g) _ (c .2)) in
-      let s = sequence-rule (behindBlock before (c .0) g) (at + 3 + definitionsSize g) gs ws (o .1) in
-      (s .0, by-grammar (c .1) (o .0) (s .1), subst (λ blocks. Behind blocks (s .0)) (append-assoc (before .blocks) (g ∷ []) gs) (s .2))
+      let (own, d, p) = collect-rule (before .env) _ [] (at + 3) g (bind-passed P (collect (before .env) [] (at + 3) g) _ h) in
+      let G : Scope = scope keywords outsides (own ++ before .env) in
+      let (block, o, q) = ok-rule G _ [] (at + 3) g w (bind-passed P (checkBodies G [] (at + 3) g) _ p) in
+      let (E, hs, s, r) = sequence-rule (behindBlock before own block) (at + 3 + definitionsSize g) gs ws q in
+      (E, block ∷ hs, by-grammar d o s, subst (λ blocks. Behind blocks E) (append-assoc (before .blocks) (block ∷ []) hs) r)
 
   rule-sequence :
-      {E : Env} (before : Before) (at : ℕ) {gs : List (List Definition)} → Sequence keywords outsides (before .env) gs E → Behind (before .blocks ++ gs) E
-      → Accepts (checkBlocks keywords outsides before at gs) P
+      {E : Env} (before : Before) (at : ℕ) {gs : List (List WrittenDefinition)} {hs : List (List Definition)}
+      → Sequence keywords outsides (before .env) gs E hs → Behind (before .blocks ++ hs) E → Accepts (checkBlocks keywords outsides before at gs) P
   unfolding checkBlocks
   rule-sequence before at no-grammar p = subst (λ blocks. Behind blocks (before .env)) (append-nil (before .blocks)) p
-  rule-sequence {E} before at (by-grammar {own = own} {g = g} {gs = gs} d o s) p =
+  rule-sequence {E} before at (by-grammar {own = own} {g = g} {h = block} {hs = hs} d o s) p =
       let G : Scope = scope keywords outsides (own ++ before .env) in
       bind-passes P (collect (before .env) [] (at + 3) g) _
       (rule-collect (before .env) _ (at + 3) d
       (bind-passes P (checkBodies G [] (at + 3) g) _
       (rule-ok G _ [] (at + 3) o
-      (rule-sequence (behindBlock before own g) (at + 3 + definitionsSize g) s
-      (subst⁻¹ (λ blocks. Behind blocks E) (append-assoc (before .blocks) (g ∷ []) gs) p)))))
+      (rule-sequence (behindBlock before own block) (at + 3 + definitionsSize g) s
+      (subst⁻¹ (λ blocks. Behind blocks E) (append-assoc (before .blocks) (block ∷ []) hs) p)))))
 
 -- ------------------------------------------------------------------ the root
 
@@ -201,21 +202,25 @@ rule-root P E at root r p =
 
 -- ------------------------------------------------------------------ the whole table
 
-module _ (P : Table → Type 0) (table : Table) where
+module _ (P : Table → Type 0) (table : Written) where
   -- the root is checked behind the blocks
   abbrev root-place : ℕ
   root-place = spellingsSize (table .keywords) + spellingsSize (table .outsides) + blocksSize (table .blocks)
 
-  -- a table that the check accepts is well sorted, and answered as it is
-  pub table-rule : Within table → Accepts (checkSorts table) P → WellSorted table × P table
+  -- a table that the check accepts is elaborated, to the check's value
+  pub table-rule : Within table → Accepts (checkSorts table) P → (made : Table) × Elaborates table made × P made
   unfolding checkSorts
   table-rule w h =
-      let s = sequence-rule (length (table .keywords)) (length (table .outsides)) _ atFirst _ (table .blocks) (w .blocks)
+      let (E, hs, s, q) = sequence-rule (length (table .keywords)) (length (table .outsides)) _ atFirst _ (table .blocks) (w .blocks)
       (bind-passed P (checkBlocks _ _ atFirst _ (table .blocks)) _ h) in
-      let (r, p) = root-rule _ (s .0) root-place (table .root) (then-passed P (checkRoot (s .0) root-place (table .root)) _ (s .2)) in (
+      let (r, p) = root-rule _ E root-place (table .root) (then-passed P (checkRoot E root-place (table .root)) _ q) in (
+        record { keywords = table .keywords; outsides = table .outsides; blocks = hs; root = table .root },
         record {
-          env = s .0;
-          sequence = s .1;
+          env = E;
+          sequence = s;
+          same-keywords = refl;
+          same-outsides = refl;
+          same-root = refl;
           signature = r .signature;
           defined = r .defined;
           without = r .without;
@@ -224,13 +229,15 @@ module _ (P : Table → Type 0) (table : Table) where
         p,
       )
 
-  -- a table that is well sorted is accepted
-  pub rule-table : WellSorted table → P table → Accepts (checkSorts table) P
+  -- a table that is elaborated is accepted
+  pub rule-table : {made : Table} → Elaborates table made → P made → Accepts (checkSorts table) P
   unfolding checkSorts
-  rule-table w p =
+  rule-table {made} e p =
+      let whole : made ≡ record { keywords = table .keywords; outsides = table .outsides; blocks = made .blocks; root = table .root }
+      = rw (← (e .same-keywords), ← (e .same-outsides), ← (e .same-root)) refl in
       bind-passes P (checkBlocks (length (table .keywords)) (length (table .outsides)) atFirst _ (table .blocks)) _
-      (rule-sequence _ _ _ atFirst _ (w .sequence)
-      (then-passes P (checkRoot (w .env) root-place (table .root)) _
-      (rule-root _ (w .env) root-place (table .root)
-      (record { signature = w .signature; defined = w .defined; without = w .without; of-term = w .of-term })
-      p)))
+      (rule-sequence _ _ _ atFirst _ (e .sequence)
+      (then-passes P (checkRoot (e .env) root-place (table .root)) _
+      (rule-root _ (e .env) root-place (table .root)
+      (record { signature = e .signature; defined = rw (e .same-root) at (e .defined); without = e .without; of-term = e .of-term })
+      (subst P whole p))))

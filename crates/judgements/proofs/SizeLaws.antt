@@ -4,8 +4,9 @@ use mathlib.Core.Path.{_≡_, refl}
 use mathlib.Core.List.{List, [], _∷_}
 use native.Mathlib.Omega.{arith}
 use lib.ListN.{length, length-append}
-use Rattle.grammar.specs.Table.{Item, Alternative, Definition}
-use Rattle.grammar.specs.Values.{Field, field, itemValue, headValue, templateThen}
+use Rattle.grammar.specs.Table.{Item}
+use Rattle.grammar.specs.Values.{Field, field, itemValue, headValue}
+use Rattle.grammar.specs.Written.{WrittenAlternative, WrittenDefinition, resultField}
 use Rattle.grammar.specs.Encode.{fieldBytes, spellingsThen, itemsThen, alternativesThen, definitionsThen, blocksThen}
 use Rattle.judgements.specs.Sizes.{spellingsSize, itemsSize, alternativeSize, alternativesSize, definitionSize, definitionsSize}
 use Rattle.judgements.specs.CheckSorts.{blocksSize}
@@ -38,12 +39,12 @@ module _ (follow : List Field) where
   items-bytes (i ∷ is) = omega (arith, one-field (field 6 (itemValue i)) (itemsThen is follow), items-bytes is)
 
 -- those of alternatives
-pub alternatives-bytes : (follow : List Field) (choices : List Alternative)
+pub alternatives-bytes : (follow : List Field) (choices : List WrittenAlternative)
     → bytesOf (alternativesThen choices follow) ≡ alternativesSize choices + bytesOf follow
 unfolding alternativesThen alternativesSize alternativeSize
 alternatives-bytes follow [] = omega arith
 alternatives-bytes follow (a ∷ rest) =
-    let last : Field = field 7 (templateThen (a .result) []) in
+    let last : Field = resultField (a .result) in
     omega (
       arith,
       one-field (field 5 []) (itemsThen (a .items) (last ∷ alternativesThen rest follow)),
@@ -53,7 +54,7 @@ alternatives-bytes follow (a ∷ rest) =
     )
 
 -- those of definitions
-pub definitions-bytes : (follow : List Field) (ds : List Definition) → bytesOf (definitionsThen ds follow) ≡ definitionsSize ds + bytesOf follow
+pub definitions-bytes : (follow : List Field) (ds : List WrittenDefinition) → bytesOf (definitionsThen ds follow) ≡ definitionsSize ds + bytesOf follow
 unfolding definitionsThen definitionsSize definitionSize
 definitions-bytes follow [] = omega arith
 definitions-bytes follow (d ∷ ds) =
@@ -65,14 +66,14 @@ definitions-bytes follow (d ∷ ds) =
     )
 
 -- those of blocks
-blocks-bytes : (follow : List Field) (bs : List (List Definition)) → bytesOf (blocksThen bs follow) ≡ blocksSize bs + bytesOf follow
+blocks-bytes : (follow : List Field) (bs : List (List WrittenDefinition)) → bytesOf (blocksThen bs follow) ≡ blocksSize bs + bytesOf follow
 unfolding blocksThen blocksSize
 blocks-bytes follow [] = omega arith
 blocks-bytes follow (b ∷ bs) =
     omega (arith, one-field (field 3 []) (definitionsThen b (blocksThen bs follow)), definitions-bytes (blocksThen bs follow) b, blocks-bytes follow bs)
 
 -- Behind the keywords, the outside names and some blocks of a table other fields stand at the place that the check counts.
-pub front-size : (ks os : List (List ℕ)) (bs : List (List Definition)) (follow : List Field)
+pub front-size : (ks os : List (List ℕ)) (bs : List (List WrittenDefinition)) (follow : List Field)
     → bytesOf (spellingsThen 1 ks (spellingsThen 2 os (blocksThen bs follow))) ≡ spellingsSize ks + spellingsSize os + blocksSize bs + bytesOf follow
 front-size ks os bs follow =
     omega (

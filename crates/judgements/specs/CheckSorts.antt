@@ -11,6 +11,7 @@ use Rattle.grammar.specs.Sorts.{Signature, gives, unit, var, binder, label, ter
 use Rattle.grammar.specs.SortTests.{fits}
 use Rattle.grammar.specs.Table.{Template, Templates, variable, outsideVar, outsideLabel, make, none, more, keyword, ide, number, Item, terminal, local, call}
 use Rattle.grammar.specs.Table.{Alternative, Mode, add, extend, update, DefinitionOf, Definition, Table}
+use Rattle.grammar.specs.Written.{WrittenResult, template, WrittenAlternative, WrittenDefinition, Written, withAlternatives}
 use Rattle.grammar.specs.Values.{itemValue, headValue}
 use Rattle.judgements.specs.Sizes.{fieldSize, spellingsSize, itemsSize, alternativeSize, definitionSize, definitionsSize}
 use Rattle.judgements.specs.Scopes.{Env, Before, Scope, entryOf}
@@ -48,7 +49,7 @@ consistent extend E own d at = need (isAsBefore E own d) 8 at
 consistent update E own d at = need (isAsBefore E own d) 8 at
 
 -- the signatures of a block
-unfoldable pub collect : Env → Env → ℕ → List Definition → Checked Env
+unfoldable pub collect : Env → Env → ℕ → List WrittenDefinition → Checked Env
 collect E own at [] = ok own
 collect E own at (d ∷ ds) = consistent (d .mode) E own d at >> collect E (entryOf d ∷ own) (at + definitionSize d) ds
 
@@ -103,38 +104,36 @@ unfoldable pub checkItems : Scope → List ℕ → ℕ → List Item → Checked
 checkItems G L at [] = ok L
 checkItems G L at (i ∷ is) = checkItem G L at i >>= λ s. checkItems G (L ++ (s ∷ [])) (at + fieldSize (itemValue i)) is
 
--- a template where the sort B is asked; a check answers what it checked, `done` has what it checked before
-abbrev pub checkResult : Scope → List ℕ → ℕ → ℕ → Template → Checked Template
-checkResult G L B at t = need (isClosed t G (length L)) 9 at >> need (isSorted t L && fits (sortOf t L) B) 11 at >> ok t
+-- a result where the sort B is asked; a check answers what it checked with a template for each result, `done` has what it checked before
+abbrev pub checkResult : Scope → List ℕ → ℕ → ℕ → WrittenResult → Checked Template
+checkResult G L B at (template t) = need (isClosed t G (length L)) 9 at >> need (isSorted t L && fits (sortOf t L) B) 11 at >> ok t
 
-unfoldable pub checkAlternative : Scope → Signature → ℕ → Alternative → Checked Alternative
+unfoldable pub checkAlternative : Scope → Signature → ℕ → WrittenAlternative → Checked Alternative
 checkAlternative G S at a =
     checkItems G (S .params) (at + 3) (a .items)
     >>= λ L. checkResult G L (S .result) (at + 3 + itemsSize (a .items)) (a .result) >>= λ t. ok (record { items = a .items; result = t })
 
-unfoldable pub checkAlternatives : Scope → Signature → List Alternative → ℕ → List Alternative → Checked (List Alternative)
+unfoldable pub checkAlternatives : Scope → Signature → List Alternative → ℕ → List WrittenAlternative → Checked (List Alternative)
 checkAlternatives G S done at [] = ok done
 checkAlternatives G S done at (a ∷ rest) = checkAlternative G S at a >>= λ b. checkAlternatives G S (done ++ (b ∷ [])) (at + alternativeSize a) rest
 
 -- ------------------------------------------------------------------ E ⊢ g ok, and ⊢ gseq ⇒ E
 
-unfoldable pub checkBodies : Scope → List Definition → ℕ → List Definition → Checked (List Definition)
+unfoldable pub checkBodies : Scope → List Definition → ℕ → List WrittenDefinition → Checked (List Definition)
 checkBodies G done at [] = ok done
 checkBodies G done at (d ∷ ds) =
     checkAlternatives G (d .signature) [] (at + fieldSize (headValue d)) (d .alternatives)
-    >>= λ choices.
-    let e : Definition = record { nonterminal = d .nonterminal; mode = d .mode; signature = d .signature; alternatives = choices } in
-    checkBodies G (done ++ (e ∷ [])) (at + definitionSize d) ds
+    >>= λ choices. checkBodies G (done ++ (withAlternatives d choices ∷ [])) (at + definitionSize d) ds
 
 -- what stands behind the blocks; K and N are the counts of keywords and outside names
-unfoldable pub checkBlocks : ℕ → ℕ → Before → ℕ → List (List Definition) → Checked Before
+unfoldable pub checkBlocks : ℕ → ℕ → Before → ℕ → List (List WrittenDefinition) → Checked Before
 checkBlocks K N P at [] = ok P
 checkBlocks K N P at (b ∷ bs) =
     collect (P .env) [] (at + 3) b
     >>= λ own. checkBodies (record { keywords = K; outsides = N; env = own ++ P .env }) [] (at + 3) b
     >>= λ ds. checkBlocks K N (record { env = own ++ P .env; blocks = P .blocks ++ (ds ∷ []) }) (at + 3 + definitionsSize b) bs
 
-unfoldable pub blocksSize : List (List Definition) → ℕ
+unfoldable pub blocksSize : List (List WrittenDefinition) → ℕ
 blocksSize [] = 0
 blocksSize (b ∷ bs) = 3 + definitionsSize b + blocksSize bs
 
@@ -144,7 +143,7 @@ checkRoot E at n =
     need (isDefined E n) 9 at >> need (eqb (length (signatureOf E n .params)) 0 && eqb (signatureOf E n .result) term) 11 at
 
 -- the whole table
-unfoldable pub checkSorts : Table → Checked Table
+unfoldable pub checkSorts : Written → Checked Table
 checkSorts t =
     let first : ℕ = spellingsSize (t .keywords) + spellingsSize (t .outsides) in
     checkBlocks (length (t .keywords)) (length (t .outsides)) (record { env = []; blocks = [] }) first (t .blocks)

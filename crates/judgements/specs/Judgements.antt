@@ -4,16 +4,15 @@
 --
 -- The paper has one judgement E; L ⊢ p : B over all productions p. A table cannot write `unit`, p1 p2 that binds nothing, a choice but between
 -- the alternatives of a definition, nor an argument that reads a token or calls; so p is a template (`Sorted`), an item (`ItemSorted`), items
--- in sequence with a template behind them (`Body`), or a choice of these (`Bodies`).
+-- in sequence with a template behind them (`Body`); a choice of these, grammars and sequences are in Elaboration.
 -- Document 01 changes: a Binder may stand where Var is asked (`Fits`); a number is read; an outside name may be a Label; keywords and outside
 -- names must be defined (cause 9); add needs a number that no earlier grammar uses.
 use Prim.Native.Nat.{ℕ, suc, _≤_, _<_}
 use mathlib.Core.Path.{_≡_}
 use mathlib.Core.List.{List, [], _∷_, _++_}
-use lib.ListN.{length}
-use Rattle.grammar.specs.Sorts.{Signature, unit, var, binder, label, term, num, constructor}
+use Rattle.grammar.specs.Sorts.{Signature, unit, var, binder, label, num, constructor}
 use Rattle.grammar.specs.Table.{Template, Templates, variable, outsideVar, outsideLabel, make, none, more, keyword, ide, number, Item, terminal, local, call}
-use Rattle.grammar.specs.Table.{Alternative, add, extend, update, DefinitionOf, Definition, Table}
+use Rattle.grammar.specs.Table.{add, extend, update, DefinitionOf}
 use Rattle.judgements.specs.Scopes.{Declaration, Env, entryOf, Scope}
 
 -- ------------------------------------------------------------------ environments
@@ -89,6 +88,11 @@ pub data ItemSorted (G : Scope) (L : List ℕ) : Item → ℕ → Type 0 where
       → Fill (G .outsides) L ts (S .params)
       → ItemSorted G L (call n ts) (S .result)
 
+-- the sorts of the variables after some items of an alternative
+pub data Numbered (G : Scope) : List ℕ → List Item → List ℕ → Type 0 where
+  no-item : {L : List ℕ} → Numbered G L [] L
+  one-more : {L L′ : List ℕ} {i : Item} {is : List Item} {A : ℕ} → ItemSorted G L i A → Numbered G (L ++ (A ∷ [])) is L′ → Numbered G L (i ∷ is) L′
+
 -- an alternative is x1 = p1 .. xk = pk, then a template: sequential composition with bindings
 pub data Body (G : Scope) : List ℕ → List Item → Template → ℕ → Type 0 where
   by-result : {L : List ℕ} {t : Template} {A B : ℕ}
@@ -99,14 +103,6 @@ pub data Body (G : Scope) : List ℕ → List Item → Template → ℕ → Type
       → ItemSorted G L i A
       → Body G (L ++ (A ∷ [])) is t B
       → Body G L (i ∷ is) t B
-
--- p1 | p2: each alternative has the sort, under the parameters
-pub data Bodies (G : Scope) (S : Signature) : List Alternative → Type 0 where
-  no-alternative : Bodies G S []
-  by-choice : {a : Alternative} {rest : List Alternative}
-      → Body G (S .params) (a .items) (a .result) (S .result)
-      → Bodies G S rest
-      → Bodies G S (a ∷ rest)
 
 -- E ⊢ g :: E': the signatures of g's definitions from the left, after those in `own`, whatever their results are; 01: add needs a number that E lacks too
 pub data Defines {R : Type 0} (E : Env) : Env → List (DefinitionOf R) → Env → Type 0 where
@@ -130,35 +126,5 @@ pub data Defines {R : Type 0} (E : Env) : Env → List (DefinitionOf R) → Env 
       → Defines E (entryOf d ∷ own) ds own′
       → Defines E own (d ∷ ds) own′
 
--- E ⊢ g ok: each body has the sort of its definition
-pub data Ok (G : Scope) : List Definition → Type 0 where
-  ok-empty : Ok G []
-  ok-definition : {d : Definition} {ds : List Definition}
-      → Bodies G (d .signature) (d .alternatives)
-      → Ok G ds
-      → Ok G (d ∷ ds)
-
 abbrev pub scope : ℕ → ℕ → Env → Scope
 scope K N E = record { keywords = K; outsides = N; env = E }
-
--- ⊢ gseq ⇒ E: from E on, the grammars of the sequence give E'; K keywords and N outside names are defined
-pub data Sequence (K N : ℕ) : Env → List (List Definition) → Env → Type 0 where
-  no-grammar : {E : Env} → Sequence K N E [] E
-  by-grammar : {E own E′ : Env} {g : List Definition} {gs : List (List Definition)}
-      → Defines E [] g own
-      → Ok (scope K N (own ++ E)) g
-      → Sequence K N (own ++ E) gs E′
-      → Sequence K N E (g ∷ gs) E′
-
--- a table's sequence is derivable, and its root is defined, without parameters, of sort Term
-pub record WellSorted (t : Table) : Type 0 where
-  pub env : Env
-  pub sequence : Sequence (length (t .keywords)) (length (t .outsides)) [] (t .blocks) env
-  pub signature : Signature
-  pub defined : Newest env (t .root) signature
-  pub without : signature .params ≡ []
-  pub of-term : signature .result ≡ term
-
--- the scope in which its bodies are sorted: its keywords, its outside names and its last environment
-abbrev pub scopeOf : (t : Table) → WellSorted t → Scope
-scopeOf t w = scope (length (t .keywords)) (length (t .outsides)) (w .env)

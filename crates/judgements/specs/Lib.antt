@@ -2,3 +2,4 @@ pub mod Scopes
 pub mod Sizes
 pub mod CheckSorts
 pub mod Judgements
+pub mod Elaboration

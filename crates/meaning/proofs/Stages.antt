@@ -27,10 +27,11 @@ use Rattle.tokens.specs.Tiling.{bytesOf}
 use Rattle.tokens.specs.Unscanned.{Unscans}
 use Rattle.tokens.proofs.SpellingLaws.{Spelled, Every, scan-spelled, spelled-number}
 use Rattle.tokens.proofs.ScannerTheorems as scanner
+use Rattle.checker.proofs.PassedNames.{names-within, few-keywords}
 use Rattle.checker.specs.Syntax.{Syntax, syntaxOf}
 use Rattle.checker.specs.Check.{passedTable, check}
 use Rattle.checker.specs.Passes.{grammarOf, Passes}
-use Rattle.checker.proofs.Passing.{passed-table, few-keywords}
+use Rattle.checker.proofs.Passing.{passed-table}
 use Rattle.expansion.specs.declared.State.{State}
 use Rattle.expansion.specs.Run.{Result, done, halt}
 use Rattle.expansion.specs.Expansion.{inputOf, run}
@@ -125,7 +126,7 @@ module _ (table : Table) (passing : Passing table) (formula : List ℕ) where
   lex = syntax .lexicon
 
   few : length (table .outsides) ≤ 64
-  few = passing .within .outsideCount
+  few = names-within (passing .within) (passing .meets) .outsideCount
 
   abbrev Lexing : List Token → List (List ℕ) → Lexed
   Lexing ts ws = record { answer = Tokens (length ts) (length ws); tokens = ts; words = ws }
@@ -170,7 +171,7 @@ module _ (table : Table) (passing : Passing table) (formula : List ℕ) where
           spell = spellOf syntax ws;
           tokens = ts;
           small = rw (scanned-as scans) at (expansion.scanned-is-small lex few formula);
-          formula = rw (scanned-as scans) at (scanner.formula-kinds lex few (few-keywords table (passing .within)) refl formula);
+          formula = rw (scanned-as scans) at (scanner.formula-kinds lex few (few-keywords (passing .within) (passing .meets)) refl formula);
         }
 
     -- A word's number is that of its spelling.
@@ -198,7 +199,7 @@ module _ (table : Table) (passing : Passing table) (formula : List ℕ) where
     unfolding lexemes
     worded P =
         expansion.derived-is-worded table passing lexemes (λ w a k. ap isWord (words-as-written w a k) ∙ spelled-at w a k .is-word)
-        (λ n l. ap isWord (outsides-as-listed n l) ∙ each-getD (passing .within .outsides) n [] l) P
+        (λ n l. ap isWord (outsides-as-listed n l) ∙ each-getD (names-within (passing .within) (passing .meets) .outsides) n [] l) P
 
   -- A formula has one term at most.
   pub means-one : {core-term other : Term Name} → Means syntax formula core-term → Means syntax formula other → core-term ≡ other

@@ -1,9 +1,9 @@
 -- What the promises of check, scan and run come to, joined.
-use Prim.Native.Nat.{ℕ, _*_, _≤_}
+use Prim.Native.Nat.{ℕ, _*_, _-_, _≤_}
 use mathlib.Core.Path.{_≡_, refl, sym, ap, _∙_}
 use mathlib.Core.List.{List, []}
 use native.Mathlib.Omega.{arith}
-use lib.ListN.{length, take}
+use lib.ListN.{length, getD, take}
 use Rattle.grammar.specs.Limits.{most}
 use Rattle.answers.specs.declared.Refusal.{Refusal}
 use Rattle.answers.specs.declared.Verdict.{Verdict}
@@ -28,6 +28,7 @@ use Rattle.checker.specs.Syntax.{Syntax, syntaxOf}
 use Rattle.checker.specs.CheckedInto.{CheckedInto}
 use Rattle.checker.specs.Passes.{Passes}
 use Rattle.checker.proofs.TableTheorems.{check-exactly}
+use Rattle.checker.proofs.PassedNames.{names-within}
 use Rattle.checker.proofs.Joined.{passed-grammar, passed-holds, passed-places}
 use Rattle.expansion.specs.declared.Outcome.{Outcome}
 use Rattle.expansion.specs.Outcomes.{ran}
@@ -46,8 +47,8 @@ module _ {bs : List ℕ} (bytes : Bytes bs) where
   -- the productions of a table that passes go on where they begin
   begun : (P : Passes bs) → Each (λ (p : Place). GoesOn (source bs) (p .start)) (placesOf bs)
   begun P =
-      let decoded = decode-exactly bs bytes (P .table) .1 (P .encoded, P .within) in
-      complete-places bs (decoded-layout bs (P .table) decoded .0) (passed-places bytes P)
+      let decoded = decode-exactly bs bytes (P .written) .1 (P .encoded, P .within) in
+      complete-places bs (decoded-layout bs (P .written) decoded .0) (passed-places bytes P)
 
   -- a table that the check passes, and its room
   checked-passes : {room₀ room : List ℕ} {verdict : Verdict} → CheckedInto bs room₀ room verdict → verdict ≡ Passed → HoldsPassed bs room
@@ -67,10 +68,17 @@ module _ {bs : List ℕ} (bytes : Bytes bs) where
     lex = syntax .lexicon
 
     abbrev few : length (lex .outsides) ≤ most .outsides
-    few = passes .within .outsideCount
+    few = names-within (passes .within) (passes .meets) .outsideCount
 
     spellings : lexiconOf bs ≡ record { keywords = passes .table .keywords; outsides = passes .table .outsides; variables = [] }
-    spellings = lexicon-decoded bs (passes .table) (decode-exactly bs bytes (passes .table) .1 (passes .encoded, passes .within))
+    spellings =
+        let decoded = decode-exactly bs bytes (passes .written) .1 (passes .encoded, passes .within) in
+        let names = names-within (passes .within) (passes .meets) in
+        cc (lexicon-decoded bs (passes .written) decoded, names .same-keywords, names .same-outsides)
+
+    -- and its root is their last byte
+    root-passed : getD bs (length bs - 1) 0 ≡ passes .table .root
+    root-passed = root-last (passes .written) (passes .encoded) ∙ sym (names-within (passes .within) (passes .meets) .same-root)
 
     -- The outside names of a passed table stand in its bytes.
     pub outsides-passed : lexiconOf bs .outsides ≡ lex .outsides
@@ -84,7 +92,7 @@ module _ {bs : List ℕ} (bytes : Bytes bs) where
 
       -- The scanner finds the keywords and outside names of a passed table in its bytes, and in its room which keywords count.
       pub lexicon-passed : lexiconBy (kindsIn room) [] bs ≡ lex
-      lexicon-passed = rw (spellings, kinds-held, passed-grammar bytes passes, root-last (passes .table) (passes .encoded)) refl
+      lexicon-passed = rw (spellings, kinds-held, passed-grammar bytes passes, root-passed) refl
 
     -- ------------------------------------------------------------------ the scan
 
@@ -116,5 +124,5 @@ module _ {bs : List ℕ} (bytes : Bytes bs) where
                 (rw (
                   productions-from (source bs) ∙ passed-grammar bytes passes,
                   cut-tokens (scan-fills .tokens-fit) ∙ scan-fills .tokens-are,
-                  root-last (passes .table) (passes .encoded),
+                  root-passed,
                 ) at e)

@@ -5,7 +5,8 @@ use mathlib.Core.List.{List, [], _∷_, _++_, append-assoc}
 use native.Mathlib.Omega.{arith}
 use lib.ListN.{length, getD, length-append}
 use lib.Seq.{getD-at}
-use Rattle.grammar.specs.Table.{Table, Item, Alternative, Definition}
+use Rattle.grammar.specs.Table.{Item}
+use Rattle.grammar.specs.Written.{resultField, WrittenAlternative, WrittenDefinition, Written}
 use Rattle.grammar.specs.Encode.{fieldBytes, spellingsThen, itemsThen, alternativesThen, definitionsThen, blocksThen, tableFields, encode}
 use Rattle.grammar.specs.Values.{Field, field}
 
@@ -33,22 +34,24 @@ module _ {root : ℕ} where
   items-before [] e = e
   items-before (i ∷ is) e = field-before 6 _ (items-before is e)
 
-  alternatives-before : (rest : List Alternative) {fs : List Field} → Ends root fs → Ends root (alternativesThen rest fs)
+  alternatives-before : (rest : List WrittenAlternative) {fs : List Field} → Ends root fs → Ends root (alternativesThen rest fs)
   unfolding alternativesThen
   alternatives-before [] e = e
-  alternatives-before (a ∷ rest) e = field-before 5 [] (items-before (a .items) (field-before 7 _ (alternatives-before rest e)))
+  alternatives-before (a ∷ rest) e =
+      let result : Field = resultField (a .result) in
+      field-before 5 [] (items-before (a .items) (field-before (result .tag) (result .value) (alternatives-before rest e)))
 
-  definitions-before : (ds : List Definition) {fs : List Field} → Ends root fs → Ends root (definitionsThen ds fs)
+  definitions-before : (ds : List WrittenDefinition) {fs : List Field} → Ends root fs → Ends root (definitionsThen ds fs)
   unfolding definitionsThen
   definitions-before [] e = e
   definitions-before (d ∷ ds) e = field-before 4 _ (alternatives-before (d .alternatives) (definitions-before ds e))
 
-  blocks-before : (bs : List (List Definition)) {fs : List Field} → Ends root fs → Ends root (blocksThen bs fs)
+  blocks-before : (bs : List (List WrittenDefinition)) {fs : List Field} → Ends root fs → Ends root (blocksThen bs fs)
   unfolding blocksThen
   blocks-before [] e = e
   blocks-before (b ∷ bs) e = field-before 3 [] (definitions-before b (blocks-before bs e))
 
-encode-ends : (table : Table) → Ends (table .root) (tableFields table)
+encode-ends : (table : Written) → Ends (table .root) (tableFields table)
 unfolding tableFields fieldBytes
 encode-ends table =
     spellings-before 1 (table .keywords)
@@ -56,7 +59,7 @@ encode-ends table =
     (blocks-before (table .blocks) (record { front = 8 ∷ 0 ∷ 1 ∷ []; ends = refl })))
 
 -- The last byte of an encoded table is its root.
-pub root-last : {bs : List ℕ} (table : Table) → bs ≡ encode table → getD bs (length bs - 1) 0 ≡ table .root
+pub root-last : {bs : List ℕ} (table : Written) → bs ≡ encode table → getD bs (length bs - 1) 0 ≡ table .root
 unfolding encode
 root-last {bs} table e =
     let h = encode-ends table in

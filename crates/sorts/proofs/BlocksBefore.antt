@@ -1,10 +1,11 @@
 -- The blocks that the check of sorts carries before a block are those of the table's bytes up to that block's field.
 use Prim.Native.Nat.{ℕ, _+_}
-use mathlib.Core.Path.{_≡_, ap, subst, _∙_}
+use mathlib.Core.Path.{_≡_, sym, ap, subst, _∙_}
 use mathlib.Core.List.{List, [], _++_}
 use native.Mathlib.Omega.{arith}
 use lib.ListN.{length, take}
-use Rattle.grammar.specs.Table.{Definition, Table}
+use Rattle.grammar.specs.Table.{Definition}
+use Rattle.grammar.specs.Written.{WrittenDefinition, Written}
 use Rattle.grammar.specs.Fields.{fieldsOf}
 use Rattle.grammar.specs.Encode.{fieldBytes, encode}
 use Rattle.decoding.specs.Within.{Each, DefinitionWithin, Within}
@@ -16,14 +17,15 @@ use Rattle.productions.proofs.NormalizedByFields.{normalized-before}
 use Rattle.judgements.specs.Sizes.{spellingsSize}
 use Rattle.judgements.specs.Scopes.{Env, Before}
 use Rattle.judgements.specs.CheckSorts.{checkBlocks, blocksSize}
-use Rattle.judgements.specs.Judgements.{Sequence}
+use Rattle.judgements.specs.Elaboration.{Sequence}
 use Rattle.judgements.proofs.SequenceSorts.{atFirst}
 use Rattle.judgements.proofs.SizeLaws.{no-bytes, front-size}
 use Rattle.judgements.proofs.BlocksBefore.{carried}
+use Rattle.judgements.proofs.Elaborated.{blocks-made}
 
 -- What the check carries to the blocks `behind` of a table, which stand at a place: it goes on with it there, and its normalized grammar is the one that
 -- the table's bytes up to that place have.
-pub record CarriedBefore (table : Table) (behind : List (List Definition)) (at : ℕ) (P : Before) : Type 0 where
+pub record CarriedBefore (table : Written) (behind : List (List WrittenDefinition)) (at : ℕ) (P : Before) : Type 0 where
   -- the check of all blocks is that of these, with what is carried
   pub goes-on : checkBlocks (length (table .keywords)) (length (table .outsides)) atFirst (spellingsSize (table .keywords) + spellingsSize (table .outsides))
       (table .blocks)
@@ -31,11 +33,11 @@ pub record CarriedBefore (table : Table) (behind : List (List Definition)) (at :
   -- the productions of the bytes before are those of the blocks that are carried
   pub productions : normalizedBy (fieldsOf (take at (encode table))) 0 [] ≡ normalized (P .blocks)
 
--- Behind blocks that are derived the check carries what they give, and these blocks.
-pub carried-before : (table : Table) → Within table → (before behind : List (List Definition)) → table .blocks ≡ before ++ behind
-    → {E : Env} → Sequence (length (table .keywords)) (length (table .outsides)) [] before E
-    → CarriedBefore table behind (spellingsSize (table .keywords) + spellingsSize (table .outsides) + blocksSize before) (record { env = E; blocks = before })
-carried-before table w before behind whole {E} s =
+-- Behind blocks that are derived the check carries what they give, and what they are elaborated to.
+pub carried-before : (table : Written) → Within table → (before behind : List (List WrittenDefinition)) → table .blocks ≡ before ++ behind
+    → {E : Env} {made : List (List Definition)} → Sequence (length (table .keywords)) (length (table .outsides)) [] before E made
+    → CarriedBefore table behind (spellingsSize (table .keywords) + spellingsSize (table .outsides) + blocksSize before) (record { env = E; blocks = made })
+carried-before table w before behind whole s =
     let first : ℕ = spellingsSize (table .keywords) + spellingsSize (table .outsides) in
     let place : length (fieldBytes (frontFields table before)) ≡ first + blocksSize before
     = omega (arith, front-size (table .keywords) (table .outsides) before [], no-bytes) in
@@ -44,5 +46,5 @@ carried-before table w before behind whole {E} s =
       goes-on =
           ap (checkBlocks (length (table .keywords)) (length (table .outsides)) atFirst first) whole
           ∙ carried (length (table .keywords)) (length (table .outsides)) behind atFirst first s;
-      productions = rw (← place) (normalized-before table before behind whole fine);
+      productions = rw (← place) (normalized-before table before behind whole fine ∙ ap normalized (sym (blocks-made s)));
     }

@@ -13,6 +13,7 @@ use Rattle.spellings.proofs.BytesLaws.{by-test}
 use Rattle.grammar.specs.Sorts.{Signature, term}
 use Rattle.grammar.specs.SortTests.{fits}
 use Rattle.grammar.specs.Table.{Template, Templates, none, more, Item, call}
+use Rattle.grammar.specs.Written.{template}
 use Rattle.grammar.specs.Values.{templateThen, templatesThen, itemValue}
 use Rattle.decoding.specs.Within.{TemplateWithin, TemplatesWithin, keyword-within, ide-within, number-within}
 use Rattle.decoding.specs.Within.{ItemWithin, terminal-within, local-within, call-within}
@@ -63,11 +64,11 @@ call-by at sort true true false = refl
 call-by at sort true false filled = refl
 call-by at sort false closed filled = refl
 
-result-by : (at : ℕ) (template : Template) (closed filled : Bool)
-    → verdictOf at (faultBy closed filled) ≡ verdict (need closed 9 at >> need filled 11 at >> ok template)
-result-by at template true true = refl
-result-by at template true false = refl
-result-by at template false filled = refl
+result-by : (at : ℕ) (made : Template) (closed filled : Bool)
+    → verdictOf at (faultBy closed filled) ≡ verdict (need closed 9 at >> need filled 11 at >> ok made)
+result-by at made true true = refl
+result-by at made true false = refl
+result-by at made false filled = refl
 
 root-by : (at : ℕ) (defined fitting : Bool) → verdictOf at (choose (Faulty Undefined) (testedBy fitting WrongSort) (not defined))
     ≡ verdict (need defined 9 at >> need fitting 11 at)
@@ -112,21 +113,21 @@ module _ (bs : List ℕ) (scope : Scope) (heads : List ℕ) (knows : (nontermina
 
     -- ------------------------------------------------------------------ results
 
-    -- a result's bytes are checked as the template
+    -- a template's bytes are checked as the result that it is
     pub result-agrees :
-        (S : Signature) {template : Template} → signatureAt bs head ≡ bytesOf S → TemplateWithin template
-        → verdictOf at (resultAt bs (knownOf scope head (length L)) room (templateThen template []))
-        ≡ verdict (checkResult scope L (S .result) at template)
+        (S : Signature) {t : Template} → signatureAt bs head ≡ bytesOf S → TemplateWithin t
+        → verdictOf at (resultAt bs (knownOf scope head (length L)) room (templateThen t []))
+        ≡ verdict (checkResult scope L (S .result) at (template t))
     unfolding resultAt templatesFault areClosed fill
-    result-agrees S {template} e w =
+    result-agrees S {t} e w =
         let B : ℕ = S .result in
         let one = read-template w in
         cc (
-          closed-bytes scope (length L) (templateThen template []) (more template none) one,
-          and-true (isClosed template scope (length L)),
-          fill-bytes L (templateThen template []) (more template none) (B ∷ []) one,
-          and-true (isSorted template L && fits (sortOf template L) B),
-          result-by at template (isClosed template scope (length L)) (isSorted template L && fits (sortOf template L) B),
+          closed-bytes scope (length L) (templateThen t []) (more t none) one,
+          and-true (isClosed t scope (length L)),
+          fill-bytes L (templateThen t []) (more t none) (B ∷ []) one,
+          and-true (isSorted t L && fits (sortOf t L) B),
+          result-by at t (isClosed t scope (length L)) (isSorted t L && fits (sortOf t L) B),
         )
 
   -- ------------------------------------------------------------------ the root

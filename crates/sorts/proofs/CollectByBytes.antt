@@ -10,7 +10,7 @@ use borrow.Author.Tests.{eqb-true, eqb-false, leb-true, leb-false}
 use Rattle.answers.specs.declared.Verdict.the-variants.{Passed, Refused}
 use Rattle.answers.specs.Checked.{Checked, ok, bad, _>>_}
 use Rattle.spellings.proofs.BytesLaws.{by-test}
-use Rattle.grammar.specs.Table.{Definition}
+use Rattle.grammar.specs.Written.{WrittenDefinition}
 use Rattle.grammar.specs.Values.{Field, headValue}
 use Rattle.grammar.specs.Fields.{RawFields, next}
 use Rattle.grammar.specs.Encode.{alternativesThen, definitionsThen}
@@ -66,7 +66,7 @@ module _ (bs : List ℕ) (E : Env) (block : ℕ) (follow : List Field)
 
   -- the heads of a block are collected from the bytes as from its definitions
   pub collect-agrees :
-      {ds : List Definition} → Each DefinitionWithin ds → (at limit : ℕ) → at + definitionsSize ds ≡ limit → (own : Env) (heads : List ℕ)
+      {ds : List WrittenDefinition} → Each DefinitionWithin ds → (at limit : ℕ) → at + definitionsSize ds ≡ limit → (own : Env) (heads : List ℕ)
       → Placed bs (spread at (definitionsThen ds follow)) → block < at → Collects bs E own block heads → Below heads at
       → Agree bs E block limit (collect E own at ds) (collectFrom (spread at (definitionsThen ds follow)) bs block heads)
   unfolding spread definitionsThen definitionsSize definitionSize collect collectFrom

@@ -14,7 +14,8 @@ use Rattle.answers.specs.Checked.{Checked, ok, bad, need}
 use Rattle.spellings.specs.Bytes.{same}
 use Rattle.spellings.proofs.BytesLaws.{by-test}
 use Rattle.grammar.specs.Sorts.{Signature}
-use Rattle.grammar.specs.Table.{Mode, add, extend, update, Definition}
+use Rattle.grammar.specs.Table.{Mode, add, extend, update}
+use Rattle.grammar.specs.Written.{WrittenDefinition}
 use Rattle.grammar.specs.Values.{modeCode, headValue}
 use Rattle.decoding.specs.Within.{DefinitionWithin}
 use Rattle.judgements.specs.CheckSorts.{isDefined, signatureOf, sameSignature, isUnused, isAsBefore, consistent}
@@ -34,7 +35,7 @@ use Rattle.bodies.proofs.HeadLaws.{fault-earlier, fault-new}
 abbrev pub bytesOf : Signature → List ℕ
 bytesOf S = S .result ∷ S .params
 
-module _ (bs : List ℕ) (at : ℕ) (definition : Definition) (within : DefinitionWithin definition) (placed : headValue definition ≡ valueAt bs at) where
+module _ (bs : List ℕ) (at : ℕ) (definition : WrittenDefinition) (within : DefinitionWithin definition) (placed : headValue definition ≡ valueAt bs at) where
   -- the bytes of the table that hold it
   byte-at : (place byte : ℕ) → place < 3 → getD (headValue definition) place 0 ≡ byte → getD bs (at + 3 + place) 0 ≡ byte
   unfolding headValue
@@ -112,8 +113,8 @@ three first second third true true third′ e f g = cc (f refl, g refl refl)
 three first second third true false third′ e f g = cc (f refl)
 three first second third false second′ third′ e f g = cc
 
-module _ (bs : List ℕ) (E own : Env) (block : ℕ) (known-heads : List ℕ) (collects : Collects bs E own block known-heads) (at : ℕ) (definition : Definition)
-    (within : DefinitionWithin definition) (placed : headValue definition ≡ valueAt bs at) where
+module _ (bs : List ℕ) (E own : Env) (block : ℕ) (known-heads : List ℕ) (collects : Collects bs E own block known-heads) (at : ℕ)
+    (definition : WrittenDefinition) (within : DefinitionWithin definition) (placed : headValue definition ≡ valueAt bs at) where
   abbrev n : ℕ
   n = definition .nonterminal
 

@@ -9,8 +9,9 @@ use lib.Dec.{eqb, leb}
 use lib.ListN.{length, getD, take, drop}
 use lib.Seq.{getD-drop, drop-drop}
 use Rattle.spellings.proofs.BytesLaws.{by-test}
-use Rattle.grammar.specs.Table.{Item, Alternative}
-use Rattle.grammar.specs.Values.{Field, field, templateThen, itemValue}
+use Rattle.grammar.specs.Table.{Item}
+use Rattle.grammar.specs.Written.{WrittenResult, template, resultField, WrittenAlternative}
+use Rattle.grammar.specs.Values.{Field, field, itemValue}
 use Rattle.grammar.specs.Fields.{RawFields, end, cut, next, sizeOf, fieldsFrom, fieldsOf}
 use Rattle.grammar.specs.Encode.{itemsThen, alternativesThen}
 use Rattle.decoding.proofs.Split.{spread}
@@ -80,14 +81,18 @@ module _ (Q : RawFields → Type 0) (over : HandsOn Q) where
   over-items [] follow at to e q = let z : at ≡ to = omega arith in rw (← z) q
   over-items (i ∷ is) follow at to e q = over-items is follow (at + fieldSize (itemValue i)) to (omega arith) (over 6 part-item at _ _ q)
 
+  over-result : (result : WrittenResult) (follow : List Field) (at : ℕ) → Q (spread at (resultField result ∷ follow))
+      → Q (spread (at + fieldSize (resultField result .value)) follow)
+  unfolding spread
+  over-result (template t) follow at q = over 7 part-result at _ _ q
+
   -- what holds of the fields from alternatives on holds of those behind
-  pub over-alternatives : (rest : List Alternative) (follow : List Field) (at to : ℕ) → at + alternativesSize rest ≡ to
+  pub over-alternatives : (rest : List WrittenAlternative) (follow : List Field) (at to : ℕ) → at + alternativesSize rest ≡ to
       → Q (spread at (alternativesThen rest follow)) → Q (spread to follow)
   unfolding spread alternativesThen alternativesSize alternativeSize
   over-alternatives [] follow at to e q = let z : at ≡ to = omega arith in rw (← z) q
   over-alternatives (a ∷ rest) follow at to e q =
-      let result : List ℕ = templateThen (a .result) [] in
       let behind : ℕ = at + 3 + itemsSize (a .items) in
-      over-alternatives rest follow (behind + fieldSize result) to (omega arith)
-      (over 7 part-result behind result _
-      (over-items (a .items) (field 7 result ∷ alternativesThen rest follow) (at + 3) behind refl (over 5 part-begin at [] _ q)))
+      over-alternatives rest follow (behind + fieldSize (resultField (a .result) .value)) to (omega arith)
+      (over-result (a .result) (alternativesThen rest follow) behind
+      (over-items (a .items) (resultField (a .result) ∷ alternativesThen rest follow) (at + 3) behind refl (over 5 part-begin at [] _ q)))

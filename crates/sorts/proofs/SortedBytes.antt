@@ -15,12 +15,13 @@ use Rattle.answers.specs.declared.Verdict.the-variants.{Passed, Refused}
 use Rattle.answers.specs.Checked.{Checked, ok, bad, _>>=_, _>>_, verdict}
 use Rattle.grammar.specs.Sorts.{Signature}
 use Rattle.grammar.specs.Table.{Template, Item, Alternative, Definition, Table}
-use Rattle.grammar.specs.Values.{Field, field, templateThen, itemValue, headValue}
+use Rattle.grammar.specs.Written.{WrittenResult, template, resultField, WrittenAlternative, WrittenDefinition, Written, withAlternatives}
+use Rattle.grammar.specs.Values.{Field, field, itemValue, headValue}
 use Rattle.grammar.specs.Fields.{RawFields, fieldsOf}
 use Rattle.grammar.specs.Encode.{spellingsThen, itemsThen, alternativesThen, definitionsThen, blocksThen, tableFields, encode}
 use Rattle.grammar.proofs.LookupLaws.{fields-of}
 use Rattle.decoding.specs.Decode.{decode}
-use Rattle.decoding.specs.Within.{Each, each-none, each-more, ItemWithin, AlternativeWithin, DefinitionWithin, Within}
+use Rattle.decoding.specs.Within.{Each, each-none, each-more, ItemWithin, ResultWithin, template-within, AlternativeWithin, DefinitionWithin, Within}
 use Rattle.decoding.proofs.Split.{Bytes, spread, fields-of-bytes}
 use Rattle.decoding.proofs.Inverse.{decoded-encoding}
 use Rattle.judgements.specs.Sizes.{fieldSize, spellingsSize, itemsSize, alternativeSize, alternativesSize, definitionSize, definitionsSize}
@@ -28,7 +29,6 @@ use Rattle.judgements.specs.CheckSorts.{isDefined, collect, checkItem, checkIte
 use Rattle.judgements.specs.CheckSorts.{checkBlocks, blocksSize, checkRoot, checkSorts}
 use Rattle.judgements.specs.Scopes.{Env, Before, Scope}
 use Rattle.judgements.specs.Judgements.{scope}
-use Rattle.judgements.proofs.BodySorts.{withAlternatives}
 use Rattle.judgements.proofs.SequenceSorts.{atFirst, behindBlock}
 use Rattle.bodies.specs.declared.Known.{Known}
 use Rattle.bodies.specs.declared.ItemSort.{ItemSort}
@@ -136,6 +136,18 @@ module _ (bs : List ℕ) (given-scope : Scope) (heads : List ℕ)
       (omega (arith, length-append L (s ∷ []))) last f)
       ∙ after-bind (checkItem given-scope L at i) _ last
 
+  -- a result is checked, then what is behind it
+  result-sorted :
+      {result : WrittenResult} → ResultWithin result → (follow : List Field) (head at : ℕ) {L room : List ℕ} → Carries L room
+      → (S : Signature) → signatureAt bs head ≡ bytesOf S → (last : Template → Verdict)
+      → ((made : Template) → walk follow (at + fieldSize (resultField result .value)) head (length L) room ≡ last made)
+      → walk (resultField result ∷ follow) at head (length L) room ≡ after (checkResult given-scope L (S .result) at result) last
+  unfolding spread sortsFrom stepAt
+  result-sorted (template-within {t} w) follow head at {L} {room} c S signed last f =
+      rw (result-agrees bs given-scope heads knows head at c S signed w)
+      (verdict-goes (checkResult given-scope L (S .result) at (template t)) _ heads room _
+      ∙ after-same (checkResult given-scope L (S .result) at (template t)) _ _ f)
+
   -- whatever head and variables are known behind the fields, they give the same
   abbrev Goes : List Field → ℕ → Verdict → Type 0
   Goes fields at last = (head count : ℕ) (room : List ℕ) → length room ≡ 16 → walk fields at head count room ≡ last
@@ -145,7 +157,7 @@ module _ (bs : List ℕ) (given-scope : Scope) (heads : List ℕ)
   GoesAt head fields at last = (count : ℕ) (room : List ℕ) → length room ≡ 16 → walk fields at head count room ≡ last
 
   module _ (head : ℕ) (S : Signature) (signed : signatureAt bs head ≡ bytesOf S) (few : length (S .params) ≤ 4) where
-    alternatives-sorted : {rest : List Alternative} → Each AlternativeWithin rest → (follow : List Field) (at to : ℕ) → at + alternativesSize rest ≡ to
+    alternatives-sorted : {rest : List WrittenAlternative} → Each AlternativeWithin rest → (follow : List Field) (at to : ℕ) → at + alternativesSize rest ≡ to
         → (last : List Alternative → Verdict) → ((choices : List Alternative) → GoesAt head follow to (last choices))
         → (done : List Alternative) → GoesAt head (alternativesThen rest follow) at (after (checkAlternatives given-scope S done at rest) last)
     unfolding spread alternativesThen alternativesSize alternativeSize sortsFrom stepAt checkAlternatives checkAlternative
@@ -158,20 +170,18 @@ module _ (bs : List ℕ) (given-scope : Scope) (heads : List ℕ)
         let others : Alternative → Verdict = λ b. after (checkAlternatives given-scope S (done ++ (b ∷ [])) behind rest) last in
         let many : length (bytesOf S) - 1 ≡ length params = omega arith in
         rw (signed, many)
-        (items-sorted (w .items) (field 7 (templateThen (a .result) []) ∷ alternativesThen rest follow) head (at + 3) result refl params
+        (items-sorted (w .items) (resultField (a .result) ∷ alternativesThen rest follow) head (at + 3) result refl params
         (params ++ drop (length params) room) (carries-parameters params room r few) (omega (arith, w .itemCount))
         (λ L. after (checkResult given-scope L (S .result) result (a .result) >>= λ t. ok (whole t)) others)
         (λ L′ room′ c.
-        let place : result + fieldSize (templateThen (a .result) []) ≡ behind = omega arith in
-        rw (result-agrees bs given-scope heads knows head result c S signed (w .result), place)
-        (verdict-goes (checkResult given-scope L′ (S .result) result (a .result)) _ heads room′ _
-        ∙ after-same (checkResult given-scope L′ (S .result) result (a .result)) _ _
-        (λ t. alternatives-sorted ws follow behind to (omega arith) last f (done ++ (whole t ∷ [])) (length L′) room′ (c .size))
-        ∙ after-bind (checkResult given-scope L′ (S .result) result (a .result)) (λ t. ok (whole t)) others)))
+        let place : result + fieldSize (resultField (a .result) .value) ≡ behind = omega arith in
+        result-sorted (w .result) (alternativesThen rest follow) head result c S signed (λ t. others (whole t))
+        (λ t. rw place (alternatives-sorted ws follow behind to (omega arith) last f (done ++ (whole t ∷ [])) (length L′) room′ (c .size)))
+        ∙ after-bind (checkResult given-scope L′ (S .result) result (a .result)) (λ t. ok (whole t)) others))
         ∙ after-bind (checkItems given-scope params (at + 3) (a .items)) _ others
         ∙ after-bind (checkAlternative given-scope S at a) (λ b. checkAlternatives given-scope S (done ++ (b ∷ [])) behind rest) last
 
-  definitions-sorted : {ds : List Definition} → Each DefinitionWithin ds → (follow : List Field) (at to : ℕ) → at + definitionsSize ds ≡ to
+  definitions-sorted : {ds : List WrittenDefinition} → Each DefinitionWithin ds → (follow : List Field) (at to : ℕ) → at + definitionsSize ds ≡ to
       → Placed bs (spread at (definitionsThen ds follow)) → (last : List Definition → Verdict)
       → (Placed bs (spread to follow) → (ds : List Definition) → Goes follow to (last ds))
       → (done : List Definition) → Goes (definitionsThen ds follow) at (after (checkBodies given-scope done at ds) last)
@@ -208,7 +218,7 @@ module _ (bs : List ℕ) (keywords outsides root : ℕ) (low : root < 64) (whole
   abbrev rootField : List Field
   rootField = field 8 (root ∷ []) ∷ []
 
-  collect-ends : (blocks : List (List Definition)) (block at : ℕ) (heads : List ℕ)
+  collect-ends : (blocks : List (List WrittenDefinition)) (block at : ℕ) (heads : List ℕ)
       → collectFrom (spread at (blocksThen blocks rootField)) bs block heads ≡ collected Passed heads
   unfolding spread blocksThen collectFrom
   collect-ends [] block at heads = refl
@@ -230,10 +240,10 @@ module _ (bs : List ℕ) (keywords outsides root : ℕ) (low : root < 64) (whole
   rootAfter at P = checkRoot (P .env) at root >> ok (whole (P .blocks))
 
   -- what the blocks and the root give
-  abbrev checkRest : Before → ℕ → List (List Definition) → Checked Table
+  abbrev checkRest : Before → ℕ → List (List WrittenDefinition) → Checked Table
   checkRest P at blocks = checkBlocks keywords outsides P at blocks >>= rootAfter (at + blocksSize blocks)
 
-  blocks-sorted : {blocks : List (List Definition)} → Each (Each DefinitionWithin) blocks → (P : Before) (heads : List ℕ) (at : ℕ)
+  blocks-sorted : {blocks : List (List WrittenDefinition)} → Each (Each DefinitionWithin) blocks → (P : Before) (heads : List ℕ) (at : ℕ)
       → Shows bs (P .env) heads at → Placed bs (spread at (blocksThen blocks rootField)) → (head count : ℕ) (room : List ℕ) → length room ≡ 16
       → sortsFrom (spread at (blocksThen blocks rootField)) bs (knownOf (scope keywords outsides (P .env)) head count) heads room
       ≡ verdict (checkRest P at blocks)
@@ -308,7 +318,7 @@ unfolding spread spellingsThen spellingsSize
 placed-spellings bs tag [] follow at to z p = let e : at ≡ to = omega arith in rw e at p
 placed-spellings bs tag (s ∷ ss) follow at to z p = placed-spellings bs tag ss follow (at + fieldSize s) to (omega arith) (p .1)
 
-table-sorted : (table : Table) → Within table → sortsOf (encode table) ≡ verdict (checkSorts table)
+table-sorted : (table : Written) → Within table → sortsOf (encode table) ≡ verdict (checkSorts table)
 unfolding encode tableFields checkSorts
 table-sorted table w =
     let bs : List ℕ = encode table in
@@ -334,7 +344,7 @@ table-sorted table w =
     (length-replicate {A = ℕ} 16 0)))
 
 -- On the bytes of a decoded table the code's check, `sortsOf`, is the verdict of the sort check of that table.
-pub bytes-checked : (bs : List ℕ) → Bytes bs → (table : Table) → decode bs ≡ ok table → sortsOf bs ≡ verdict (checkSorts table)
+pub bytes-checked : (bs : List ℕ) → Bytes bs → (table : Written) → decode bs ≡ ok table → sortsOf bs ≡ verdict (checkSorts table)
 bytes-checked bs b table e =
     let laid = decoded-encoding bs b table e in
     ap sortsOf (laid .0) ∙ table-sorted table (laid .1)

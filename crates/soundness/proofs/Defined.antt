@@ -1,5 +1,5 @@
 -- A nonterminal that a well sorted table declares has a production: a call never meets an undefined one, 001's other way to `wrong`.
-use Prim.Native.Nat.{ℕ, _≤_}
+use Prim.Native.Nat.{ℕ, _≤_, _<_}
 use mathlib.Core.Path.{_≡_, refl, sym}
 use mathlib.Core.Bool.{Bool, true, false, true≢false}
 use mathlib.Core.List.{List, [], _∷_, _++_}
@@ -9,12 +9,15 @@ use lib.ListN.{length}
 use borrow.Author.Tests.{eqb-true}
 use Rattle.grammar.specs.Sorts.{Signature}
 use Rattle.grammar.specs.Table.{Templates, Alternative, Mode, add, extend, update, Definition, Table, call}
+use Rattle.grammar.specs.Written.{WrittenDefinition, Written, withAlternatives}
 use Rattle.decoding.specs.Within.{Each, each-none, each-more, DefinitionWithin, Within, Among, among-first, among-later}
 use Rattle.judgements.specs.Scopes.{Env, entryOf}
-use Rattle.judgements.specs.Judgements.{Newest, newest-first, newest-later, ItemSorted, by-call, Defines, no-definition, by-add, by-extend, by-update, scopeOf}
-use Rattle.judgements.specs.Judgements.{Sequence, no-grammar, by-grammar, WellSorted}
+use Rattle.judgements.specs.Scopes.{Scope}
+use Rattle.judgements.specs.Judgements.{Newest, newest-first, newest-later, ItemSorted, by-call, Defines, no-definition, by-add, by-extend, by-update}
+use Rattle.judgements.specs.Elaboration.{Bodies, Ok, ok-empty, ok-definition, Sequence, no-grammar, by-grammar, Elaborates, scopeOf}
 use Rattle.judgements.specs.CheckSorts.{isDefined}
 use Rattle.judgements.proofs.Environments.{newest-defined}
+use Rattle.judgements.proofs.Elaborated.{as-many}
 use Rattle.productions.specs.Normal.{Production, productionsOf, without, kept, defined, definedAll, normalizedFrom, normalized}
 use Rattle.firsts.specs.Rules.{Of}
 
@@ -57,39 +60,44 @@ first-of nonterminal (a ∷ rest) h = (record { nonterminal = nonterminal; items
 abbrev Produced : Env → List Production → Type 0
 Produced E g = (n : ℕ) (S : Signature) → Newest E n S → (p : Production) × Of g n p
 
-definition-produced : {E : Env} {g : List Production} (definition : Definition) → DefinitionWithin definition → Produced E g
-    → Produced (entryOf definition ∷ E) (defined g definition)
-definition-produced {g = g} definition z h n S newest-first =
-    let f = first-of (definition .nonterminal) (definition .alternatives) (z .alternativeCount) in
-    (f .0, record { member = in-back (kept (definition .mode) (definition .nonterminal) g) (f .1); owned = f .2; small = omega (arith, z .nonterminal) })
-definition-produced definition z h n S (newest-later k w) =
+definition-produced : {E : Env} {g : List Production} (definition : Definition) → 1 ≤ length (definition .alternatives) → definition .nonterminal < 64
+    → Produced E g → Produced (entryOf definition ∷ E) (defined g definition)
+definition-produced {g = g} definition some low h n S newest-first =
+    let f = first-of (definition .nonterminal) (definition .alternatives) some in
+    (f .0, record { member = in-back (kept (definition .mode) (definition .nonterminal) g) (f .1); owned = f .2; small = low })
+definition-produced definition some low h n S (newest-later k w) =
     let f = h n S w in
     let apart : f .0 .nonterminal ≡ definition .nonterminal → ⊥ = λ e. k (cc (e, f .1 .owned)) in
     (f .0, record { member = in-front _ (in-kept (definition .mode) (definition .nonterminal) apart (f .1 .member)); owned = f .1 .owned; small = f .1 .small })
 
-defines-produced : {E own own′ : Env} {ds : List Definition} {g : List Production} → Defines E own ds own′ → Each DefinitionWithin ds
-    → Produced (own ++ E) g → Produced (own′ ++ E) (definedAll g ds)
-unfolding definedAll
-defines-produced no-definition each-none h = h
-defines-produced (by-add {d = d} e a b k) (each-more z zs) h = defines-produced k zs (definition-produced d z h)
-defines-produced (by-extend {d = d} e a b k) (each-more z zs) h = defines-produced k zs (definition-produced d z h)
-defines-produced (by-update {d = d} e a b k) (each-more z zs) h = defines-produced k zs (definition-produced d z h)
+-- one that is elaborated has an alternative if the one written has
+elaborated-produced : {G : Scope} {E : Env} {g : List Production} (d : WrittenDefinition) {choices : List Alternative}
+    → Bodies G (d .signature) (d .alternatives) choices → DefinitionWithin d → Produced E g → Produced (entryOf d ∷ E) (defined g (withAlternatives d choices))
+elaborated-produced d {choices} b z h =
+    definition-produced (withAlternatives d choices) (omega (arith, as-many b, z .alternativeCount)) (omega (arith, z .nonterminal)) h
 
-sequence-produced : {keywords outsides : ℕ} {E E′ : Env} {g : List Production} {bs : List (List Definition)} → Sequence keywords outsides E bs E′
-    → Each (Each DefinitionWithin) bs → Produced E g → Produced E′ (normalizedFrom g bs)
+defines-produced : {G : Scope} {E own own′ : Env} {ds : List WrittenDefinition} {es : List Definition} {g : List Production} → Defines E own ds own′
+    → Ok G ds es → Each DefinitionWithin ds → Produced (own ++ E) g → Produced (own′ ++ E) (definedAll g es)
+unfolding definedAll
+defines-produced no-definition ok-empty each-none h = h
+defines-produced (by-add {d = d} e a c k) (ok-definition b o) (each-more z zs) h = defines-produced k o zs (elaborated-produced d b z h)
+defines-produced (by-extend {d = d} e a c k) (ok-definition b o) (each-more z zs) h = defines-produced k o zs (elaborated-produced d b z h)
+defines-produced (by-update {d = d} e a c k) (ok-definition b o) (each-more z zs) h = defines-produced k o zs (elaborated-produced d b z h)
+
+sequence-produced : {keywords outsides : ℕ} {E E′ : Env} {g : List Production} {gs : List (List WrittenDefinition)} {hs : List (List Definition)}
+    → Sequence keywords outsides E gs E′ hs → Each (Each DefinitionWithin) gs → Produced E g → Produced E′ (normalizedFrom g hs)
 unfolding normalizedFrom
 sequence-produced no-grammar each-none h = h
-sequence-produced (by-grammar d o s) (each-more z zs) h = sequence-produced s zs (defines-produced d z h)
+sequence-produced (by-grammar d o s) (each-more z zs) h = sequence-produced s zs (defines-produced d o z h)
 
 none-newest : {nonterminal : ℕ} {S : Signature} → Newest [] nonterminal S → ⊥
 unfolding isDefined
 none-newest k = true≢false (sym (newest-defined k))
 
 -- A call that is well sorted in a table within the counts is of a nonterminal that has a production.
-pub called-is-defined : (table : Table) → Within table → (well-sorted : WellSorted table) {L : List ℕ} {nonterminal A : ℕ} {ts : Templates}
-    → ItemSorted (scopeOf table well-sorted) L (call nonterminal ts) A
-    → (p : Production) × Of (normalized (table .blocks)) nonterminal p
-called-is-defined table z well-sorted (by-call {S = S} k f) = sequence-produced (well-sorted .sequence) (z .blocks) nothing _ S k
+pub called-is-defined : {table : Written} {made : Table} → Within table → (elaborates : Elaborates table made) {L : List ℕ} {nonterminal A : ℕ}
+    {ts : Templates} → ItemSorted (scopeOf elaborates) L (call nonterminal ts) A → (p : Production) × Of (normalized (made .blocks)) nonterminal p
+called-is-defined z elaborates (by-call {S = S} k f) = sequence-produced (elaborates .sequence) (z .blocks) nothing _ S k
   where
     nothing : Produced [] []
     nothing n S k = absurd (none-newest k)

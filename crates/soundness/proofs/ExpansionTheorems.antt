@@ -21,7 +21,8 @@ use Rattle.clashes.specs.CheckFirsts.{checkFirsts}
 use Rattle.clashes.proofs.ClashTheorems.{passes-exactly}
 use Rattle.grammar.specs.Sorts.{Signature}
 use Rattle.grammar.specs.Sorts as Sorts
-use Rattle.judgements.specs.Judgements.{Newest, ItemSorted, Body, scopeOf}
+use Rattle.judgements.specs.Judgements.{Newest, ItemSorted, Body}
+use Rattle.judgements.specs.Elaboration.{scopeOf}
 use Rattle.judgements.specs.Judgements as Judgements
 use Rattle.checker.specs.Passes.{grammarOf}
 use Rattle.terms.specs.Term.{Name, Term}
@@ -65,28 +66,28 @@ module _ (table : Table) (passing : Passing table) where
   -- Parsing respects typing (001, Theorem 1): under variables of their sorts, an alternative of sort B derives a value of sort B.
   pub parsing-respects-typing : {spell : ℕ → List ℕ} {M M′ : List Value} {s s′ : List Token} {i i′ B : ℕ} {items : List Item}
       {result : Template} {L : List ℕ} {value : Value}
-      → Body (scopeOf table (passing .meets .sorted)) L items result B
+      → Body (scopeOf (passing .meets .elaborates)) L items result B
       → Matches M L
       → Derives (grammarOf table) spell M s i items s′ i′ M′
       → Gives spell M′ result value
       → Typed value B
-  parsing-respects-typing b m d k = items-typed (table-fits table (passing .within) (passing .meets .sorted)) d m b k
+  parsing-respects-typing b m d k = items-typed (table-fits (passing .within) (passing .meets .elaborates)) d m b k
 
   -- Behind items that are derived, the template of a well sorted alternative gives a value of its sort: never `wrong` (001, Theorem 1).
   pub never-wrong : {spell : ℕ → List ℕ} {M M′ : List Value} {s s′ : List Token} {i i′ B : ℕ} {items : List Item} {result : Template} {L : List ℕ}
-      → Body (scopeOf table (passing .meets .sorted)) L items result B
+      → Body (scopeOf (passing .meets .elaborates)) L items result B
       → Matches M L
       → Derives (grammarOf table) spell M s i items s′ i′ M′
       → (value : Value) × Gives spell M′ result value × Typed value B
-  never-wrong b m d = items-give (table-fits table (passing .within) (passing .meets .sorted)) d m b
+  never-wrong b m d = items-give (table-fits (passing .within) (passing .meets .elaborates)) d m b
 
   -- The productions of a normalized table are well sorted (001, section 4.2), each by the signature of its nonterminal.
   pub productions-sorted : {n : ℕ} {p : Production} → Of (grammarOf table) n p
-      → (S : Signature) × Newest (passing .meets .sorted .env) n S
-      × Body (scopeOf table (passing .meets .sorted)) (S .params) (p .items) (p .result) (S .result)
+      → (S : Signature) × Newest (passing .meets .elaborates .env) n S
+      × Body (scopeOf (passing .meets .elaborates)) (S .params) (p .items) (p .result) (S .result)
   productions-sorted {n} {p} o =
-      let fit = table-fits table (passing .within) (passing .meets .sorted) .each p (o .member) in
-      let newest : Newest (passing .meets .sorted .env) n (fit .signature) = rw (← (o .owned)) (fit .newest) in
+      let fit = table-fits (passing .within) (passing .meets .elaborates) .each p (o .member) in
+      let newest : Newest (passing .meets .elaborates .env) n (fit .signature) = rw (← (o .owned)) (fit .newest) in
       (fit .signature, newest, fit .body)
 
   -- Whatever a call of the root derives is a term (001, Corollary 1).
@@ -94,19 +95,19 @@ module _ (table : Table) (passing : Passing table) where
       → Derives (grammarOf table) spell [] s i (call (table .root) none ∷ []) s′ i′ M
       → (meant : Term Name) × (M ≡ term meant ∷ [])
   root-derives-term (by-call {v = v} give-none k d g by-end) =
-      let F = table-fits table (passing .within) (passing .meets .sorted) in
-      let matched : Matches [] (passing .meets .sorted .signature .params) = rw (passing .meets .sorted .without) matches-none in
-      go v (subst (Typed v) (passing .meets .sorted .of-term) (items-typed F d matched (body-of F (taken-of k) (passing .meets .sorted .defined)) g))
+      let F = table-fits (passing .within) (passing .meets .elaborates) in
+      let matched : Matches [] (passing .meets .elaborates .signature .params) = rw (passing .meets .elaborates .without) matches-none in
+      go v (subst (Typed v) (passing .meets .elaborates .of-term) (items-typed F d matched (body-of F (taken-of k) (passing .meets .elaborates .defined)) g))
     where
       go : (value : Value) → Typed value Sorts.term → (meant : Term Name) × (_≡_ {A = List Value} (value ∷ []) (term meant ∷ []))
       go (term u) typed-term = (u, refl)
 
   -- A well sorted call, under variables of their sorts, has values for its arguments and a production of its nonterminal: it is never `wrong`.
   pub call-never-wrong : (spell : ℕ → List ℕ) {M : List Value} {L : List ℕ} {nonterminal A : ℕ} (ts : Templates) → Matches M L
-      → ItemSorted (scopeOf table (passing .meets .sorted)) L (call nonterminal ts) A
+      → ItemSorted (scopeOf (passing .meets .elaborates)) L (call nonterminal ts) A
       → ((vs : List Value) × GiveAll spell M ts vs) × ((p : Production) × Of (grammarOf table) nonterminal p)
   call-never-wrong spell ts m (Judgements.by-call w f) =
-      let k = give-all-exist spell m ts f in ((k .0, k .1), called-is-defined table (passing .within) (passing .meets .sorted) (Judgements.by-call w f))
+      let k = give-all-exist spell m ts f in ((k .0, k .1), called-is-defined (passing .within) (passing .meets .elaborates) (Judgements.by-call w f))
 
   -- ------------------------------------------------------------------ readings
 
@@ -126,7 +127,7 @@ module _ (table : Table) (passing : Passing table) where
     abbrev setting : ℕ → Setting (grammarOf table)
     setting rows =
         record {
-          fit = table-fits table (passing .within) (passing .meets .sorted);
+          fit = table-fits (passing .within) (passing .meets .elaborates);
           passed = firsts-passed;
           spell = lexemes .spell;
           tokens = lexemes .tokens;
@@ -134,17 +135,17 @@ module _ (table : Table) (passing : Passing table) where
           small = lexemes .small;
           formula = lexemes .formula;
           root = table .root;
-          root-small = omega (arith, passing .within .root);
-          signature = passing .meets .sorted .signature;
-          defined = passing .meets .sorted .defined;
-          without = passing .meets .sorted .without;
-          of-term = passing .meets .sorted .of-term;
+          root-small = omega (arith, passing .within .root, passing .meets .elaborates .same-root);
+          signature = passing .meets .elaborates .signature;
+          defined = passing .meets .elaborates .defined;
+          without = passing .meets .elaborates .without;
+          of-term = passing .meets .elaborates .of-term;
         }
 
     -- What was given in its derivation is a token of the formula or one of the table's outside names.
     pub derived-is-supplied : {meant : Term Name} (parses-as : ParsesAs meant)
         → Each (Supplied (lexemes .tokens) (length (table .outsides))) (givenIn (parses-as .derived))
-    derived-is-supplied parses-as = parses-supplied (setting 0) parses-as
+    derived-is-supplied parses-as = rw (passing .meets .elaborates .same-outsides) (parses-supplied (setting 0) parses-as)
 
     -- So a derived term has only words for names and labels, if those of the formula and of the table are words.
     pub derived-is-worded : ((token : Token) → Among (lexemes .tokens) token → token .kind ≡ wordKind → isWord (lexemes .spell (token .value)) ≡ true)

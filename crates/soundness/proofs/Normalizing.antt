@@ -9,13 +9,14 @@ use borrow.Author.Tests.{eqb-true, eqb-false}
 use Rattle.spellings.proofs.BytesLaws.{by-test}
 use Rattle.grammar.specs.Sorts.{Signature}
 use Rattle.grammar.specs.Table.{Template, Item, Alternative, Mode, add, extend, update, Definition, Table}
+use Rattle.grammar.specs.Written.{WrittenAlternative, WrittenDefinition, Written}
 use Rattle.decoding.specs.Within.{Each, each-none, each-more, AlternativeWithin, DefinitionWithin, Within, Among, among-first, among-later}
 use Rattle.judgements.specs.Scopes.{Env, entryOf}
 use Rattle.judgements.specs.Judgements.{Newest, newest-first, newest-later, Undeclared, absent-empty, absent-entry, ItemSorted, by-keyword, by-ide, by-number}
-use Rattle.judgements.specs.Judgements.{by-local}
-use Rattle.judgements.specs.Judgements.{by-call, Body, by-result, by-binding, Bodies, no-alternative, by-choice, Defines, no-definition, by-add, by-extend}
-use Rattle.judgements.specs.Judgements.{by-update, Ok, ok-empty, ok-definition, scope, Sequence, no-grammar, by-grammar, WellSorted, scopeOf}
+use Rattle.judgements.specs.Judgements.{by-local, by-call, Body, by-result, by-binding, Defines, no-definition, by-add, by-extend, by-update, scope}
+use Rattle.judgements.specs.Elaboration.{Bodies, no-alternative, by-choice, Ok, ok-empty, ok-definition, Sequence, no-grammar, by-grammar, Elaborates, scopeOf}
 use Rattle.judgements.proofs.Environments.{newest-defined, newest-signature, absent-undefined}
+use Rattle.judgements.proofs.Elaborated.{body-sorted, made-within}
 use Rattle.productions.specs.Normal.{Production, productionsOf, without, kept, definedAll, normalizedFrom, normalized}
 use Rattle.soundness.proofs.Typing.{Fit, FitAll}
 
@@ -60,7 +61,7 @@ newest-append absent-empty k = k
 newest-append (absent-entry d h) k = newest-later d (newest-append h k)
 
 -- a definition that has the signature there is, if there is one
-entry-more : (definition : Definition) (E : Env) → ((S : Signature) → Newest E (definition .nonterminal) S → definition .signature ≡ S)
+entry-more : (definition : WrittenDefinition) (E : Env) → ((S : Signature) → Newest E (definition .nonterminal) S → definition .signature ≡ S)
     → More E (entryOf definition ∷ E)
 entry-more definition E same n S h =
     by-test (eqb (definition .nonterminal) n)
@@ -70,23 +71,23 @@ entry-more definition E same n S h =
     rw (← q) r)
     (λ e. newest-later (eqb-false (definition .nonterminal) n e) h)
 
-added : {own E : Env} (definition : Definition) → Undeclared own (definition .nonterminal) → Undeclared E (definition .nonterminal)
+added : {own E : Env} (definition : WrittenDefinition) → Undeclared own (definition .nonterminal) → Undeclared E (definition .nonterminal)
     → More (own ++ E) (entryOf definition ∷ own ++ E)
 added definition a b = entry-more definition _ (λ S h. absurd (true≢false (sym (newest-defined h) ∙ absent-undefined (absent-append a b))))
 
-changed : {own E : Env} (definition : Definition) → Undeclared own (definition .nonterminal) → Newest E (definition .nonterminal) (definition .signature)
+changed : {own E : Env} (definition : WrittenDefinition) → Undeclared own (definition .nonterminal) → Newest E (definition .nonterminal) (definition .signature)
     → More (own ++ E) (entryOf definition ∷ own ++ E)
 changed definition a b = entry-more definition _ (λ S h. sym (newest-signature (newest-append a b)) ∙ newest-signature h)
 
 module _ {E : Env} where
-  defines-more : {own own′ : Env} {ds : List Definition} → Defines E own ds own′ → More (own ++ E) (own′ ++ E)
+  defines-more : {own own′ : Env} {ds : List WrittenDefinition} → Defines E own ds own′ → More (own ++ E) (own′ ++ E)
   defines-more no-definition n S h = h
   defines-more (by-add {d = d} e a b k) n S h = defines-more k n S (added d a b n S h)
   defines-more (by-extend {d = d} e a b k) n S h = defines-more k n S (changed d a b n S h)
   defines-more (by-update {d = d} e a b k) n S h = defines-more k n S (changed d a b n S h)
 
   -- each definition's signature is the newest afterwards
-  defines-all : {own own′ : Env} {ds : List Definition} → Defines E own ds own′ → Each (λ d. Newest (own′ ++ E) (d .nonterminal) (d .signature)) ds
+  defines-all : {own own′ : Env} {ds : List WrittenDefinition} → Defines E own ds own′ → Each (λ d. Newest (own′ ++ E) (d .nonterminal) (d .signature)) ds
   defines-all no-definition = each-none
   defines-all (by-add {d = d} e a b k) = each-more (defines-more k _ _ newest-first) (defines-all k)
   defines-all (by-extend {d = d} e a b k) = each-more (defines-more k _ _ newest-first) (defines-all k)
@@ -123,35 +124,37 @@ module _ (keywords outsides : ℕ) where
       (fits-more m hs)
 
   module _ {E : Env} where
-    alternatives-fit : {nonterminal : ℕ} {S : Signature} {rest : List Alternative} → Newest E nonterminal S → Bodies (scope keywords outsides E) S rest
-        → Each AlternativeWithin rest → Each (Fit (scope keywords outsides E)) (productionsOf nonterminal rest)
+    alternatives-fit : {nonterminal : ℕ} {S : Signature} {rest : List WrittenAlternative} {others : List Alternative} → Newest E nonterminal S
+        → Bodies (scope keywords outsides E) S rest others → Each AlternativeWithin rest
+        → Each (Fit (scope keywords outsides E)) (productionsOf nonterminal others)
     unfolding productionsOf
     alternatives-fit w no-alternative each-none = each-none
-    alternatives-fit {S = S} w (by-choice b bs) (each-more a more) =
-        each-more (record { signature = S; newest = w; body = b; items = a .items; itemCount = a .itemCount; result = a .result })
+    alternatives-fit {S = S} w (by-choice n r bs) (each-more a more) =
+        each-more
+        (record { signature = S; newest = w; body = body-sorted n r; items = a .items; itemCount = a .itemCount; result = made-within r (a .result) })
         (alternatives-fit w bs more)
 
-    definitions-fit : {g : List Production} {ds : List Definition} → Each (Fit (scope keywords outsides E)) g
+    definitions-fit : {g : List Production} {ds : List WrittenDefinition} {es : List Definition} → Each (Fit (scope keywords outsides E)) g
         → Each (λ d. Newest E (d .nonterminal) (d .signature)) ds
-        → Ok (scope keywords outsides E) ds → Each DefinitionWithin ds
-        → Each (Fit (scope keywords outsides E)) (definedAll g ds)
+        → Ok (scope keywords outsides E) ds es → Each DefinitionWithin ds
+        → Each (Fit (scope keywords outsides E)) (definedAll g es)
     unfolding definedAll
     definitions-fit h each-none ok-empty each-none = h
     definitions-fit h (each-more {x = d} w ws) (ok-definition b o) (each-more z zs) =
         definitions-fit (each-append (each-kept (d .mode) (d .nonterminal) h) (alternatives-fit w b (z .alternatives))) ws o zs
 
-  sequence-fits : {E E′ : Env} {g : List Production} {bs : List (List Definition)} → Sequence keywords outsides E bs E′ → Each (Each DefinitionWithin) bs
-      → Each (Fit (scope keywords outsides E)) g
-      → Each (Fit (scope keywords outsides E′)) (normalizedFrom g bs)
+  sequence-fits : {E E′ : Env} {g : List Production} {gs : List (List WrittenDefinition)} {hs : List (List Definition)}
+      → Sequence keywords outsides E gs E′ hs → Each (Each DefinitionWithin) gs → Each (Fit (scope keywords outsides E)) g
+      → Each (Fit (scope keywords outsides E′)) (normalizedFrom g hs)
   unfolding normalizedFrom
   sequence-fits no-grammar each-none h = h
   sequence-fits (by-grammar d o s) (each-more z zs) h = sequence-fits s zs (definitions-fit (fits-more (defines-more d) h) (defines-all d) o z)
 
--- each production of a well sorted table fits its scope
-pub each-fits : (table : Table) → Within table → (well-sorted : WellSorted table) → (p : Production) → Among (normalized (table .blocks)) p
-    → Fit (scopeOf table well-sorted) p
-each-fits table z well-sorted p m = each-at (sequence-fits _ _ (well-sorted .sequence) (z .blocks) each-none) m
+-- each production of an elaborated table fits its scope
+pub each-fits : {table : Written} {made : Table} → Within table → (elaborates : Elaborates table made) → (p : Production)
+    → Among (normalized (made .blocks)) p → Fit (scopeOf elaborates) p
+each-fits z elaborates p m = each-at (sequence-fits _ _ (elaborates .sequence) (z .blocks) each-none) m
 
--- the productions of a well sorted table fit it
-abbrev pub table-fits : (table : Table) → Within table → WellSorted table → FitAll (normalized (table .blocks))
-table-fits table z w = record { scope = scopeOf table w; keywordCount = z .keywordCount; outsideCount = z .outsideCount; each = each-fits table z w }
+-- the productions of an elaborated table fit it
+abbrev pub table-fits : {table : Written} {made : Table} → Within table → Elaborates table made → FitAll (normalized (made .blocks))
+table-fits z e = record { scope = scopeOf e; keywordCount = z .keywordCount; outsideCount = z .outsideCount; each = each-fits z e }

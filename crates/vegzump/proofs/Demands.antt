@@ -22,7 +22,8 @@ use Rattle.answers.specs.declared.Answer.the-variants.{Accepted, Refusing}
 use Rattle.answers.specs.declared.Verdict.the-variants.{Passed, Refused}
 use Rattle.grammar.specs.Table.{Template, Templates, none, Item, call}
 use Rattle.grammar.specs.Sorts.{Signature}
-use Rattle.judgements.specs.Judgements.{Newest, ItemSorted, Body, scopeOf}
+use Rattle.judgements.specs.Judgements.{Newest, ItemSorted, Body}
+use Rattle.judgements.specs.Elaboration.{scopeOf}
 use Rattle.tokens.specs.declared.Token.{Token}
 use Rattle.tokens.specs.Unscanned.{Unscans}
 use Rattle.checker.specs.Syntax.{Syntax, syntaxOf}
@@ -54,8 +55,9 @@ use Rattle.meaning.proofs.Hygiene as hygiene
 use Rattle.vegzump.proofs.Refusing.{call-refuses}
 
 -- `Passes table` (checker/specs/Passes): the bytes are the encoding of a table within document 01's counts, spellings and ranges that is well sorted by
--- the judgements of 001, has no left recursion, and of no nonterminal two alternatives that share an opening or are both nullable. Statements on bytes
--- ask that there are bytes; a table lent to a call has no other entries, so that the promises of the calls ask nothing.
+-- the judgements of 001, which elaborate it to `passes .table`, and this has no left recursion, and of no nonterminal two alternatives that share an opening
+-- or are both nullable. Statements on bytes ask that there are bytes; a table lent to a call has no other entries, so that the promises of the calls ask
+-- nothing.
 module _ (table : List ℕ) (bytes : (at : ℕ) → getD table at 0 < 256) where
   -- The check passes a table exactly if it passes by the rules: the third promise of `check_table`.
   pub check-exactly : (check table ≡ Passed) ↔ Passes table
@@ -145,7 +147,7 @@ module _ (write : Term Name → List ℕ) (table formula cells text : List ℕ) 
 
     -- behind items of an alternative of sort B, derived under variables of their sorts
     module _ {spell : ℕ → List ℕ} {M M′ : List Value} {s s′ : List Token} {i i′ B : ℕ} {items : List Item} {result : Template} {L : List ℕ}
-        (body : Body (scopeOf (passes .table) (passes .meets .sorted)) L items result B) (matches : Matches M L)
+        (body : Body (scopeOf (passes .meets .elaborates)) L items result B) (matches : Matches M L)
         (derives : Derives (syntax .productions) spell M s i items s′ i′ M′) where
       -- Parsing respects typing: what its template gives is of sort B.
       pub parsing-respects-typing : {value : Value} → Gives spell M′ result value → Typed value B
@@ -156,8 +158,8 @@ module _ (write : Term Name → List ℕ) (table formula cells text : List ℕ) 
       never-wrong = expansion.never-wrong (passes .table) (passingOf passes) body matches derives
 
     -- Normalizing preserves typing (001, section 4.2): each production of the normalized grammar has the signature of its nonterminal.
-    pub productions-sorted : {n : ℕ} {p : Production} → Of (syntax .productions) n p → (S : Signature) × Newest (passes .meets .sorted .env) n S
-        × Body (scopeOf (passes .table) (passes .meets .sorted)) (S .params) (p .items) (p .result) (S .result)
+    pub productions-sorted : {n : ℕ} {p : Production} → Of (syntax .productions) n p → (S : Signature) × Newest (passes .meets .elaborates .env) n S
+        × Body (scopeOf (passes .meets .elaborates)) (S .params) (p .items) (p .result) (S .result)
     productions-sorted = expansion.productions-sorted (passes .table) (passingOf passes)
 
     -- Whatever a call of the root derives is a term: Corollary 1.
@@ -167,7 +169,7 @@ module _ (write : Term Name → List ℕ) (table formula cells text : List ℕ) 
 
     -- A well sorted call, under variables of their sorts, has values for its arguments and a production of its nonterminal: it is never `wrong`.
     pub call-never-wrong : (spell : ℕ → List ℕ) {M : List Value} {L : List ℕ} {nonterminal A : ℕ} (ts : Templates) → Matches M L
-        → ItemSorted (scopeOf (passes .table) (passes .meets .sorted)) L (call nonterminal ts) A
+        → ItemSorted (scopeOf (passes .meets .elaborates)) L (call nonterminal ts) A
         → ((vs : List Value) × GiveAll spell M ts vs) × ((p : Production) × Of (syntax .productions) nonterminal p)
     call-never-wrong = expansion.call-never-wrong (passes .table) (passingOf passes)
 

@@ -11,14 +11,16 @@ use Rattle.kinds.specs.Kinds.{keywordKind, hasKind}
 use Rattle.answers.specs.Checked.{Checked, ok, bad, _>>=_, _>>_}
 use Rattle.answers.specs.Refusals.{refusal}
 use Rattle.grammar.specs.Table.{Table}
+use Rattle.grammar.specs.Written.{Written}
 use Rattle.grammar.specs.Encode.{encode}
 use Rattle.decoding.specs.Decode.{decode}
-use Rattle.decoding.specs.Within.{Within}
+use Rattle.decoding.specs.Within.{Different, Within}
 use Rattle.decoding.proofs.Split.{Bytes}
 use Rattle.decoding.proofs.LayoutTheorems.{decode-exactly}
 use Rattle.keywords.proofs.KeptLaws.{kept-many, kept-at, all-kept}
 use Rattle.judgements.specs.CheckSorts.{checkSorts}
-use Rattle.judgements.proofs.SortTheorems.{checked-as-is}
+use Rattle.judgements.specs.Elaboration.{Elaborates}
+use Rattle.judgements.proofs.SortTheorems.{sorts-exactly}
 use Rattle.productions.specs.Normal.{Production, normalized}
 use Rattle.firsts.specs.Reach.{kindsReached}
 use Rattle.reach.specs.Reached.{KeywordReached}
@@ -68,9 +70,9 @@ module _ (table : Table) where
       by false t = let none : [] ≡ s = sym (spelled-at k false t) ∙ e in absurd (omega (arith, ap length none))
 
   -- a spelling of one byte or more is that of keyword k exactly if keyword k is reached and spelled so
-  pub keyword-exactly : Within table → (s : List ℕ) → 0 < length s → (k : ℕ)
+  pub keyword-exactly : Different (table .keywords) → (s : List ℕ) → 0 < length s → (k : ℕ)
       → FirstAt s (lexiconOfTable table .keywords) k ↔ (KeywordReached g (table .root) k × (getD (table .keywords) k [] ≡ s))
-  keyword-exactly within s some k = (λ f. spelled-reached some k (f .equal), λ r. first (r .0) (r .1))
+  keyword-exactly differ s some k = (λ f. spelled-reached some k (f .equal), λ r. first (r .0) (r .1))
     where
       inside : (j : ℕ) → getD (table .keywords) j [] ≡ s → j < length (table .keywords)
       inside j e = by (decLt j (length (table .keywords)))
@@ -87,7 +89,7 @@ module _ (table : Table) where
             none-before =
                 λ j l q.
                 let other = spelled-reached some j q .1 in
-                omega (arith, l, different-once (within .keywordsDiffer) j k (inside j other) (inside k e) (other ∙ sym e));
+                omega (arith, l, different-once differ j k (inside j other) (inside k e) (other ∙ sym e));
           }
 
   -- a spelling that no keyword has that is reached is no keyword's
@@ -104,7 +106,8 @@ module _ (table : Table) where
 
 -- ------------------------------------------------------------------ from bytes to bytes
 
-module _ (bs : List ℕ) (bytes : Bytes bs) (all : (table : Table) → bs ≡ encode table → AllReached table) where
+module _ (bs : List ℕ) (bytes : Bytes bs)
+    (all : (written : Written) (table : Table) → bs ≡ encode written → Elaborates written table → AllReached table) where
   passed-same : passedTable bs ≡ passedEvery bs
   unfolding passedTable passedEvery
   passed-same = by (decode bs) refl
@@ -112,12 +115,12 @@ module _ (bs : List ℕ) (bytes : Bytes bs) (all : (table : Table) → bs ≡ en
       checks : (u : Table) → Syntax → Checked Syntax
       checks u syntax = checkFirsts (normalized (u .blocks)) >> ok syntax
 
-      sorted : (t : Table) → bs ≡ encode t → Within t → (answer : Checked Table) → checkSorts t ≡ answer
+      sorted : (t : Written) → bs ≡ encode t → Within t → (answer : Checked Table) → checkSorts t ≡ answer
           → (answer >>= λ u. checks u (syntaxOf u)) ≡ (answer >>= λ u. checks u (syntaxEvery u))
       sorted t read within (bad r) e = refl
-      sorted t read within (ok u) e = ap (checks u) (every-kept u (all u (read ∙ ap encode (checked-as-is within e))))
+      sorted t read within (ok u) e = ap (checks u) (every-kept u (all t u read (sorts-exactly t u within .0 e)))
 
-      by : (checked : Checked Table) → decode bs ≡ checked
+      by : (checked : Checked Written) → decode bs ≡ checked
           → (checked >>= λ t. checkSorts t >>= λ u. checkFirsts (normalized (u .blocks)) >> ok (syntaxOf u))
           ≡ (checked >>= λ t. checkSorts t >>= λ u. checkFirsts (normalized (u .blocks)) >> ok (syntaxEvery u))
       by (bad r) e = refl

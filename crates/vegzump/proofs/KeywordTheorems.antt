@@ -9,6 +9,7 @@ use mathlib.Core.List.{List, []}
 use lib.ListN.{length, getD}
 use Rattle.kinds.specs.Kinds.{hasKind, keywordKind}
 use Rattle.grammar.specs.Table.{Table}
+use Rattle.grammar.specs.Written.{Written}
 use Rattle.grammar.specs.Encode.{encode}
 use Rattle.productions.specs.Normal.{Production}
 use Rattle.firsts.specs.FirstSets.{callOf}
@@ -16,8 +17,10 @@ use Rattle.firsts.specs.Mentions.{notes}
 use Rattle.firsts.specs.Reach.{reachedBy, kindsReached}
 use Rattle.reach.specs.Reached.{Reached, KeywordReached}
 use Rattle.reach.proofs.Exactly as reach
+use Rattle.judgements.specs.Elaboration.{Elaborates}
 use Rattle.checker.specs.Passes.{grammarOf, Passes}
 use Rattle.checker.specs.Syntax.{syntaxOf}
+use Rattle.checker.proofs.PassedNames.{names-within}
 use Rattle.tokens.specs.Tiling.{FirstAt, NotIn}
 use Rattle.terms.specs.Term.{Name, Term}
 use Rattle.meaning.specs.Expand.{expandBy}
@@ -42,14 +45,15 @@ module _ {table : List ℕ} (passes : Passes table) (s : List ℕ) (some : 0 < l
 
   -- A formula's word or symbol is keyword k exactly if keyword k is spelled so and an alternative that the root reaches has it.
   pub keyword-exactly : (k : ℕ) → FirstAt s (syntaxOf (passes .table) .lexicon .keywords) k ↔ counting k
-  keyword-exactly = laws.keyword-exactly (passes .table) (passes .within) s some
+  keyword-exactly = laws.keyword-exactly (passes .table) (names-within (passes .within) (passes .meets) .keywordsDiffer) s some
 
   -- Any other spelling is no keyword's: by the rules of tokens an outside name, another word, or a symbol that meets nothing.
   pub given-back : ((k : ℕ) → ¬ counting k) → NotIn s (syntaxOf (passes .table) .lexicon .keywords)
   given-back none = laws.given-back (passes .table) s some (λ k reached spelled. none k (reached, spelled))
 
--- Every table of bytes whose keywords are all reached, if it is the encoding of one.
-module _ (table : List ℕ) (bytes : (at : ℕ) → getD table at 0 < 256) (all : (t : Table) → table ≡ encode t → laws.AllReached t) where
+-- Every table of bytes whose keywords are all reached, if it is the encoding of one that is well sorted.
+module _ (table : List ℕ) (bytes : (at : ℕ) → getD table at 0 < 256)
+    (all : (t : Written) (u : Table) → table ≡ encode t → Elaborates t u → laws.AllReached u) where
   -- It expands as it would if every keyword counted, whatever is written of the term,
   pub as-before : (write : Term Name → List ℕ) (formula cells text : List ℕ)
       → expandBy write table formula cells text ≡ expandEvery write table formula cells text
