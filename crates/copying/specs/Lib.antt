@@ -1,0 +1,3 @@
+pub mod RowTemplates
+pub mod Hanging
+pub mod Copies
