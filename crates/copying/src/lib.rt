@@ -14,6 +14,8 @@ ghost use Rattle.grammar.specs.Variables.{mostVariables};
 ghost use Rattle.copying.specs.Hanging.{isRowAt, VariableBelow, Hangs, HangsAt};
 ghost use Rattle.copying.specs.Copies.{HasValue, CopiesRow, CopiesText};
 
+pub mod sizes;
+
 // The class of variables, behind those of names.
 const VARIABLE_CLASS: u32 = 4;
 
