@@ -4,6 +4,7 @@ use Prim.Native.Nat.{ℕ, _+_, _*_, _≤_}
 use mathlib.Core.Path.{_≡_, subst}
 use mathlib.Core.Bool.{true}
 use mathlib.Core.List.{List, []}
+use native.Mathlib.Omega.{arith}
 use lib.ListN.{length}
 use Rattle.grammar.specs.Table.{Table}
 use Rattle.decoding.specs.Within.{Each, each-none, each-more, Among, ItemWithin}
@@ -30,7 +31,7 @@ module _ (table : Table) (passing : Passing table) (tokens : List Token) (cells 
   IsMoment m = Among (momentsOf (inputOf (grammarOf table) tokens cells) (table .root) cells) m
 
   abbrev items-within : (p : Production) → Among (grammarOf table) p → Each ItemWithin (p .items)
-  items-within p m = each-fits table (passing .within) (passing .meets .sorted) p m .items
+  items-within p m = each-fits (passing .within) (passing .meets .elaborates) p m .items
 
   abbrev IsParted : Moment → Type 0
   IsParted = Parted (grammarOf table) items-within (passing .meets .not-left-recursive) (λ is. 0) tokens (rowsLent (length cells))
@@ -40,7 +41,7 @@ module _ (table : Table) (passing : Passing table) (tokens : List Token) (cells 
       each-at
       (each-more (record { apart = apart-none; since = each-none })
       (outermost-parted (grammarOf table) items-within (passing .meets .not-left-recursive) (λ is. 0) tokens (rowsLent (length cells)) mostOpen (table .root)
-      (passing .within .root) [] initialState cells))
+      (omega (arith, passing .within .root, passing .meets .elaborates .same-root)) [] initialState cells))
       h
 
   -- 1. The calls open that began at one token index are of different nonterminals.

@@ -29,7 +29,7 @@ pub enum Total {
 }
 
 // The parts of a row.
-fn parts_at(cells: &[u32], row: u32) -> Parts
+pub fn parts_at(cells: &[u32], row: u32) -> Parts
     ensures { λ r. ⌜ r ≡ partsAt (now (cells .entry)) row ⌝ }
 {
     let code = column(cells, row, 0);
@@ -101,7 +101,7 @@ fn sum_at(sums: &[u32], row: u32, cap: u32) -> u32
 }
 
 // What parts add up to, cut off.
-fn parts_sum(sums: &[u32], parts: Parts, cap: u32) -> u32
+pub fn parts_sum(sums: &[u32], parts: Parts, cap: u32) -> u32
     requires { ⌜ cap < sumLimit ⌝ }
     ensures { λ r. ⌜ r ≡ min cap (sumIn (now (sums .entry)) parts) ⌝ }
 {

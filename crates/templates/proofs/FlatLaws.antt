@@ -25,8 +25,8 @@ use Rattle.templates.proofs.TemplateLaws.{template-is, others-are}
 use Rattle.templates.proofs.StackLaws.{Pending, fed, waits, opened, going, resume, takes-value, waits-for, makes-cell, going-make}
 use Rattle.templates.proofs.BuildLaws.{some-left, none-left}
 
--- one value more, in front of the spare ones
-spare-more : (given : List ℕ) (value : ℕ) → length given < 3 → set (spare given) (length given) value ≡ spare (given ++ (value ∷ []))
+-- One value more, in front of the spare ones.
+pub spare-more : (given : List ℕ) (value : ℕ) → length given < 3 → set (spare given) (length given) value ≡ spare (given ++ (value ∷ []))
 spare-more [] value h = refl
 spare-more (a ∷ []) value h = refl
 spare-more (a ∷ b ∷ []) value h = refl

@@ -90,7 +90,7 @@ fn name_value(tag: u8, n: u8) -> u32
 }
 
 // A row: a constructor's code and its arguments.
-fn store_row(cells: &mut [u32], row: usize, code: u8, args: [u32; 3])
+pub fn store_row(cells: &mut [u32], row: usize, code: u8, args: [u32; 3])
     requires { ⌜ (row ≤ mostCells) × (row * columns + columns ≤ length (now cells)) ⌝ }
     ensures { λ r. ⌜ now (cells .exit) ≡ sets (now (cells .entry)) (row * columns) (code ∷ args) ⌝ }
 {

@@ -1,0 +1,4 @@
+pub mod RowTemplates
+pub mod Hanging
+pub mod Copies
+pub mod TemplateSizes
