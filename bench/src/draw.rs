@@ -568,9 +568,10 @@ impl Grammar {
         for item in &alternatives[chosen] {
             match *item {
                 Item::Keyword(number) => tokens.push(self.keywords[number].clone()),
-                Item::Ide(_) => tokens.push(self.word(draws)),
+                // No formula meets a place; a word in its stead makes the formula longer, so that it ends.
+                Item::Ide(_) | Item::Place(_) => tokens.push(self.word(draws)),
                 Item::Number => tokens.push(number(draws)),
-                Item::Local | Item::Place(_) => {}
+                Item::Local => {}
                 Item::Call(called) => self.derive(draws, called, enough, open + 1, tokens),
             }
         }

@@ -307,7 +307,10 @@ impl Writer<'_> {
             match *item {
                 Item::Keyword(number) => tokens.push(self.grammar.keywords[number].clone()),
                 Item::Ide(sort) => tokens.push(self.name(draws, sort)),
-                Item::Place(sort) => tokens.push(self.variable(draws, |given| given == sort)),
+                Item::Place(sort) => {
+                    let lax = draws.percent(4);
+                    tokens.push(self.variable(draws, |given| given == sort || lax && fits(given, sort)));
+                }
                 Item::Number => tokens.push(b"7".to_vec()),
                 Item::Local => {}
                 Item::Call(called) => self.derive(draws, called, enough, open + 1, tokens),
@@ -340,7 +343,7 @@ impl Writer<'_> {
 
 fn damage_text(draws: &mut Draws, text: &mut Vec<u8>) {
     let at = draws.below(text.len() + 1);
-    let part: &[u8] = match draws.below(10) {
+    let part: &[u8] = match draws.below(11) {
         0 => b" 5 ",
         1 => b" unknown ",
         2 => b" $16 ",
@@ -349,6 +352,7 @@ fn damage_text(draws: &mut Draws, text: &mut Vec<u8>) {
         5 => b" $0",
         6 => return text.truncate(at),
         7 => b" $",
+        8 => draws.one(&[b" $4294967296" as &[u8], b" $18446744073709551616"]),
         _ => return damage_bytes(draws, text),
     };
     text.splice(at..at, part.iter().copied());
