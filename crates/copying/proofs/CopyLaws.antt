@@ -22,7 +22,7 @@ use Rattle.templates.specs.Built.{Holds, withMade}
 use Rattle.templates.proofs.VariableLaws.{spare}
 use Rattle.templates.proofs.FlatLaws.{spare-more}
 use Rattle.templates.proofs.StackLaws.{Pending, waits, going, resume, resume-halt, takes-value, waits-for, makes-cell, going-make}
-use Rattle.copying.specs.RowTemplates.{isVariable, isRowSort, unitTemplate, valueTemplate, columnTemplates, rowTemplate, textTemplate}
+use Rattle.copying.specs.RowTemplates.{isVariableName, isRowSort, unitTemplate, valueTemplate, columnTemplates, rowTemplate, textTemplate}
 use Rattle.copying.proofs.ValueLaws.{at-variable, at-row, at-name, at-unit, at-plain}
 use Rattle.copying.specs.Hanging.{isRowAt, argumentAt, IsPart, VariableBelow, Hangs, hangs, HangsAt}
 use Rattle.copying.specs.Copies.{HasValue, rowMade, CopiesRow, CopiesText}
@@ -52,11 +52,11 @@ part-hangs (hangs byte variables before parts) = parts
 -- a row at its place
 pub rows-at : (sort x : ℕ) (rows : ℕ → Template) → isRowAt sort x ≡ true → valueTemplate sort rows x ≡ rows x
 rows-at sort x rows e =
-    let both = and-eq-true-iff (isRowSort sort) (not (isVariable x)) .0 e in
-    at-row rows sort x (not-true (isVariable x) (both .1)) (both .0)
+    let both = and-eq-true-iff (isRowSort sort) (not (isVariableName x)) .0 e in
+    at-row rows sort x (not-true (isVariableName x) (both .1)) (both .0)
 
 -- what is neither a variable nor a row has no sort of rows
-pub no-row-sort : (sort x : ℕ) → isRowAt sort x ≡ false → isVariable x ≡ false → isRowSort sort ≡ false
+pub no-row-sort : (sort x : ℕ) → isRowAt sort x ≡ false → isVariableName x ≡ false → isRowSort sort ≡ false
 no-row-sort sort x no-row other =
     by-test (isRowSort sort) (λ e. let row : isRowAt sort x ≡ true = rw (e, other) refl in absurd (true≢false (sym row ∙ no-row))) (λ e. e)
 
@@ -73,7 +73,7 @@ value-variable sort x env is small e =
     }
 
 module _ (sort x : ℕ) (env : List ℕ) (other : x / nameBase ≡ 4 → ⊥) where
-  no-variable : isVariable x ≡ false
+  no-variable : isVariableName x ≡ false
   no-variable = ne-eqb (x / nameBase) 4 other
 
   -- a number that is neither a variable nor a row has the value of its template

@@ -20,7 +20,7 @@ use Rattle.rows.specs.declared.sums.Parts.{Parts}
 use Rattle.rows.specs.declared.sums.Parts.the-variants.{NoPart, OneTerm, TwoTerms, OneList, TermAndList}
 use Rattle.rows.specs.Sums.{partsOf, partsAt, sumOf, sumIn}
 use Rattle.rows.proofs.RowLaws.{each-code}
-use Rattle.copying.specs.RowTemplates.{isVariable, isRowSort, valueTemplate, columnTemplates, rowTemplate, textTemplate}
+use Rattle.copying.specs.RowTemplates.{isVariableName, isRowSort, valueTemplate, columnTemplates, rowTemplate, textTemplate}
 use Rattle.copying.proofs.ValueLaws.{at-variable, at-row, at-name, at-unit, at-plain}
 use Rattle.copying.specs.Hanging.{isRowAt}
 use Rattle.copying.proofs.CopyLaws.{rows-at, no-row-sort}
@@ -31,13 +31,13 @@ use Rattle.copying.specs.TemplateSizes.{partSize, sizeCap, isBefore, are
 module _ (rows : ℕ → Template) where
   -- the constructors of a variable or a row
   abbrev sizeBy : ℕ → ℕ
-  sizeBy x = elim (isVariable x) [ true ↦ 0 | false ↦ rowsOf (rows x) ]
+  sizeBy x = elim (isVariableName x) [ true ↦ 0 | false ↦ rowsOf (rows x) ]
 
   -- a value that is no row has none
   leaf-size : (sort x : ℕ) → isRowSort sort ≡ false → rowsOf (valueTemplate sort rows x) ≡ 0
   unfolding rowsOf
   leaf-size sort x no-row =
-      by-test (isVariable x) (λ e. ap rowsOf (at-variable rows sort x e))
+      by-test (isVariableName x) (λ e. ap rowsOf (at-variable rows sort x e))
       (λ e.
       by-test (eqb sort var || eqb sort binder) (λ f. ap rowsOf (at-name rows sort x e no-row f))
       (λ f.
@@ -47,7 +47,7 @@ module _ (rows : ℕ → Template) where
   place-size : (sort x : ℕ) → isRowSort sort ≡ true → rowsOf (valueTemplate sort rows x) ≡ sizeBy x
   unfolding rowsOf
   place-size sort x is-row =
-      by-test (isVariable x) (λ e. ap rowsOf (at-variable rows sort x e) ∙ rw (e, sizeBy) refl)
+      by-test (isVariableName x) (λ e. ap rowsOf (at-variable rows sort x e) ∙ rw (e, sizeBy) refl)
       (λ e. ap rowsOf (at-row rows sort x e is-row) ∙ rw (e, sizeBy) refl)
 
   module _ (text : List ℕ) (row : ℕ) where
@@ -98,14 +98,14 @@ row-size depth text row = ap (λ k. k + 1) (columns-size (λ q. rowTemplate dept
 
 -- ------------------------------------------------------------------ what is left of a number
 
-module _ (text : List ℕ) (bound x left : ℕ) {variable : Bool} (told : variable ≡ isVariable x) where
+module _ (text : List ℕ) (bound x left : ℕ) {variable : Bool} (told : variable ≡ isVariableName x) where
   -- a variable has no constructor
   pub variable-left : variable ≡ true → left ≡ left - partSize bound text x
-  variable-left t = let e : isVariable x ≡ true = sym told ∙ t in rw (e, partSize) (omega arith)
+  variable-left t = let e : isVariableName x ≡ true = sym told ∙ t in rw (e, partSize) (omega arith)
 
   module _ (no-variable : variable ≡ false) where
     row-part : partSize bound text x ≡ rowsOf (rowTemplate bound text x)
-    row-part = let e : isVariable x ≡ false = sym told ∙ no-variable in rw (e, partSize) refl
+    row-part = let e : isVariableName x ≡ false = sym told ∙ no-variable in rw (e, partSize) refl
 
     -- where no depth is left, nothing is counted
     pub bound-left : bound ≡ 0 → left ≡ left - partSize bound text x
@@ -144,7 +144,7 @@ module _ (text : List ℕ) (bound x left : ℕ) {variable : Bool} (told : variab
 -- ------------------------------------------------------------------ a pass over the rows
 
 -- a number that is a variable is past every row
-variable-past : (text sizes : List ℕ) (depth x : ℕ) → length sizes ≤ mostCells → isVariable x ≡ true → getD sizes x 0 ≡ min sizeCap (partSize depth text x)
+variable-past : (text sizes : List ℕ) (depth x : ℕ) → length sizes ≤ mostCells → isVariableName x ≡ true → getD sizes x 0 ≡ min sizeCap (partSize depth text x)
 variable-past text sizes depth x few e =
     let large : x / nameBase ≡ 4 = eqb-true (x / nameBase) 4 e in
     getD-past sizes x 0 (omega arith) ∙ rw (e, partSize) refl
@@ -153,7 +153,7 @@ module _ {text sizes : List ℕ} {row : ℕ} (sized : SizedBelow text sizes row)
   -- what stands before a row has its size in the room
   before-size : (depth x : ℕ) → row ≤ depth → isBefore row x ≡ true → getD sizes x 0 ≡ min sizeCap (partSize depth text x)
   before-size depth x l e =
-      by-test (isVariable x) (λ t. variable-past text sizes depth x (sized .few) t)
+      by-test (isVariableName x) (λ t. variable-past text sizes depth x (sized .few) t)
       (λ f.
       let less : x < row = ltb-true x row (rw f at e) in
       sized .each x depth less (omega arith) ∙ rw (f, partSize) refl)
@@ -237,7 +237,7 @@ textSize text made sort x = rowsOf (textTemplate made text sort x)
 pub leaf-small : (text : List ℕ) (made sort x : ℕ) {below : Bool} → below ≡ isRowAt sort x → below ≡ false → true ≡ isSmallText text made sort x
 unfolding rowsOf
 leaf-small text made sort x told f =
-    by-test (isVariable x) (λ e. rw (e, valueTemplate) refl)
+    by-test (isVariableName x) (λ e. rw (e, valueTemplate) refl)
     (λ e.
     let none : textSize text made sort x ≡ 0 = leaf-size (λ q. rowTemplate made text q) sort x (no-row-sort sort x (sym told ∙ f) e) in
     sym (le-leb (textSize text made sort x) largestTerm (omega arith)))
@@ -270,7 +270,7 @@ module _ (text : List ℕ) (sort x : ℕ) {below : Bool} (told : below ≡ isRow
   -- that of any other is walked
   pub walked-small : (made : ℕ) {left : ℕ} → left ≡ largestTerm + 1 - partSize made text x → ltb 0 left ≡ isSmallText text made sort x
   walked-small made {left} e =
-      let no-variable = not-true (isVariable x) (and-eq-true-iff (isRowSort sort) (not (isVariable x)) .0 (sym told ∙ is-row) .1) in
+      let no-variable = not-true (isVariableName x) (and-eq-true-iff (isRowSort sort) (not (isVariableName x)) .0 (sym told ∙ is-row) .1) in
       let size : partSize made text x ≡ rowsOf (rowTemplate made text x) = rw (no-variable, partSize) refl in
       let same = text-size made in
       by-test (isSmallText text made sort x)

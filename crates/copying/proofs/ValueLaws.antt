@@ -6,14 +6,14 @@ use lib.Dec.{eqb}
 use Rattle.grammar.specs.Sorts.{unit, var, binder}
 use Rattle.grammar.specs.Table.{Template, variable, outsideVar, outsideLabel}
 use Rattle.terms.specs.Cells.{nameBase}
-use Rattle.copying.specs.RowTemplates.{isVariable, isRowSort, unitTemplate, valueBy, valueTemplate}
+use Rattle.copying.specs.RowTemplates.{isVariableName, isRowSort, unitTemplate, valueBy, valueTemplate}
 
 module _ (rows : ℕ → Template) (sort x : ℕ) where
   -- a variable, whatever the sort
-  pub at-variable : isVariable x ≡ true → valueTemplate sort rows x ≡ variable (x % nameBase)
+  pub at-variable : isVariableName x ≡ true → valueTemplate sort rows x ≡ variable (x % nameBase)
   at-variable e = rw (e, valueTemplate) refl
 
-  module _ (other : isVariable x ≡ false) where
+  module _ (other : isVariableName x ≡ false) where
     -- a row
     pub at-row : isRowSort sort ≡ true → valueTemplate sort rows x ≡ rows x
     unfolding valueBy

@@ -6,11 +6,11 @@ use mathlib.Core.List.{List}
 use lib.ListN.{getD}
 use Rattle.grammar.specs.Sorts.{unit, constructor, arity}
 use Rattle.terms.specs.Cells.{column, nameBase}
-use Rattle.copying.specs.RowTemplates.{isVariable, isRowSort}
+use Rattle.copying.specs.RowTemplates.{isVariableName, isRowSort}
 
 -- a number at a place of a sort is a row
 abbrev pub isRowAt : ℕ → ℕ → Bool
-isRowAt sort x = isRowSort sort && not (isVariable x)
+isRowAt sort x = isRowSort sort && not (isVariableName x)
 
 -- the sort of a row's argument i, and its number
 abbrev pub sortAt : List ℕ → ℕ → ℕ → ℕ

@@ -1,6 +1,6 @@
 -- The template that a row of cells stands for. Document 02, C-14: a text is read into cells as a formula is; what they then hold is the template that it stands
 -- for. A value is a `$` variable, an outside name, a label's number, a row, or a Unit, told apart by its sort as in `termAt`.
-use Prim.Native.Nat.{ℕ, zero, suc, _+_, _*_, _/_, _%_}
+use Prim.Native.Nat.{ℕ, zero, suc, _+_, _/_, _%_}
 use mathlib.Core.Bool.{Bool, true, false, _||_}
 use mathlib.Core.List.{List, [], _∷_}
 use lib.Dec.{eqb}
@@ -8,12 +8,9 @@ use Rattle.grammar.specs.Sorts.{unit, var, binder, term, fields, constructor}
 use Rattle.grammar.specs.Table.{Template, Templates, variable, outsideVar, outsideLabel, make, none, more}
 use Rattle.terms.specs.Cells.{column, nameBase}
 
--- a `$` variable as a value, whatever its sort: behind the classes of names
-abbrev pub variableName : ℕ → ℕ
-variableName n = 4 * nameBase + n
-
-abbrev pub isVariable : ℕ → Bool
-isVariable x = eqb (x / nameBase) 4
+-- a `$` variable as a value, whatever its sort, is a `variableName` (tokens/specs/Variables)
+abbrev pub isVariableName : ℕ → Bool
+isVariableName x = eqb (x / nameBase) 4
 
 -- a sort whose values are rows
 abbrev pub isRowSort : ℕ → Bool
@@ -37,7 +34,7 @@ valueBy sort rows x =
 
 -- a value of a sort
 abbrev pub valueTemplate : ℕ → (ℕ → Template) → ℕ → Template
-valueTemplate sort rows x = elim (isVariable x) [ true ↦ variable (x % nameBase) | false ↦ valueBy sort rows x ]
+valueTemplate sort rows x = elim (isVariableName x) [ true ↦ variable (x % nameBase) | false ↦ valueBy sort rows x ]
 
 -- the values in the columns of row r from column k on, by the sorts of a constructor's places
 unfoldable pub columnTemplates : List ℕ → (ℕ → Template) → List ℕ → ℕ → ℕ → Templates

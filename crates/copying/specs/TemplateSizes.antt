@@ -10,11 +10,11 @@ use Rattle.terms.specs.Term.{largestTerm}
 use Rattle.expansion.specs.Costs.{rowsOf}
 use Rattle.rows.specs.declared.sums.Parts.{Parts}
 use Rattle.rows.specs.declared.sums.Parts.the-variants.{NoPart, OneTerm, TwoTerms, OneList, TermAndList}
-use Rattle.copying.specs.RowTemplates.{isVariable, rowTemplate, textTemplate}
+use Rattle.copying.specs.RowTemplates.{isVariableName, rowTemplate, textTemplate}
 
 -- the constructors of what stands at a place of rows: a variable has none
 abbrev pub partSize : ℕ → List ℕ → ℕ → ℕ
-partSize depth text x = elim (isVariable x) [ true ↦ 0 | false ↦ rowsOf (rowTemplate depth text x) ]
+partSize depth text x = elim (isVariableName x) [ true ↦ 0 | false ↦ rowsOf (rowTemplate depth text x) ]
 
 -- one constructor more than a template may have, up to which constructors are counted
 abbrev pub sizeCap : ℕ
@@ -22,7 +22,7 @@ sizeCap = largestTerm + 1
 
 -- a variable, or a row before a row
 abbrev pub isBefore : ℕ → ℕ → Bool
-isBefore row x = isVariable x || ltb x row
+isBefore row x = isVariableName x || ltb x row
 
 -- so it is with each part
 abbrev pub areParts : ℕ → Parts → Bool

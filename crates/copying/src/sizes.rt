@@ -11,11 +11,11 @@ ghost use Prim.Native.Nat.{_-_, _≤_};
 ghost use mathlib.Core.Path.{_≡_};
 ghost use lib.ListN.{length};
 ghost use Rattle.terms.specs.Cells.{mostCells};
-ghost use Rattle.copying.specs.RowTemplates.{isVariable};
+ghost use Rattle.copying.specs.RowTemplates.{isVariableName};
 ghost use Rattle.copying.specs.TemplateSizes.{partSize, isBefore, areParts, SizesRows, isSmallText};
 
 fn is_variable(x: u32) -> bool
-    ensures { λ r. ⌜ r ≡ isVariable x ⌝ }
+    ensures { λ r. ⌜ r ≡ isVariableName x ⌝ }
 {
     x / NAME_BASE == VARIABLE_CLASS
 }

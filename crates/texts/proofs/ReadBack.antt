@@ -14,7 +14,8 @@ use Rattle.grammar.specs.Table.{Template, Templates, variable, outsideVar, outs
 use Rattle.terms.specs.Cells.{nameBase, outsideName}
 use Rattle.judgements.specs.Judgements.{Has, has-first, has-later, Fits, fits-equal, fits-binder, Sorted, Fill, fill-none, fill-more}
 use Rattle.judgements.specs.Judgements as Judgements
-use Rattle.copying.specs.RowTemplates.{variableName, isVariable, isRowSort, valueTemplate, columnTemplates, rowTemplate}
+use Rattle.copying.specs.RowTemplates.{isVariableName, isRowSort, valueTemplate, columnTemplates, rowTemplate, textTemplate}
+use Rattle.tokens.specs.Variables.{variableName}
 use Rattle.copying.proofs.ValueLaws.{at-variable, at-row, at-name, at-plain}
 use Rattle.texts.proofs.Showing.{ShowsTemplate, ColumnsShow, shows-variable, shows-var, shows-label, shows-make, no-column, one-column}
 
@@ -34,7 +35,7 @@ row-place e fits-equal = e
 row-place e fits-binder = absurd (true≢false (sym e))
 
 -- a number of a class below that of variables
-no-variable : (x : ℕ) → x < 4 * nameBase → isVariable x ≡ false
+no-variable : (x : ℕ) → x < 4 * nameBase → isVariableName x ≡ false
 no-variable x l = ne-eqb (x / nameBase) 4 (λ h. omega arith)
 
 -- ------------------------------------------------------------------ templates
@@ -45,7 +46,7 @@ module _ {N : ℕ} {L : List ℕ} (few : N ≤ nameBase) (short : length L ≤ n
 
     -- the template that a number shows is read at a place of a sort that it fits, to any depth that is not below the rows made
     pub read-back : (t : Template) {made depth x A B : ℕ} → made ≤ depth → depth ≤ nameBase → ShowsTemplate cells made x t → Sorted N L t A → Fits A B
-        → valueTemplate B (λ q. rowTemplate depth cells q) x ≡ t
+        → textTemplate depth cells B x ≡ t
     read-back (variable n) {depth = depth} {B = B} l d shows-variable (Judgements.by-variable h) f =
         let below = has-below h in
         let number : variableName n % nameBase ≡ n = omega arith in

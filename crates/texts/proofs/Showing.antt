@@ -17,7 +17,8 @@ use Rattle.expansion.specs.Costs.{rowsOf, rowsOfAll}
 use Rattle.expansion.proofs.CellLaws.{withRow, filled, Row, cell-by}
 use Rattle.expansion.proofs.Endings.{Ends, ends-after, ends-map, Made, Full, nothing-made, made-trans, full-more}
 use Rattle.expansion.proofs.Shows.{Agree, IsCode, Grown, row-grown}
-use Rattle.copying.specs.RowTemplates.{variableName, unitTemplate}
+use Rattle.copying.specs.RowTemplates.{unitTemplate}
+use Rattle.tokens.specs.Variables.{variableName}
 use Rattle.texts.specs.Substitution.{substitute, substituteAll, templateList}
 
 -- ------------------------------------------------------------------ what a number shows
