@@ -11,3 +11,5 @@ def present() -> int:
 
 
 LEVEL = present()
+# From level 14 on (document 02, C-14) a result may be a text, and an item a pattern place.
+HAS_TEXTS = LEVEL >= 14
