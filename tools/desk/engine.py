@@ -21,7 +21,7 @@ from .library import Answer, Library
 from .origins import Origins
 
 HOUSE = os.path.join(author.ROOT, "examples", "house.grammar")
-FAULTS_OF_GRAMMAR = (*range(1, author.LAST_OF_TABLE + 1), 23)
+FAULTS_OF_GRAMMAR = (*author.OF_TABLE, 23)
 MOST_MARKS = 50
 
 
@@ -129,10 +129,10 @@ def refused(sheet: Sheet, packed: pack.Packed, formula: bytes, answer: Answer) -
     fault, marks = answer.number in FAULTS_OF_GRAMMAR, []
     for p in details:
         if isinstance(p, Part) and p.field in packed.spots:
-            marks.append(dict(places.of_spot(sheet.name, sheet.grammar, packed.spots[p.field], p.said), fault=fault))
+            marks.append(dict(places.of_spot(sheet.name, sheet.grammar, p.spot or packed.spots[p.field], p.said), fault=fault))
         if isinstance(p, Part) and p.stretch is not None:
             marks.append(dict(places.of_stretch(formula, p.stretch, p.said), fault=True))
-    return {"stage": "table" if answer.number <= author.LAST_OF_TABLE else "formula", "title": CAUSES[answer.number], "said": details,
+    return {"stage": "table" if answer.number in author.OF_TABLE else "formula", "title": CAUSES[answer.number], "said": details,
             "text": told(refusal, details), "marks": marks, "answer": answer}
 
 

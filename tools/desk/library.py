@@ -58,7 +58,7 @@ class Program:
 
     def check(self, table: bytes) -> Answer:
         answer, _ = self.expand(table, b"")
-        return answer if 0 < answer.number <= author.LAST_OF_TABLE else Answer(0, 0, 0, 0)
+        return answer if answer.number in author.OF_TABLE else Answer(0, 0, 0, 0)
 
     def expand(self, table: bytes, formula: bytes) -> Tuple[Answer, str]:
         first, _, term = author.answer(table, formula).partition("\n")

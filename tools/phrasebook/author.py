@@ -12,10 +12,12 @@ from . import notation, pack
 from .case import as_what
 from .explain import Refusal, explain
 from .grammar import Grammar
+from .level import HAS_TEXTS
 from .source import Trouble, counted, read_file
 
 ROOT = os.path.dirname(os.path.dirname(os.path.dirname(os.path.abspath(__file__))))
-LAST_OF_TABLE = 13
+# the causes of a table; from level 14 on those of its texts are among them
+OF_TABLE = (*range(1, 14), *((26, 27, 28) if HAS_TEXTS else ()))
 
 
 class NoProgram(Exception):
@@ -55,7 +57,7 @@ def packed_or_troubles(path: str) -> pack.Packed:
 def refused(packed: pack.Packed) -> str:
     """Why the proved check refuses a table; nothing if it passes."""
     refusal = refusal_in(answer(packed.data, b""))
-    return explain(packed, None, refusal) if refusal is not None and refusal.number <= LAST_OF_TABLE else ""
+    return explain(packed, None, refusal) if refusal is not None and refusal.number in OF_TABLE else ""
 
 
 def check(path: str) -> str:

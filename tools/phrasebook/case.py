@@ -1,11 +1,11 @@
 """A refusal with the table and the formula that it is about, and how their parts are named and shown."""
-from typing import List, NamedTuple, Optional, Tuple
+from typing import List, NamedTuple, Optional, Sequence, Tuple
 
 from . import reading
 from .grammar import Alternative, Grammar
 from .pack import Packed
 from .reading import Token
-from .source import counted, marked
+from .source import Spot, counted, marked
 from .table import KEYWORD, Field, read_fields, spellings
 
 
@@ -17,9 +17,10 @@ class Refusal(NamedTuple):
 
 
 class Part(str):
-    """A part of an explanation: its text, which may be several lines. If it speaks of a field of the table or of a stretch of the formula, it says of
-    which, and what is said of it without its place."""
+    """A part of an explanation: its text, which may be several lines. If it speaks of a field of the table, of a stretch of its notation or of a stretch of the
+    formula, it says of which, and what is said of it without its place."""
     field: Optional[int] = None
+    spot: Optional[Spot] = None
     stretch: Optional[Tuple[int, int]] = None
     said = ""
 
@@ -33,6 +34,15 @@ def part(text: str, said: str, field: Optional[int] = None, stretch: Optional[Tu
 def as_what(keyword: str) -> str:
     """What a keyword that is given back is in formulas."""
     return "an ordinary word" if keyword[:1].isalpha() else "a symbol that no phrase reads"
+
+
+def stretched(spots: Sequence[Spot], start: int, width: int) -> Optional[Spot]:
+    """The spot of some bytes of a text, as far as they stand in one line; of what is behind its end, the place there."""
+    if start >= len(spots):
+        return spots[-1]._replace(column=spots[-1].column + spots[-1].width, width=1) if spots else None
+    first = spots[start]
+    last = [s for s in spots[start:start + width] if s.line == first.line][-1]
+    return first._replace(width=last.column + last.width - first.column)
 
 
 class Case:
@@ -74,6 +84,17 @@ class Case:
     def at(self, place: int, said: str, *hints: str) -> List[str]:
         """What is to be said of a field, with its place and its text; hints follow."""
         return [part("%s: %s" % (self.where(place), said), said, field=place)] + self.shown(place) + list(hints)
+
+    def in_text(self, place: int, start: int, width: int, said: str) -> List[str]:
+        """What is to be said of a stretch of the text of a result, with the stretch marked in the notation, or in the text itself."""
+        spots = self.packed.texts.get(place)
+        if spots is None:
+            out = part("byte %d of the text at byte %d of the table: %s" % (start, place, said), said, field=place)
+            return [out, marked(self.fields[place].value[1:].decode("latin-1"), start, width)]
+        spot = stretched(spots, start, width) or self.packed.spots[place]
+        out = part("%s: %s" % (spot, said), said, field=place)
+        out.spot = spot
+        return [out, spot.marked()]
 
     def word(self, index: int) -> List[str]:
         """The token of the formula with this index, marked in its line."""

@@ -3,7 +3,10 @@ import os
 import re
 from typing import Callable, Dict, List, NamedTuple
 
-ROOT = os.path.dirname(os.path.dirname(os.path.dirname(os.path.abspath(__file__))))
+from .level import HAS_TEXTS, ROOT
+
+# Causes 26 to 28 count from level 14 on; the landing of C-14 adds the lines of the second file to causes.txt.
+FILES = ("causes.txt", "tests/texts/causes.txt") if HAS_TEXTS else ("causes.txt",)
 SOURCES = ("grammar/src/limits.rt", "spellings/src/lib.rt", "tokens/src/lib.rt", "expansion/src/lib.rt", "terms/src/lib.rt", "portions/src/lib.rt")
 CONSTANT = re.compile(r"^(?:pub )?const ([A-Z_]+): [a-z0-9]+ = ([0-9_]+);", re.MULTILINE)
 
@@ -36,8 +39,10 @@ def with_limits(text: str, shown: Callable[[int], str]) -> str:
 
 
 def load() -> List[Cause]:
-    with open(os.path.join(ROOT, "causes.txt"), encoding="utf-8") as f:
-        lines = [line.rstrip("\n").split(" | ") for line in f if line.strip() and not line.startswith("#")]
+    lines = []
+    for name in FILES:
+        with open(os.path.join(ROOT, name), encoding="utf-8") as f:
+            lines += [line.rstrip("\n").split(" | ") for line in f if line.strip() and not line.startswith("#")]
     causes = [Cause(int(p[0]), p[1], [] if p[2] == "-" else p[2].split(), *p[3:]) for p in lines]
     if [c.number for c in causes] != list(range(1, len(causes) + 1)):
         raise ValueError("causes.txt: the causes are not numbered 1, 2 and on")

@@ -7,6 +7,7 @@ from typing import Callable, Dict, List, Optional
 
 from . import formula_causes as formulas
 from . import table_causes as tables
+from . import text_causes as texts
 from .case import Case, Refusal
 from .causes import CAUSES
 from .pack import Packed
@@ -17,7 +18,7 @@ DETAILS: Dict[int, Callable[[Case], List[str]]] = {
     7: tables.added_twice, 8: tables.nothing_to_extend, 9: tables.not_defined, 10: tables.bad_template, 11: tables.wrong_sort,
     12: tables.left_recursion, 13: tables.clash, 14: formulas.formula_size, 15: formulas.bad_token, 16: formulas.token_count, 17: formulas.misfit,
     18: formulas.left_over, 19: formulas.calls_open, 20: formulas.calls_open, 21: formulas.out_of_rows, 22: formulas.large_term,
-    23: formulas.loose_name, 24: formulas.long_text, 25: formulas.portions}
+    23: formulas.loose_name, 24: formulas.long_text, 25: formulas.portions, 26: texts.faulty, 27: texts.faulty, 28: texts.faulty}
 
 
 def foreign(case: Case) -> List[str]:

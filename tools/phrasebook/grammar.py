@@ -2,16 +2,24 @@
 
 This serves explanations. The verdict on a table is that of the proved check; here it is only looked up where its cause lies.
 """
-from typing import Dict, Iterator, List, NamedTuple, Optional, Tuple
+from typing import Any, Dict, Iterator, List, NamedTuple, Optional, Set, Tuple
 
-from .table import (ADD, ALTERNATIVE, BINDER, BLOCK, DEFINITION, IS_CALL, IS_IDE, IS_KEYWORD, IS_LOCAL, IS_NUMBER, ITEM, KEYWORD, NUM, RESULT, ROOT,
-                    UNIT, UPDATE, Field, read_fields, spellings)
+from .table import (ADD, ALTERNATIVE, BINDER, BLOCK, DEFINITION, IS_CALL, IS_IDE, IS_KEYWORD, IS_LOCAL, IS_NUMBER, IS_PLACE, ITEM, KEYWORD, NUM,
+                    RESULT, ROOT, SORTS, TEXT, UNIT, UPDATE, VAR, Field, read_fields, spellings)
 
-WORD_BIT, NUMBER_BIT = 0, 1
+# What an alternative can begin with, as a set of bits: document 01's 64 kinds of tokens, from bit 65 on the pattern places of each sort (as refusal 13 counts
+# them), and from bit 72 on the sorts of a text's variables that fit a word.
+WORD_BIT, NUMBER_BIT, FIRST_PLACE, FIRST_VARIABLE = 0, 1, 65, 72
+TOKEN_KINDS = (1 << 64) - 1
 
 
 def keyword_bit(number: int) -> int:
     return number + 2
+
+
+def fits(given: int, asked: int) -> bool:
+    """Whether a value of a sort may stand where a sort is asked."""
+    return given == asked or (given, asked) == (BINDER, VAR)
 
 
 class Definition(NamedTuple):
@@ -46,9 +54,11 @@ class Alternative(NamedTuple):
 
 
 class Grammar:
-    """The parts of a table; fields that do not fit where they stand are left out."""
+    """The parts of a table; fields that do not fit where they stand are left out. `shared` holds, for a table and the blocks before each of its blocks, what is
+    known of its texts by their places."""
 
-    def __init__(self, data: bytes):
+    def __init__(self, data: bytes, shared: Optional[Dict[Any, Any]] = None):
+        self.data, self.shared = data, {} if shared is None else shared
         self.fields = read_fields(data)
         self.definitions: List[Definition] = []
         self.alternatives: List[Alternative] = []
@@ -69,10 +79,21 @@ class Grammar:
             self.alternatives.append(Alternative(f, self.definitions[-1], [], None))
         elif f.tag == ITEM and self.alternatives and len(f.value) >= 2:
             self.alternatives[-1].items.append(f)
-        elif f.tag == RESULT and self.alternatives:
+        elif f.tag in (RESULT, TEXT) and self.alternatives:
             self.alternatives[-1] = self.alternatives[-1]._replace(result=f)
         elif f.tag == ROOT and f.value:
             self.root = f.value[0]
+
+    def texts(self) -> List[Alternative]:
+        """The alternatives whose results are texts."""
+        return [a for a in self.alternatives if a.result is not None and a.result.tag == TEXT and a.result.value]
+
+    def before(self, block: int) -> "Grammar":
+        """The blocks before a block: a text is read under those before its own."""
+        if ("before", block) not in self.shared:
+            starts = [f.place for f in self.fields if f.tag == BLOCK]
+            self.shared["before", block] = Grammar(self.data[:starts[block] if block >= 0 else 0], self.shared)
+        return self.shared["before", block]
 
     def alternative_of(self, place: int) -> Optional[Alternative]:
         return next((a for a in self.alternatives if a.holds(place)), None)
@@ -87,7 +108,7 @@ class Grammar:
         out: List[Optional[int]] = list(a.definition.parameters)
         for f in a.items[:count]:
             called = self.signature(f.value[1], a.definition.block) if f.value[0] == IS_CALL else None
-            own = {IS_KEYWORD: UNIT, IS_IDE: f.value[1], IS_NUMBER: NUM, IS_LOCAL: BINDER}.get(f.value[0])
+            own = {IS_KEYWORD: UNIT, IS_IDE: f.value[1], IS_NUMBER: NUM, IS_LOCAL: BINDER, IS_PLACE: f.value[1]}.get(f.value[0])
             out.append(called.result if called else own)
         return out
 
@@ -102,20 +123,25 @@ class Grammar:
     def all_productions(self) -> Iterator[Tuple[int, Alternative]]:
         return ((n, a) for n, own in self.productions.items() for a in own)
 
-    def reached(self) -> List[int]:
-        """The nonterminals that the root reaches by calls, itself the first; none if it is not defined."""
-        out = [self.root] if self.root in self.productions else []
+    def reached(self, start: Optional[int] = None) -> List[int]:
+        """The nonterminals that the root, or another one, reaches by calls, itself the first; none if it is not defined."""
+        start = self.root if start is None else start
+        out = [start] if start in self.productions else []
         for n in out:
             called = [f.value[1] for a in self.productions.get(n, []) for f in a.items if f.value[0] == IS_CALL]
             out += [m for m in dict.fromkeys(called) if m not in out]
         return out
 
+    def keywords_from(self, nonterminal: int) -> Set[int]:
+        """The keywords that count in what is read as a nonterminal, by their numbers."""
+        had = (f for n in self.reached(nonterminal) for a in self.productions.get(n, []) for f in a.items)
+        return {f.value[1] for f in had if f.value[0] == IS_KEYWORD}
+
     def given_back(self) -> Dict[int, str]:
         """The keywords that no alternative reached has, by their numbers: in formulas they are ordinary words, or symbols that no phrase reads. None if the
         root is not defined: then there are no formulas."""
-        reached = self.reached()
-        had = {f.value[1] for n in reached for a in self.productions.get(n, []) for f in a.items if f.value[0] == IS_KEYWORD}
-        return {k: spelled for k, spelled in enumerate(spellings(self.fields, KEYWORD)) if reached and k not in had}
+        had = self.keywords_from(self.root) if self.reached() else None
+        return {k: spelled for k, spelled in enumerate(spellings(self.fields, KEYWORD)) if had is not None and k not in had}
 
     def nullable_nonterminals(self) -> set:
         found: set = set()
@@ -153,7 +179,9 @@ class Grammar:
         kind, operand = item.value[0], item.value[1]
         if kind == IS_CALL:
             return (self.firsts if sets is None else sets).get(operand, 0)
-        return {IS_KEYWORD: 1 << keyword_bit(operand), IS_IDE: 1 << WORD_BIT, IS_NUMBER: 1 << NUMBER_BIT}.get(kind, 0)
+        if kind == IS_IDE:
+            return 1 << WORD_BIT | sum(1 << FIRST_VARIABLE + s for s in range(len(SORTS)) if fits(s, operand))
+        return {IS_KEYWORD: 1 << keyword_bit(operand), IS_NUMBER: 1 << NUMBER_BIT, IS_PLACE: 1 << FIRST_PLACE + operand}.get(kind, 0)
 
     def first(self, a: Alternative, sets: Optional[Dict[int, int]] = None) -> int:
         out = 0

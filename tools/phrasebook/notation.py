@@ -10,31 +10,48 @@ The notation is that of Figure 2 of 001, with lines for what the figure leaves t
                 | "root" NONTERMINAL
     definition  = NONTERMINAL [ "(" { NAME ":" SORT } ")" ] ":" SORT ("==" | "|==" | ":=") [ "|" ] alternative { "|" alternative }
     alternative = { item } "=>" result
-    item        = [ NAME "=" ] ( KEYWORD in quotes | "ide" [ ":" SORT ] | "number" | "local" | NONTERMINAL [ arguments ] )
+    item        = [ NAME "=" ] ( KEYWORD in quotes | "ide" [ ":" SORT ] | "number" | "local" | NONTERMINAL [ arguments ] | place )
     result      = template | NONTERMINAL [ arguments ]         a nonterminal here is a last item, and its value the result
+                | written
     template    = NAME | CONSTRUCTOR arguments | "global" "(" WORD ")" | "label" "(" WORD ")"
     arguments   = "(" { template } ")"
+
+From level 14 on there are a pattern place, and a result written as a text that is read as a nonterminal under the blocks before this one:
+
+    place       = "pIde" ":" SORT
+    written     = NONTERMINAL "<<" TEXT ">>"
+
+A TEXT goes up to the next `>>`, over several lines if need be. In it $NAME is a variable of the alternative, $0 and on is one by its number, and \\XX is the
+byte with these two hex digits: \\5c is a backslash, \\3e a `>` where two would end the text, \\24 a `$` that stands before a letter.
 """
 import re
 from dataclasses import dataclass, field
 from typing import List, NamedTuple, Optional, Tuple
 
+from .level import HAS_TEXTS
 from .source import DISK, Disk, Spot, Trouble, is_table, listed, near
 from .table import BY_NAME, MODES, SORTS
 
 LEXEME = re.compile(r'"""|"[^"]*"|=>|\|==|==|:=|<<|>>|[A-Za-z][A-Za-z0-9_]*|\S')
+TEXT_BEGINS, TEXT_ENDS = "<<", ">>"
 RAW_WORD = re.compile(r'"""|"[^"\s]+"|\S+')
 NAME_FORM = re.compile(r"[A-Za-z][A-Za-z0-9_]*")
 SECTIONS = ("use", "keywords", "names", "grammar", "root")
 WORD_LINES = ("use", "keywords", "names")
 BYTE_ORDER_MARK = b"\xef\xbb\xbf"
 OTHER_QUOTES = "'`\u2018\u2019\u201a\u201c\u201d\u201e\u00ab\u00bb"
+ITEMS = "an item (a keyword in quotes, ide, number, local%s or a nonterminal)" % (", pIde" if HAS_TEXTS else "")
 RESERVED = set(BY_NAME) | {"ide", "number", "local", "global", "label", "end", "pIde"} | set(SECTIONS)
 
 
 class Token(NamedTuple):
+    """A token and where it stands. Of a text `<<..>>`, the parts between its signs, line by line, stand in `pieces`."""
     text: str
     spot: Spot
+    pieces: Tuple[Spot, ...] = ()
+
+    def is_text(self) -> bool:
+        return bool(self.pieces)
 
     def is_name(self) -> bool:
         return NAME_FORM.fullmatch(self.text) is not None
@@ -45,10 +62,11 @@ class Token(NamedTuple):
 
 @dataclass
 class Template:
-    """A template as written: a name alone, or a head with arguments."""
+    """A template as written: a name alone, or a head with arguments; as a whole result also a nonterminal with a text."""
     head: Token
     arguments: Optional[List["Template"]]
     spot: Spot
+    text: Optional[Token] = None
 
 
 @dataclass
@@ -120,32 +138,74 @@ def raw_words(path: str, number: int, line: str) -> List[Token]:
     return out
 
 
-def lexemes(path: str, number: int, line: str) -> List[Token]:
-    out = []
-    for m in LEXEME.finditer(line):
-        text, spot = m.group(), Spot(path, number, m.start() + 1, len(m.group()), line)
-        if text == "#":
-            break
-        if text == '"':
-            raise Trouble("a keyword opens here with a quote, and no quote closes it in this line", spot)
-        if text == '""':
-            raise Trouble("a keyword has at least one character between its quotes", spot)
-        if text in OTHER_QUOTES:
-            raise Trouble('a keyword stands between straight double quotes, as "half"; this is another sign', spot)
-        out.append(Token(text, spot))
-    return out
+def check_lexeme(text: str, spot: Spot) -> None:
+    if text == '"':
+        raise Trouble("a keyword opens here with a quote, and no quote closes it in this line", spot)
+    if text == '""':
+        raise Trouble("a keyword has at least one character between its quotes", spot)
+    if text in OTHER_QUOTES:
+        raise Trouble('a keyword stands between straight double quotes, as "half"; this is another sign', spot)
+
+
+class Lexer:
+    """The tokens of lines, one after the other. A text may go on from line to line: `opened` is the spot of its `<<`, `pieces` what there is of it."""
+
+    def __init__(self, path: str):
+        self.path, self.out = path, []
+        self.opened: Optional[Spot] = None
+        self.pieces: List[Spot] = []
+
+    def line(self, number: int, line: str) -> None:
+        """The tokens of a line; none if there is trouble in it."""
+        at, before = 0, len(self.out)
+        try:
+            while at is not None:
+                at = self.lexemes(number, line, at) if self.opened is None else self.text(number, line, at)
+        except Trouble:
+            del self.out[before:]
+            raise
+
+    def lexemes(self, number: int, line: str, at: int) -> Optional[int]:
+        """The tokens from a column on; where a text begins, if one does."""
+        for m in LEXEME.finditer(line, at):
+            text, spot = m.group(), Spot(self.path, number, m.start() + 1, len(m.group()), line)
+            if text == "#":
+                return None
+            if text == TEXT_BEGINS and HAS_TEXTS:
+                self.opened, self.pieces = spot, []
+                return m.end()
+            check_lexeme(text, spot)
+            self.out.append(Token(text, spot))
+        return None
+
+    def text(self, number: int, line: str, at: int) -> Optional[int]:
+        """A text from a column on; where it ends, if it does in this line."""
+        end = line.find(TEXT_ENDS, at)
+        self.pieces.append(Spot(self.path, number, at + 1, (len(line) if end < 0 else end) - at, line))
+        if end < 0:
+            return None
+        first = self.opened
+        width = (end + 2 if first.line == number else len(first.text.rstrip())) - first.column + 1
+        self.out.append(Token("<<..>>", first._replace(width=width), tuple(self.pieces)))
+        self.opened = None
+        return end + 2
 
 
 def tokens(path: str, lines: List[str], troubles: List[Trouble]) -> List[Token]:
     """The tokens of all lines; a line that has none gives its trouble."""
-    out = []
+    lexer = Lexer(path)
     for number, line in enumerate(lines, 1):
         first = (line.split(None, 1) or [""])[0]
         try:
-            out += raw_words(path, number, line) if first in WORD_LINES else lexemes(path, number, line)
+            if lexer.opened is None and first in WORD_LINES:
+                lexer.out += raw_words(path, number, line)
+            else:
+                lexer.line(number, line)
         except Trouble as e:
             troubles.append(e)
-    return out
+    if lexer.opened is not None:
+        troubles.append(Trouble("this text is never closed: `>>` ends it", lexer.opened))
+    return lexer.out
 
 
 def quoted(word: Token) -> Token:
@@ -189,10 +249,14 @@ class Parser:
         found = self.peek()
         if found.text == ",":
             return Trouble("no commas: parameters and arguments are separated by blanks", found.spot)
-        if found.text in ("<<", ">>"):
+        if not HAS_TEXTS and found.text in (TEXT_BEGINS, TEXT_ENDS):
             return Trouble("patterns in << >> are left out of this notation: write the result with constructors", found.spot)
-        if found.text == "pIde":
+        if not HAS_TEXTS and found.text == "pIde":
             return Trouble("pIde is left out of this notation, as patterns are", found.spot)
+        if found.is_text():
+            return Trouble("a text stands as a whole result, directly behind the nonterminal that it is read as, as in term<<$a($b)>>", found.spot)
+        if found.text == TEXT_ENDS:
+            return Trouble("no text is open that `>>` could end", found.spot)
         hint = hint or self.habit()
         shown = "`%s`" % found.text if found.text else "the end of the file"
         return Trouble("found %s, expected %s%s" % (shown, expected, hint), found.spot)
@@ -323,7 +387,14 @@ class Parser:
                 raise self.surprise("`=>` and what this alternative gives")
             items.append(self.item())
         self.take()
-        return Alternative(spot, items, self.template())
+        return Alternative(spot, items, self.result())
+
+    def result(self) -> Template:
+        """A template, or a nonterminal with the text that is read as it."""
+        if self.peek().is_name() and self.peek(1).is_text():
+            head, text = self.own_name("a nonterminal"), self.take()
+            return Template(head, None, self.span(head.spot), text)
+        return self.template()
 
     def item(self) -> Item:
         spot, name = self.peek().spot, None
@@ -331,8 +402,8 @@ class Parser:
             name = self.own_name("a variable")
             self.take()
         what = self.peek()
-        if not what.is_keyword() and (not what.is_name() or what.text == "pIde"):
-            raise self.surprise("an item (a keyword in quotes, ide, number, local or a nonterminal) or `=>`")
+        if not what.is_keyword() and (not what.is_name() or what.text == "pIde" and not HAS_TEXTS):
+            raise self.surprise("%s or `=>`" % ITEMS)
         self.take()
         item = Item(spot, name, what)
         self.item_rest(item)
@@ -340,9 +411,12 @@ class Parser:
         return item
 
     def item_rest(self, item: Item) -> None:
-        """The sort of ide, or the arguments of a call."""
+        """The sort of ide or of pIde, or the arguments of a call."""
         what = item.what
-        if what.text == "ide" and self.peek().text == ":":
+        if what.text == "pIde":
+            self.expect(":", "then the sort of the variable that may stand here in a text, as in pIde:Term")
+            item.sort = self.sort()
+        elif what.text == "ide" and self.peek().text == ":":
             self.take()
             item.sort = self.sort()
         elif not what.is_keyword() and self.peek().text == "(":
@@ -358,8 +432,11 @@ class Parser:
         if not self.peek().is_name():
             raise self.surprise("a variable, a constructor, global(..), label(..) or a nonterminal")
         head = self.take()
-        if self.peek().text == "<<":
+        if self.peek().text == TEXT_BEGINS:
             raise self.surprise("a result")
+        if self.peek().is_text():
+            raise Trouble("a text is a whole result, and no argument: a nonterminal of its own can give it, as `composed(a b)` of examples/texts.grammar",
+                          self.peek().spot)
         arguments = self.arguments() if self.peek().text == "(" else None
         return Template(head, arguments, self.span(head.spot))
 

@@ -4,27 +4,30 @@ What has no bytes is refused here, with its spot: an unknown name, a wrong count
 written and judged by the proved check.
 """
 import re
-from typing import Dict, List, NamedTuple, Optional, Sequence, Set
+from typing import Dict, List, Mapping, NamedTuple, Optional, Sequence, Set
 
 from . import notation
 from .notation import Alternative, Definition, Item, Notation, Token
 from .source import DISK, Disk, Spot, Trouble, counted, listed, near, stand
-from .table import (ALTERNATIVE, BINDER, BLOCK, BY_NAME, DEFINITION, GLOBAL, IS_CALL, IS_IDE, IS_KEYWORD, IS_LOCAL, IS_NUMBER, ITEM, KEYWORD,
-                    LABEL, NAME, OUTSIDE_LABEL, RESULT, ROOT, SORTS, VAR, VARIABLES, encode)
+from .table import (ALTERNATIVE, BINDER, BLOCK, BY_NAME, DEFINITION, GLOBAL, IS_CALL, IS_IDE, IS_KEYWORD, IS_LOCAL, IS_NUMBER, IS_PLACE, ITEM,
+                    KEYWORD, LABEL, NAME, OUTSIDE_LABEL, RESULT, ROOT, SORTS, TEXT, VAR, VARIABLES, encode)
 
 NUMBERED = re.compile(r"n(0|[1-9]\d{0,2})")
+# a text's parts: a variable by its name, a byte by its digits, any other sign
+TEXT_PART = re.compile(r"\$(?P<name>[A-Za-z][A-Za-z0-9_]*)|\\(?P<byte>[0-9A-Fa-f]{2})|.")
 OTHER_ITEMS = {"number": IS_NUMBER, "local": IS_LOCAL}
 
 
 class Packed(NamedTuple):
-    """A table with what its bytes leave out: where each field was written, the names of nonterminals and of each alternative's variables; and the
-    files that its notation was read from."""
+    """A table with what its bytes leave out: where each field was written, the names of nonterminals and of each alternative's variables; the files that its
+    notation was read from; and for the place of each text where its bytes were written."""
     data: bytes
     spots: Dict[int, Spot]
     nonterminals: Dict[int, str]
     variables: Dict[int, Dict[int, str]]
     warnings: Sequence[Trouble] = ()
     files: Disk = DISK
+    texts: Mapping[int, Sequence[Spot]] = {}
 
 
 def spelled(keyword: Token) -> str:
@@ -99,7 +102,7 @@ class Packer:
         self.parameters: Dict[str, List[int]] = {}
         for d in all_definitions(n):
             self.parameters.setdefault(d.name.text, [s for _, s in d.parameters])
-        self.data, self.spots, self.variables = bytearray(), {}, {}
+        self.data, self.spots, self.variables, self.texts = bytearray(), {}, {}, {}
         self.warnings: List[Trouble] = []
         self.troubles: List[Trouble] = []
 
@@ -114,7 +117,8 @@ class Packer:
                 self.definition(d)
         if self.notation.root is not None:
             self.put(ROOT, bytes([self.nonterminal(self.notation.root)]), self.notation.root.spot)
-        return Packed(bytes(self.data), self.spots, {v: k for k, v in self.numbers.items()}, self.variables, self.warnings, self.notation.files)
+        names = {v: k for k, v in self.numbers.items()}
+        return Packed(bytes(self.data), self.spots, names, self.variables, self.warnings, self.notation.files, self.texts)
 
     def put(self, tag: int, value: bytes, spot: Spot) -> None:
         if len(value) > 0xFFFF:
@@ -154,16 +158,47 @@ class Packer:
             if item.name is not None:
                 variables[item.name.text] = count
             count += 1
-        if self.is_last_call(a, variables):
+        if a.result.text is not None:
+            self.text(a.result, variables)
+        elif self.is_last_call(a, variables):
             self.put(RESULT, bytes([self.variable(count - 1, a.result.head)]), a.result.spot)
         else:
             self.put(RESULT, self.template(a.result, variables), a.result.spot)
         self.variables[place] = {i: name for name, i in variables.items()}
 
+    def text(self, t: notation.Template, variables: Dict[str, int]) -> None:
+        """A result as a text: its nonterminal, and the bytes of the text, with where each of them stands."""
+        value, spots = bytearray([self.nonterminal(t.head)]), []
+        for at, piece in enumerate(t.text.pieces):
+            if at:
+                value += b"\n"
+                spots.append(piece._replace(width=1))
+            written = piece.text[piece.column - 1:piece.column - 1 + piece.width]
+            for m in TEXT_PART.finditer(written):
+                spot = piece._replace(column=piece.column + m.start(), width=len(m.group()))
+                part = self.text_part(m, spot, variables)
+                value += part
+                spots += [spot] * len(part)
+        self.texts[len(self.data)] = spots
+        self.put(TEXT, bytes(value), t.spot)
+
+    def text_part(self, m: "re.Match[str]", spot: Spot, variables: Dict[str, int]) -> bytes:
+        name, byte = m.group("name"), m.group("byte")
+        if byte is not None:
+            return bytes([int(byte, 16)])
+        if name is None:
+            if m.group() == "\\":
+                raise Trouble("behind a backslash in a text stand the two hex digits of a byte; \\5c is a backslash", spot)
+            return m.group().encode("utf-8")
+        if name not in variables:
+            hint = near(name, variables) or ("; the outside name is written without `$`" if name in self.names else "")
+            raise Trouble("`$%s` is no variable of this alternative%s" % (name, hint), spot)
+        return b"$%d" % variables[name]
+
     def is_last_call(self, a: Alternative, variables: Dict[str, int]) -> bool:
         head = a.result.head
         declared = set(variables) | {i.name.text for i in a.items if i.name is not None}
-        return head.text not in declared and head.text not in notation.RESERVED and head.text in self.numbers
+        return a.result.text is None and head.text not in declared and head.text not in notation.RESERVED and head.text in self.numbers
 
     def last_call(self, a: Alternative, variables: Dict[str, int]) -> List[Item]:
         """A nonterminal as the result is one more item."""
@@ -181,6 +216,8 @@ class Packer:
             return bytes([IS_KEYWORD, self.byte(self.keyword_numbers[spelled(what)], "keyword", what.spot)])
         if what.text == "ide":
             return bytes([IS_IDE, self.ide_sort(d, a, item) if item.sort is None else item.sort])
+        if what.text == "pIde":
+            return bytes([IS_PLACE, item.sort])
         if what.text in OTHER_ITEMS:
             return bytes([OTHER_ITEMS[what.text], 0])
         if what.text not in self.numbers:
@@ -253,6 +290,8 @@ class Packer:
         found: Set[int] = set()
 
         def look(t: notation.Template, sort: Optional[int]) -> None:
+            if t.text is not None:
+                return
             if t.head.text in BY_NAME:
                 for at, x in enumerate(t.arguments or []):
                     look(x, place_sort(list(BY_NAME[t.head.text].arguments), at))

@@ -5,8 +5,9 @@ The answer is that of the proved expander; this finds the item and the calls tha
 import re
 from typing import Any, Dict, List, NamedTuple, Optional, Tuple
 
-from .grammar import NUMBER_BIT, WORD_BIT, Alternative, Grammar, keyword_bit
-from .table import BY_CODE, IS_CALL, IS_KEYWORD, IS_LOCAL, KEYWORD, VARIABLES, Field, Template, TemplateFault, read_result, read_templates, spellings
+from .grammar import NUMBER_BIT, TOKEN_KINDS, WORD_BIT, Alternative, Grammar, keyword_bit
+from .table import (BY_CODE, IS_CALL, IS_KEYWORD, IS_LOCAL, IS_PLACE, KEYWORD, TEXT, VARIABLES, Field, Template, TemplateFault, read_result,
+                    read_templates, spellings)
 
 TOKEN = re.compile(rb"[A-Za-z][A-Za-z0-9_]*|[0-9]+|[^\t\n\r ]")
 LONGEST_WORD, LARGEST_NUMBER = 31, 999999999
@@ -78,6 +79,8 @@ class Fresh(NamedTuple):
 
 
 class Reading:
+    """A reading of a formula."""
+
     def __init__(self, grammar: Grammar, tokens: List[Token], rows: int):
         self.grammar, self.tokens, self.rows = grammar, tokens, rows
         self.at = self.calls = self.cells = self.fresh = 0
@@ -88,7 +91,7 @@ class Reading:
         return self.at < len(self.tokens) and bits >> self.tokens[self.at].bit & 1 == 1
 
     def stop(self, number: int, item: Optional[Field], alternative: Optional[Alternative]) -> Stop:
-        return Stop(number, self.at, item, alternative, list(self.open), self.passed.get(self.at, 0))
+        return Stop(number, self.at, item, alternative, list(self.open), self.passed.get(self.at, 0) & TOKEN_KINDS)
 
     def whole(self) -> Any:
         value = self.call(self.grammar.root, (), None, None)
@@ -124,7 +127,14 @@ class Reading:
             values.append(self.item(f, a, values))
         if a.result is None:
             raise TemplateFault("there is no result")
-        return self.build(read_result(a.result.value), values, a.result, a)
+        return self.build(self.template(a), values, a.result, a)
+
+    def template(self, a: Alternative) -> Template:
+        """The template of a result, or the one that its text stands for."""
+        if a.result.tag != TEXT:
+            return read_result(a.result.value)
+        from .texts import template_of  # texts are read by a reading, too
+        return template_of(self.grammar, a)
 
     def item(self, f: Field, a: Alternative, values: List[Any]) -> Any:
         if f.value[0] == IS_CALL:
@@ -133,7 +143,7 @@ class Reading:
         if f.value[0] == IS_LOCAL:
             self.fresh += 1
             return Fresh(self.fresh, f)
-        if not self.fits(self.grammar.item_first(f)):
+        if f.value[0] == IS_PLACE or not self.fits(self.grammar.item_first(f)):
             raise self.stop(17, f, a)
         self.at += 1
         return None if f.value[0] == IS_KEYWORD else self.tokens[self.at - 1]

@@ -1,11 +1,16 @@
 """From the bytes of a table to its notation, in which nonterminal K is nK and variable K of an alternative vK. Packing it gives the same bytes. A remark tells
 which keywords are given back."""
+import re
 from typing import List, Set, Tuple
 
 from .grammar import Grammar
 from .source import Trouble
-from .table import (ALTERNATIVE, BLOCK, BY_CODE, DEFINITION, GLOBAL, IS_CALL, IS_IDE, IS_KEYWORD, IS_LOCAL, ITEM, KEYWORD, MODES, NAME, RESULT,
-                    ROOT, SORTS, VARIABLES, Field, Template, TemplateFault, read_fields, read_result, read_templates, size_at, spellings)
+from .table import (ALTERNATIVE, BLOCK, BY_CODE, DEFINITION, GLOBAL, IS_CALL, IS_IDE, IS_KEYWORD, IS_LOCAL, IS_PLACE, ITEM, KEYWORD, LAST_TAG, MODES,
+                    NAME, RESULT, ROOT, SORTS, TEXT, VARIABLES, Field, Template, TemplateFault, read_fields, read_result, read_templates, size_at,
+                    spellings)
+
+# a text's parts: a variable that can be named, as no word follows it; a byte that cannot stand in a notation, or means something else there; any other
+TEXT_PART = re.compile(rb"\$(?P<variable>0|[1-9][0-9]?)(?![A-Za-z0-9_])|(?P<byte>[^ -~]|\\|>(?=>|\Z)|\$(?=[A-Za-z]))|.", re.DOTALL)
 
 
 class Unshown(Exception):
@@ -32,6 +37,18 @@ def used_variables(t: Template) -> Set[int]:
     return {t.head} if t.head < VARIABLES else set().union(*(used_variables(x) for x in t.arguments))
 
 
+def text_shown(text: bytes, variables: int) -> Tuple[str, Set[int]]:
+    """A text as it is written between << and >>, and the variables that it names, of so many."""
+    out, used = [], set()
+    for m in TEXT_PART.finditer(text):
+        if m.group("variable") and int(m.group("variable")) < variables:
+            used.add(int(m.group("variable")))
+            out.append("$v" + m.group("variable").decode("ascii"))
+        else:
+            out.append("\\%02x" % m.group()[0] if m.group("byte") else m.group().decode("ascii"))
+    return "".join(out), used
+
+
 class Shower:
     def __init__(self, data: bytes):
         self.fields = read_fields(data)
@@ -46,10 +63,11 @@ class Shower:
         self.words("keywords", ['"%s"' % k if k in '#"' else k for k in self.keywords])
         self.words("# given back, for no phrase that the root reaches has them:", list(self.given_back.values()))
         self.words("names", self.names)
-        parts = {BLOCK: self.block, DEFINITION: self.definition, ALTERNATIVE: self.alternative, ITEM: self.item, RESULT: self.result, ROOT: self.root}
+        parts = {BLOCK: self.block, DEFINITION: self.definition, ALTERNATIVE: self.alternative, ITEM: self.item, RESULT: self.template, TEXT: self.text,
+                 ROOT: self.root}
         for f in self.fields:
             if f.tag not in parts and f.tag not in (KEYWORD, NAME):
-                raise Trouble("byte %d: tag %02x is none of 01 to 08" % (f.place, f.tag))
+                raise Trouble("byte %d: tag %02x is none of 01 to %02x" % (f.place, f.tag, LAST_TAG))
             try:
                 parts.get(f.tag, lambda _: None)(f)
             except (Unshown, TemplateFault, IndexError) as e:
@@ -91,6 +109,8 @@ class Shower:
             text = '"%s"' % self.keywords[operand]
         elif kind == IS_IDE:
             text = "ide:" + sort_name(operand)
+        elif kind == IS_PLACE:
+            text = "pIde:" + sort_name(operand)
         elif kind == IS_CALL:
             arguments = read_templates(f.value[2:])
             used = set().union(*(used_variables(t) for t in arguments))
@@ -101,11 +121,19 @@ class Shower:
             raise Unshown("%d is no kind of item" % kind)
         self.items.append((text, used))
 
-    def result(self, f: Field) -> None:
+    def template(self, f: Field) -> None:
         template = read_result(f.value)
-        used = used_variables(template).union(*(u for _, u in self.items))
+        self.result(template_text(template, self.names), used_variables(template))
+
+    def text(self, f: Field) -> None:
+        written, used = text_shown(f.value[1:], self.parameters + len(self.items))
+        self.result("n%d<<%s>>" % (f.value[0], written), used)
+
+    def result(self, written: str, used: Set[int]) -> None:
+        """An alternative whose result uses some variables."""
+        used = used.union(*(u for _, u in self.items))
         shown = ["v%d=%s" % (i, text) if i in used else text for i, (text, _) in enumerate(self.items, self.parameters)]
-        self.out.append("    %s => %s" % (" ".join([" " if self.first else "|"] + shown), template_text(template, self.names)))
+        self.out.append("    %s => %s" % (" ".join([" " if self.first else "|"] + shown), written))
         self.first = False
 
     def root(self, f: Field) -> None:

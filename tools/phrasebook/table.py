@@ -1,18 +1,23 @@
 """The bytes of a phrase table, as document 01 lays them out under "Phrase table"."""
 from typing import Dict, List, NamedTuple, Tuple
 
+from .level import HAS_TEXTS
+
 SORTS = ("Unit", "Var", "Binder", "Label", "Term", "Fields", "Num")
 UNIT, VAR, BINDER, LABEL, TERM, FIELDS, NUM = range(7)
 MODES = ("==", "|==", ":=")
 ADD, EXTEND, UPDATE = range(3)
 
 KEYWORD, NAME, BLOCK, DEFINITION, ALTERNATIVE, ITEM, RESULT, ROOT = range(1, 9)
-TAGS = {KEYWORD: "keyword", NAME: "outside name", BLOCK: "block", DEFINITION: "definition", ALTERNATIVE: "alternative",
-        ITEM: "item", RESULT: "result", ROOT: "root"}
 IS_KEYWORD, IS_IDE, IS_NUMBER, IS_LOCAL, IS_CALL = range(5)
+# A result as a text and a pattern place, from level 14 on; below it they are numbers that no byte is.
+TEXT, IS_PLACE = (9, 5) if HAS_TEXTS else (-1, -1)
+LAST_TAG, LAST_KIND = max(ROOT, TEXT), max(IS_CALL, IS_PLACE)
+TAGS = {KEYWORD: "keyword", NAME: "outside name", BLOCK: "block", DEFINITION: "definition", ALTERNATIVE: "alternative",
+        ITEM: "item", RESULT: "result", ROOT: "root", TEXT: "result as a text"}
 
-# a template's bytes: variables below, an outside name as Var, as Label, constructors from 20 (hex)
-VARIABLES, GLOBAL, OUTSIDE_LABEL = 0x10, 0x10, 0x11
+# a template's bytes: variables below, an outside name as Var, as Label, constructors from 20 (hex); a Unit that a text reads has no byte
+VARIABLES, GLOBAL, OUTSIDE_LABEL, UNIT_READ = 0x10, 0x10, 0x11, 0xFF
 
 MOST_BYTES, MOST_NONTERMINALS, MOST_PARAMETERS, LONGEST_WORD = 16384, 64, 4, 31
 MOST = {KEYWORD: 62, NAME: 64, BLOCK: 16, ALTERNATIVE: 256, ITEM: 12}

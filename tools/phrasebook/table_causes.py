@@ -1,14 +1,18 @@
 """The causes that lie in a table, 1 to 13, in words."""
-from typing import Callable, List, Optional
+from typing import Callable, Iterator, List, Optional, Tuple
 
+from . import text_causes
 from .case import Case
-from .grammar import Definition
+from .grammar import FIRST_PLACE, FIRST_VARIABLE, Alternative, Definition, Grammar
 from .pack import defined_beside
 from .sorting import complaint, undefined
 from .source import counted
-from .table import (ALTERNATIVE, BLOCK, DEFINITION, EXTEND, IS_CALL, IS_IDE, IS_LOCAL, IS_NUMBER, ITEM, KEYWORD, LONGEST_WORD, MODES, MOST,
-                    MOST_BYTES, MOST_NONTERMINALS, MOST_PARAMETERS, NAME, RESULT, ROOT, SORTS, TAGS, TERM, Field, TemplateFault, read_result,
-                    read_templates, size_at, sort_name)
+from .table import (ALTERNATIVE, BLOCK, DEFINITION, EXTEND, IS_CALL, IS_IDE, IS_LOCAL, IS_NUMBER, IS_PLACE, ITEM, KEYWORD, LAST_KIND, LAST_TAG,
+                    LONGEST_WORD, MODES, MOST, MOST_BYTES, MOST_NONTERMINALS, MOST_PARAMETERS, NAME, RESULT, ROOT, SORTS, TAGS, TERM, TEXT, Field,
+                    TemplateFault, read_result, read_templates, size_at, sort_name)
+
+# the bit of 13 if alternatives share nothing and are empty
+EMPTY = 64
 
 
 def article(tag: int) -> str:
@@ -40,11 +44,13 @@ def why_unknown(f: Field) -> str:
     """What is not known in a field."""
     v = f.value
     if f.tag not in TAGS:
-        return "tag %02x is none of 01 to 08" % f.tag
+        return "tag %02x is none of 01 to %02x" % (f.tag, LAST_TAG)
     if f.tag in (BLOCK, ALTERNATIVE):
         return "%s is empty, and this one has %s" % (article(f.tag), counted(len(v), "byte"))
     if f.tag == ROOT:
         return "a root is one nonterminal" if len(v) != 1 else number_too_high(v[0])
+    if f.tag == TEXT:
+        return number_too_high(v[0]) if v else "a text stands behind the nonterminal that it is read as"
     if f.tag == DEFINITION:
         return why_unknown_head(v)
     return why_unknown_item(v) if f.tag == ITEM else ""
@@ -70,12 +76,14 @@ def why_unknown_head(v: bytes) -> str:
 def why_unknown_item(v: bytes) -> str:
     if len(v) < 2:
         return "an item has a kind and an operand"
-    if v[0] > IS_CALL:
-        return "%d is no kind of item: they are 0 to 4" % v[0]
+    if v[0] > LAST_KIND:
+        return "%d is no kind of item: they are 0 to %d" % (v[0], LAST_KIND)
     if v[0] == IS_CALL:
         return number_too_high(v[1])
     if len(v) > 2:
         return "only a call has bytes behind its operand"
+    if v[0] == IS_PLACE:
+        return "%d is the code of no sort: they are 0 to 6" % v[1] if v[1] >= len(SORTS) else ""
     if v[0] == IS_IDE and not 1 <= v[1] <= 3:
         return "ide gives a word, and a word is a Var, a Binder or a Label, not %s" % (sort_name(v[1]))
     return "the operand of number and local is 0" if v[0] in (IS_NUMBER, IS_LOCAL) and v[1] else ""
@@ -202,11 +210,11 @@ def body_line(case: Case, judge: Callable[..., Optional[str]]) -> List[str]:
 
 
 def not_defined(case: Case) -> List[str]:
-    return body_line(case, undefined)
+    return text_causes.not_defined(case) if text_causes.is_at_text(case) else body_line(case, undefined)
 
 
 def wrong_sort(case: Case) -> List[str]:
-    return body_line(case, complaint)
+    return text_causes.wrong_sort(case) if text_causes.is_at_text(case) else body_line(case, complaint)
 
 
 def bad_template(case: Case) -> List[str]:
@@ -220,26 +228,48 @@ def bad_template(case: Case) -> List[str]:
     return []
 
 
+def tested(case: Case) -> Iterator[Tuple[Grammar, List[str]]]:
+    """What is tested for 12 and 13, and how it is named: the blocks before each text, then the whole table."""
+    for a in case.grammar.texts():
+        yield case.grammar.before(a.definition.block), ["so it is in the blocks before the text at %s, which is read by them" % case.where(a.result.place)]
+    yield case.grammar, []
+
+
 def left_recursion(case: Case) -> List[str]:
+    found = next(((g, named) for g, named in tested(case) if g.left_cycle(case.a)), None)
+    if found is None:
+        return []
     out = []
-    for f in case.grammar.left_cycle(case.a):
+    for f in found[0].left_cycle(case.a):
         a = case.grammar.alternative_of(f.place)
         out += case.at(f.place, "%s can begin with %s" % (case.nonterminal(a.definition.nonterminal), case.nonterminal(f.value[1])))
     cure = ["what goes on behind a term is a nonterminal of its own that takes the term as a parameter, as `termIter` of house.grammar"]
-    return ["%s is the nonterminal; this is its way to itself:" % case.nonterminal(case.a)] + out + cure if out else []
+    return ["%s is the nonterminal; this is its way to itself:" % case.nonterminal(case.a)] + out + found[1] + cure
+
+
+def clashing(case: Case, g: Grammar) -> List[Alternative]:
+    """The alternatives that the refusal is about, in the table or in the blocks before a text."""
+    own = g.productions.get(case.a, []) if case.b < FIRST_VARIABLE else []
+    return [a for a in own if (g.empty(a) if case.b == EMPTY else g.own_firsts[a.field.place] >> case.b & 1)]
 
 
 def clash(case: Case) -> List[str]:
-    own, g = case.grammar.productions.get(case.a, []), case.grammar
-    two = [a for a in own if (g.empty(a) if case.b == 64 else g.own_firsts[a.field.place] >> min(case.b, 64) & 1)]
-    if len(two) < 2:
+    found = next(((two, named) for g, named in tested(case) for two in [clashing(case, g)] if len(two) > 1), None)
+    if found is None:
         return []
-    how = "can be empty" if case.b == 64 else "can begin with " + case.kinds(1 << case.b)[0]
+    two, named = found
+    if case.b > EMPTY:
+        how = "can begin with a pattern place for a %s" % sort_name(case.b - FIRST_PLACE)
+    else:
+        how = "can be empty" if case.b == EMPTY else "can begin with " + case.kinds(1 << case.b)[0]
     out = ["these alternatives of %s %s:" % (case.nonterminal(case.a), how)]
     for a in two:
         first = (a.items or [a.result or a.field])[0]
         out += case.at(first.place, "an alternative")
-    if case.b == 64:
+    out += named
+    if case.b > EMPTY:
+        return out + ["one alternative of a nonterminal has a pattern place of a sort: leave one of these out"]
+    if case.b == EMPTY:
         return out + ["one alternative at most is empty: give one of these a keyword of its own"]
     return out + ["let one alternative read what they share, and call a nonterminal for the rest; a phrase that stands behind a term, as `a*b`, is an",
                   "alternative of the nonterminal that goes on behind a term, as `termIter` of house.grammar"]

@@ -121,6 +121,11 @@ fn run(request: u8, level: Level) -> usize {
 }
 
 #[test]
+fn the_present_level_is_that_of_the_archive() {
+    assert_eq!(include_str!("../../../level.txt").trim(), PRESENT.0.to_string());
+}
+
+#[test]
 fn every_case_at_the_present_level() {
     for request in 11..=PRESENT.0 {
         assert!(run(request, PRESENT) > 0);
