@@ -1,10 +1,11 @@
 -- Laws of gathering what reads a variable first: one item, the loop over the items of an alternative, the round over productions, and all rounds.
 use Prim.Native.Nat.{ℕ, zero, suc, _+_, _-_, _<_, _≤_}
 use mathlib.Core.Path.{_≡_, refl, sym, ap, _∙_}
-use mathlib.Core.Bool.{Bool, true, false}
+use mathlib.Core.Bool.{Bool, true, false, not, _||_, true≢false}
 use mathlib.Core.List.{List, [], _∷_}
 use native.Mathlib.Omega.{arith}
-use native.Mathlib.Numerals.{add-one}
+use lib.Dec.{eqb}
+use borrow.Author.Tests.{eqb-true}
 use lib.Bits.{bitOr, or-zero-r}
 use lib.ListN.{length, getD, set, replicate, length-set}
 use Rattle.kinds.specs.Kinds.{hasKind, only}
@@ -22,7 +23,8 @@ use Rattle.productions.specs.Symbols.{terminalIn, symbolOf, withSymbol, symbolS
 use Rattle.productions.proofs.SymbolLaws.{stepped, step-less, items-end}
 use Rattle.firsts.specs.FirstSets.{rounds, overAll, isNullable, joined, gather, firstStep, setsOf}
 use Rattle.firsts.specs.Patterns.{onlyIf, patternOf, patternSets}
-use Rattle.firsts.proofs.StepLaws.{Over, over-start, over-next, over-end}
+use Rattle.firsts.proofs.StepLaws.{Over, over-start, over-next, over-end, join-past}
+use Rattle.patterns.specs.Grown.{Grown}
 
 -- ------------------------------------------------------------------ one item
 
@@ -140,38 +142,73 @@ module _ {bs : List ℕ} {nulls : ℕ} {sets : List ℕ} {start found at : ℕ} 
 
 -- ------------------------------------------------------------------ productions
 
+-- A set that is replaced,
+pub join-inside : (sets : List ℕ) (owner found : ℕ) → owner < length sets → {joined-set : ℕ} → joined-set ≡ bitOr (getD sets owner 0) found
+    → Grown (set sets owner (bitOr (getD sets owner 0) found)) sets (set sets owner joined-set) (not (eqb joined-set (getD sets owner 0)))
+join-inside sets owner found l {joined-set} e =
+    record { sets-are = ap (set sets owner) e; kept = λ same. ap (set sets owner) (not-grown same) ∙ set-back sets owner l }
+  where
+    not-false : (test : Bool) → not test ≡ false → test ≡ true
+    not-false true e = refl
+    not-false false e = absurd (true≢false e)
+
+    not-grown : not (eqb joined-set (getD sets owner 0)) ≡ false → joined-set ≡ getD sets owner 0
+    not-grown t = eqb-true joined-set (getD sets owner 0) (not-false (eqb joined-set (getD sets owner 0)) t)
+
+    set-back : (sets : List ℕ) (owner : ℕ) → owner < length sets → set sets owner (getD sets owner 0) ≡ sets
+    set-back [] owner l = absurd (omega arith)
+    set-back (x ∷ xs) zero l = refl
+    set-back (x ∷ xs) (suc owner) l = ap (λ (ys : List ℕ). x ∷ ys) (set-back xs owner (omega arith))
+
+-- and none past the last.
+pub join-outside : (sets : List ℕ) (owner value : ℕ) → length sets ≤ owner → Grown (set sets owner value) sets sets false
+join-outside sets owner value h = record { sets-are = join-past sets owner value h; kept = λ e. refl }
+
 -- What a production gives is joined to the set of its nonterminal.
 pub step-is : (nulls : ℕ) (bs : List ℕ) (owner start : ℕ) (sets : List ℕ) {found : ℕ} → found ≡ gather patternOf nulls sets (itemsOf (fieldsAt bs start)) 0
-    → {sets′ : List ℕ} → sets′ ≡ set sets owner (bitOr (getD sets owner 0) found) → sets′ ≡ firstStep patternOf nulls (productionAt bs owner start) sets
+    → {sets′ : List ℕ} {grew : Bool} → Grown (set sets owner (bitOr (getD sets owner 0) found)) sets sets′ grew
+    → Grown (firstStep patternOf nulls (productionAt bs owner start) sets) sets sets′ grew
 unfolding firstStep productionAt
-step-is nulls bs owner start sets e es = es ∙ rw e refl
+step-is nulls bs owner start sets e grown = record { sets-are = grown .sets-are ∙ rw e refl; kept = grown .kept }
 
--- the sets after the productions before number `turn`
-pub record Joining (nulls : ℕ) (bs owners starts : List ℕ) (many : ℕ) (sets₀ : List ℕ) (turn : ℕ) (sets : List ℕ) : Type 0 where
+-- the sets after the productions before number `turn`, and whether one grew
+pub record Joining (nulls : ℕ) (bs owners starts : List ℕ) (many : ℕ) (sets₀ : List ℕ) (turn : ℕ) (sets : List ℕ) (grew : Bool) : Type 0 where
   -- these, and the productions left, give those after a whole round
   pub over : Over (firstStep patternOf nulls) bs owners starts many sets₀ turn sets
   -- they are as many as before
   pub as-many : length sets ≡ length sets₀
+  -- where none grew they are as before
+  pub kept : grew ≡ false → sets ≡ sets₀
 
 -- All productions are left at first.
-pub joining-start : (nulls : ℕ) (bs owners starts : List ℕ) (many : ℕ) (sets : List ℕ) → Joining nulls bs owners starts many sets 0 sets
-joining-start nulls bs owners starts many sets = record { over = over-start (firstStep patternOf nulls) bs owners starts many sets; as-many = refl }
+pub joining-start : (nulls : ℕ) (bs owners starts : List ℕ) (many : ℕ) (sets : List ℕ) → Joining nulls bs owners starts many sets 0 sets false
+joining-start nulls bs owners starts many sets =
+    record { over = over-start (firstStep patternOf nulls) bs owners starts many sets; as-many = refl; kept = λ e. refl }
 
 step-length : (nulls : ℕ) (p : Production) (sets : List ℕ) → length (firstStep patternOf nulls p sets) ≡ length sets
 unfolding firstStep
 step-length nulls p sets = length-set sets (p .nonterminal) _
 
-module _ {nulls : ℕ} {bs owners starts : List ℕ} {many : ℕ} {sets₀ : List ℕ} {turn : ℕ} {sets : List ℕ}
-    (joining : Joining nulls bs owners starts many sets₀ turn sets) where
+module _ {nulls : ℕ} {bs owners starts : List ℕ} {many : ℕ} {sets₀ : List ℕ} {turn : ℕ} {sets : List ℕ} {grew : Bool}
+    (joining : Joining nulls bs owners starts many sets₀ turn sets grew) where
   -- One production more.
-  pub joining-next : turn < many → {owner start : ℕ} → owner ≡ getD owners turn 0 → start ≡ getD starts turn 0 → {sets′ : List ℕ}
-      → sets′ ≡ firstStep patternOf nulls (productionAt bs owner start) sets → Joining nulls bs owners starts many sets₀ (turn + 1) sets′
-  joining-next h eo es e =
-      record { over = over-next (joining .over) h eo es e; as-many = ap length e ∙ step-length nulls _ sets ∙ joining .as-many }
+  pub joining-next : turn < many → {owner start : ℕ} → owner ≡ getD owners turn 0 → start ≡ getD starts turn 0 → {sets′ : List ℕ} {more : Bool}
+      → Grown (firstStep patternOf nulls (productionAt bs owner start) sets) sets sets′ more
+      → Joining nulls bs owners starts many sets₀ (turn + 1) sets′ (grew || more)
+  joining-next h eo es {more = more} grown =
+      record {
+        over = over-next (joining .over) h eo es (grown .sets-are);
+        as-many = ap length (grown .sets-are) ∙ step-length nulls _ sets ∙ joining .as-many;
+        kept = λ e. let both = neither grew more e in grown .kept (both .1) ∙ joining .kept (both .0);
+      }
+    where
+      neither : (one other : Bool) → (one || other) ≡ false → (one ≡ false) × (other ≡ false)
+      neither true other e = absurd (true≢false e)
+      neither false other e = (refl, e)
 
   -- No production is left.
-  pub joining-end : many ≤ turn → sets ≡ overAll (firstStep patternOf nulls) (productionsBy many bs owners starts) sets₀
-  joining-end h = over-end (joining .over) h
+  pub joining-end : many ≤ turn → Grown (overAll (firstStep patternOf nulls) (productionsBy many bs owners starts) sets₀) sets₀ sets grew
+  joining-end h = record { sets-are = over-end (joining .over) h; kept = joining .kept }
 
 -- ------------------------------------------------------------------ rounds
 
@@ -185,13 +222,27 @@ pub rounding-start : (nulls : ℕ) (g : List Production) {sets : List ℕ} → s
 unfolding setsOf
 rounding-start nulls g e = record { rest = rw e refl }
 
+-- rounds that change nothing
+settled : {A : Type 0} (times : ℕ) (step : A → A) (state : A) → step state ≡ state → rounds times step state ≡ state
+unfolding rounds
+settled zero step state e = refl
+settled (suc times) step state e = ap (rounds times step) e ∙ settled times step state e
+
 module _ {nulls : ℕ} {g : List Production} {turn : ℕ} {sets : List ℕ} (rounding : Rounding nulls g turn sets) where
-  -- One round more.
-  pub rounding-next : turn < 64 → {sets′ : List ℕ} → sets′ ≡ overAll (firstStep patternOf nulls) g sets → Rounding nulls g (turn + 1) sets′
-  unfolding rounds
-  rounding-next l e =
-      let one : 64 - turn ≡ suc (64 - (turn + 1)) = omega arith in
-      record { rest = rw e (rw one at (rounding .rest)) }
+  module _ {sets′ : List ℕ} {grew : Bool} (grown : Grown (overAll (firstStep patternOf nulls) g sets) sets sets′ grew) where
+    -- One round more.
+    pub rounding-next : turn < 64 → Rounding nulls g (turn + 1) sets′
+    unfolding rounds
+    rounding-next l =
+        let one : 64 - turn ≡ suc (64 - (turn + 1)) = omega arith in
+        record { rest = rw (grown .sets-are) (rw one at (rounding .rest)) }
+
+    -- One that changes nothing is the last.
+    pub rounding-settled : grew ≡ false → sets′ ≡ patternSets nulls g
+    rounding-settled e =
+        grown .kept e
+        ∙ sym (settled (64 - turn) (overAll (firstStep patternOf nulls) g) sets (sym (grown .sets-are) ∙ grown .kept e))
+        ∙ rounding .rest
 
   -- No round is left.
   pub rounding-end : 64 ≤ turn → sets ≡ patternSets nulls g

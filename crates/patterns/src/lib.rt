@@ -22,6 +22,7 @@ ghost use Rattle.productions.specs.Index.{itemsOf, productionAt, productionsBy}
 ghost use Rattle.productions.specs.Symbols.{terminalIn, withSymbol};
 ghost use Rattle.firsts.specs.FirstSets.{isNullable, joined, gather, firstStep, overAll};
 ghost use Rattle.firsts.specs.Patterns.{onlyIf, patternOf, patternSets};
+ghost use Rattle.patterns.specs.Grown.{Grown};
 
 // The bit of an ide of a sort, of one that the layout passes.
 fn ide_bit(sort: u8) -> u64
@@ -90,40 +91,54 @@ pub fn gather(table: &[u8], start: usize, nulls: u64, sets: &[u64]) -> u64
     found
 }
 
-// Joins what was found to the set of nonterminal n.
-fn join_at(sets: &mut [u64], n: u8, found: u64)
-    ensures { λ r. ⌜ now (sets .exit) ≡ set (now (sets .entry)) n (bitOr (getD (now (sets .entry)) n 0) found) ⌝ }
+// Joins what was found to the set of nonterminal n; whether the set grew.
+fn join_at(sets: &mut [u64], n: u8, found: u64) -> bool
+    ensures { λ r. ⌜ Grown (set (now (sets .entry)) n (bitOr (getD (now (sets .entry)) n 0) found)) (now (sets .entry)) (now (sets .exit)) r ⌝ }
 {
     let i = n as usize;
     if i < sets.len() {
         let old = sets[i];
-        sets[i] = join(old, found);
+        let new = join(old, found);
+        sets[i] = new;
+        return new != old;
     }
+    false
 }
 
-// What a production gives is joined to the set of its nonterminal.
-fn step(table: &[u8], owner: u8, start: usize, nulls: u64, sets: &mut [u64])
-    ensures { λ r. ⌜ now (sets .exit) ≡ firstStep patternOf nulls (productionAt (now (table .entry)) owner start) (now (sets .entry)) ⌝ }
+// What a production gives is joined to the set of its nonterminal; whether the set grew.
+fn step(table: &[u8], owner: u8, start: usize, nulls: u64, sets: &mut [u64]) -> bool
+    ensures { λ r. ⌜ Grown (firstStep patternOf nulls (productionAt (now (table .entry)) owner start) (now (sets .entry)))
+        (now (sets .entry)) (now (sets .exit)) r ⌝ }
 {
     let found = gather(table, start, nulls, sets);
-    join_at(sets, owner, found);
+    join_at(sets, owner, found)
 }
 
-// One round: a step for each production, in order.
-fn round(table: &[u8], owners: &[u8], starts: &[u16], m: usize, nulls: u64, sets: &mut [u64])
-    ensures { λ r. ⌜ now (sets .exit) ≡ overAll (firstStep patternOf nulls) (productionsBy m (now (table .entry)) (now (owners .entry))
-        (now (starts .entry))) (now (sets .entry)) ⌝ }
+// One round: a step for each production, in order; whether a set grew.
+fn round(
+    table: &[u8],
+    owners: &[u8],
+    starts: &[u16],
+    m: usize,
+    nulls: u64,
+    sets: &mut [u64],
+) -> bool
+    ensures { λ r. ⌜ Grown (overAll (firstStep patternOf nulls) (productionsBy m (now (table .entry)) (now (owners .entry))
+        (now (starts .entry))) (now (sets .entry))) (now (sets .entry)) (now (sets .exit)) r ⌝ }
 {
+    let mut grew = false;
     let mut j: usize = 0;
     while j < m {
         let owner = byte(owners, j);
         let start = offset(starts, j);
-        step(table, owner, start, nulls, sets);
+        let more = step(table, owner, start, nulls, sets);
+        grew = grew | more;
         j += 1;
     }
+    grew
 }
 
-// What reads a variable first in the alternatives of each nonterminal.
+// What reads a variable first in the alternatives of each nonterminal: rounds, until one changes nothing.
 pub fn pattern_sets(
     table: &[u8],
     owners: &[u8],
@@ -137,7 +152,11 @@ pub fn pattern_sets(
     *sets = [0u64; EACH_NONTERMINAL];
     let mut k: usize = 0;
     while k < EACH_NONTERMINAL {
-        round(table, owners, starts, m, nulls, sets);
-        k += 1;
+        let grew = round(table, owners, starts, m, nulls, sets);
+        if grew {
+            k += 1;
+        } else {
+            return;
+        }
     }
 }

@@ -21,7 +21,10 @@ loop-again : tie.Need-loop-again Inv-loop μ-loop
 loop-again c = search laws.rounding-next
 
 returns : tie.Need-returns Inv-loop μ-loop
-returns c = search laws.rounding-end
+returns c = search laws.rounding-settled
+
+returns-2 : tie.Need-returns-2 Inv-loop μ-loop
+returns-2 c = search laws.rounding-end
 
 -- the function meets its contract
 pub pattern-sets-spec : {M : Type 1} → statement M
@@ -35,4 +38,5 @@ pattern-sets-spec =
     (λ c. search needs)
     (λ c. omega arith)
     loop-again
-    returns)
+    returns
+    returns-2)

@@ -6,10 +6,10 @@ use Rattle.patterns.proofs.round.Statement.{statement}
 use Rattle.patterns.proofs.round.Tie as tie
 
 abbrev Inv-loop : tie.InvT-loop
-Inv-loop table owners starts m nulls sets₀ j₀ sets j = laws.Joining nulls table owners starts m sets₀ j sets
+Inv-loop table owners starts m nulls sets₀ grew₀ j₀ sets grew j = laws.Joining nulls table owners starts m sets₀ j sets grew
 
 abbrev μ-loop : tie.MeasureT-loop
-μ-loop table owners starts m nulls sets₀ j₀ sets j = m - j
+μ-loop table owners starts m nulls sets₀ grew₀ j₀ sets grew j = m - j
 
 loop-holds : tie.Need-loop-holds Inv-loop μ-loop
 loop-holds c = laws.joining-start _ _ _ _ _ _
