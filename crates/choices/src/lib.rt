@@ -134,8 +134,8 @@ fn search_text(room: &[u64; ROOM], n: u8, kind: u32) -> usize
     nullable_place(room, n)
 }
 
-// Either, for a kind that no choice is remembered of.
-fn search_beyond(room: &[u64; ROOM], n: u8, kind: u32) -> usize
+// Either, by the kind.
+fn search_any(room: &[u64; ROOM], n: u8, kind: u32) -> usize
     requires { ⌜ HoldsSome (now room) × (n < most .nonterminals) ⌝ }
     ensures { λ r. ⌜ ((P : List Item → ℕ) (bs : List ℕ) → HeldFor P bs (now (room .entry)) → r ≡ chosenPlace (entriesFor P bs) n kind) ⌝ }
 {
@@ -158,14 +158,14 @@ pub fn choose(room: &[u64; ROOM], memory: &mut [u8; MEMORY], n: u8, kind: u32) -
         return NO_PLACE;
     }
     if NO_KIND <= kind {
-        return search_beyond(room, n, kind);
+        return search_any(room, n, kind);
     }
     let at = n as usize * KINDS + kind as usize;
     let known = wide_byte(memory[at]);
     if 0 < known {
         return known;
     }
-    let place = search(room, n, kind);
+    let place = search_any(room, n, kind);
     if place < NO_PLACE {
         memory[at] = place as u8;
     }

@@ -1,5 +1,5 @@
 -- What terminals take of their tokens' values; of a text's tokens, what an ide reads and what opens with them. Document 01, "Formula"; document 02, C-14:
--- "a formula whose tokens may be variables". For the kinds that a formula has, up to 64, all is as document 01 says (expansion/proofs/AsBefore).
+-- "stands where ide fits its sort", "an ide that fits goes before it". For the kinds that a formula has, up to 64, all is as document 01 says (AsBefore).
 use Prim.Native.Nat.{ℕ}
 use mathlib.Core.Bool.{Bool, true, false, not, _&&_, _||_}
 use lib.Dec.{eqb, ltb}

@@ -14,12 +14,11 @@ module _ {room memory : List ℕ} (may : MayChoose room memory) where
   some : HoldsSome room
   some = record { patterns = may .patterns; bs = may .bs; held = may .held }
 
-search-beyond-requires : tie.Need-search-beyond-requires
-search-beyond-requires c κs = (some (c .before .before .pre), c .before .if1 .left)
+search-any-requires : tie.Need-search-any-requires
+search-any-requires c κs = (some (c .before .before .pre), c .before .if1 .left)
 
-search-requires : tie.Need-search-requires
-search-requires c κs =
-    let at-place = c .before .before .before .before in (some (at-place .before .pre), at-place .if1 .left, omega (arith, c .before .before .before .if2 .left))
+search-any-requires-2 : tie.Need-search-any-requires-2
+search-any-requires-2 c κs = let at-place = c .before .before .before .before in (some (at-place .before .pre), at-place .if1 .left)
 
 returns : tie.Need-returns
 returns c =
@@ -27,7 +26,7 @@ returns c =
     record { place-is = laws.chosen-outside h _ _ (c .if1 .taken); memory-is = m }
 
 returns-2 : tie.Need-returns-2
-returns-2 c = λ P bs h m. record { place-is = c .search-beyond .ensures P bs h; memory-is = m }
+returns-2 c = λ P bs h m. record { place-is = c .search-any .ensures P bs h; memory-is = m }
 
 returns-3 : tie.Need-returns-3
 returns-3 c =
@@ -42,14 +41,14 @@ returns-4 : tie.Need-returns-4
 returns-4 c =
     λ P bs h m.
     let at-place = c .before .before .before .before .before in
-    let place-is = c .before .search .ensures P bs h in
+    let place-is = c .before .search-any2 .ensures P bs h in
     record {
       place-is = place-is;
       memory-is = laws.remembers-more m (at-place .before .if1 .left) (omega (arith, at-place .if2 .left)) place-is;
     }
 
 returns-5 : tie.Need-returns-5
-returns-5 c = λ P bs h m. record { place-is = c .before .search .ensures P bs h; memory-is = m }
+returns-5 c = λ P bs h m. record { place-is = c .before .search-any2 .ensures P bs h; memory-is = m }
 
 -- the function meets its contract
 pub choose-spec : {M : Type 1} → statement M
@@ -57,14 +56,14 @@ choose-spec =
     tie.close
     (tie.spec
     returns
-    search-beyond-requires
+    search-any-requires
     returns-2
     (λ c. search needs)
     (λ c. search needs)
     (λ c. search needs)
     (λ c κs. search needs)
     returns-3
-    search-requires
+    search-any-requires-2
     (λ c. search needs)
     (λ c. search needs)
     returns-4
