@@ -32,7 +32,7 @@ use Rattle.firsts.proofs.FirstsTheorems.{opens-exactly, production-opens-exactl
 use Rattle.expansion.specs.TextTokens.{isOpened, isPlaced}
 use Rattle.expansion.specs.Expansion.{Rule, ruleOf, Choice, unfit, chosen, firstRule, choice, readyFor}
 use Rattle.expansion.proofs.AsBefore.{opened-as-before, placed-never, opened-variable, placed-variable, opened-outside, placed-outside}
-use Rattle.choices.specs.Held.{HeldFor}
+use Rattle.choices.specs.Held.{HeldFor, HoldsSome}
 use Rattle.choices.specs.Chosen.{firstSetsOf, kindsIn, entriesFor, ofWith, opens, places, holdsKind, opensBy, opensSort, firstWith, orElse, chosenPlace}
 use Rattle.choices.specs.Chosen.{chosenStartFor, memorySize, slot, RemembersFor}
 
@@ -453,6 +453,15 @@ module _ {patterns : List Item → ℕ} {bs room : List ℕ} (held : HeldFor pat
     pub walk-start : {spot : ℕ} → spot ≡ firstPlaceIn room nonterminal → Walking (entriesFor patterns bs) nonterminal test spot
     walk-start e = walking-start (entriesFor patterns bs) entries-few nonterminal test (e ∙ first-place-in entries-held nonterminal small)
 
+    -- That is a place, or the one that is no production's.
+    pub first-within : {spot : ℕ} → spot ≡ firstPlaceIn room nonterminal → spot ≤ 256
+    first-within e =
+        omega (
+          arith,
+          e ∙ first-place-in entries-held nonterminal small,
+          landed (isOf nonterminal) (isOf nonterminal) (entriesFor patterns bs) 0 (omega (arith, entries-few)) .small,
+        )
+
     module _ {spot : ℕ} (walking : Walking (entriesFor patterns bs) nonterminal test spot) (less : spot < 256) where
       -- It ends at a place that passes the test.
       pub walk-found : test (getD (entriesFor patterns bs) spot noEntry) ≡ true → spot ≡ firstWith (entriesFor patterns bs) nonterminal test
@@ -711,3 +720,7 @@ module _ {patterns : List Item → ℕ} {bs room : List ℕ} (held : HeldFor pat
         -- What holds at the beginning of each production holds there.
         pub chosen-each : (P : ℕ → Type 0) → Each (λ (p : Place). P (p .start)) (placesOf bs) → P (startIn room spot)
         chosen-each P each = rw start-is (each-at each spot at-place)
+
+-- no nonterminal's first place lies behind the one that is no production's
+pub never-behind : {room : List ℕ} {nonterminal spot : ℕ} → HoldsSome room → nonterminal < 64 → spot ≡ firstPlaceIn room nonterminal → 256 < spot → ⊥
+never-behind some small e h = omega (arith, first-within (some .held) small (λ entry. true) e, h)

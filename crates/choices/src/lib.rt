@@ -134,16 +134,18 @@ fn search_text(room: &[u64; ROOM], n: u8, kind: u32) -> usize
     nullable_place(room, n)
 }
 
-// Either, by the kind.
-fn search_any(room: &[u64; ROOM], n: u8, kind: u32) -> usize
-    requires { ⌜ HoldsSome (now room) × (n < most .nonterminals) ⌝ }
+// The same. It calls itself, on what it never is passed, a room in which a nonterminal's first place lies behind the last: so the back end keeps it
+// apart from the choice for a formula.
+fn search_apart(room: &[u64; ROOM], n: u8, kind: u32) -> usize
+    requires { ⌜ HoldsSome (now room) × (n < most .nonterminals) × (noKind < kind) ⌝ }
     ensures { λ r. ⌜ ((P : List Item → ℕ) (bs : List ℕ) → HeldFor P bs (now (room .entry)) → r ≡ chosenPlace (entriesFor P bs) n kind) ⌝ }
 {
-    if kind <= NO_KIND {
-        search(room, n, kind)
-    } else {
-        search_text(room, n, kind)
+    let from = first_place(room, n);
+    if NO_PLACE < from {
+        let none = [0u64; ROOM];
+        return search_apart(&none, n, kind);
     }
+    search_text(room, n, kind)
 }
 
 // The same, remembered: a choice is searched for where it is met first, and then looked up. A place is remembered as it is, and 0 says that
@@ -158,14 +160,17 @@ pub fn choose(room: &[u64; ROOM], memory: &mut [u8; MEMORY], n: u8, kind: u32) -
         return NO_PLACE;
     }
     if NO_KIND <= kind {
-        return search_any(room, n, kind);
+        if NO_KIND < kind {
+            return search_apart(room, n, kind);
+        }
+        return search(room, n, kind);
     }
     let at = n as usize * KINDS + kind as usize;
     let known = wide_byte(memory[at]);
     if 0 < known {
         return known;
     }
-    let place = search_any(room, n, kind);
+    let place = search(room, n, kind);
     if place < NO_PLACE {
         memory[at] = place as u8;
     }

@@ -14,11 +14,18 @@ module _ {room memory : List ℕ} (may : MayChoose room memory) where
   some : HoldsSome room
   some = record { patterns = may .patterns; bs = may .bs; held = may .held }
 
-search-any-requires : tie.Need-search-any-requires
-search-any-requires c κs = (some (c .before .before .pre), c .before .if1 .left)
+-- a kind that no choice is remembered of
+search-apart-requires : tie.Need-search-apart-requires
+search-apart-requires c κs = let beyond = c .before in (some (beyond .before .before .pre), beyond .before .if1 .left, omega (arith, c .if3 .taken))
 
-search-any-requires-2 : tie.Need-search-any-requires-2
-search-any-requires-2 c κs = let at-place = c .before .before .before .before in (some (at-place .before .pre), at-place .if1 .left)
+search-requires : tie.Need-search-requires
+search-requires c κs = let beyond = c .before in (some (beyond .before .before .pre), beyond .before .if1 .left, omega (arith, c .if3 .left))
+
+-- one that a choice is remembered of
+search-requires-2 : tie.Need-search-requires-2
+search-requires-2 c κs =
+    let at-place = c .before .before .before in
+    (some (at-place .before .before .pre), at-place .before .if1 .left, omega (arith, at-place .if2 .left))
 
 returns : tie.Need-returns
 returns c =
@@ -26,29 +33,32 @@ returns c =
     record { place-is = laws.chosen-outside h _ _ (c .if1 .taken); memory-is = m }
 
 returns-2 : tie.Need-returns-2
-returns-2 c = λ P bs h m. record { place-is = c .search-any .ensures P bs h; memory-is = m }
+returns-2 c = λ P bs h m. record { place-is = c .search-apart .ensures P bs h; memory-is = m }
 
 returns-3 : tie.Need-returns-3
-returns-3 c =
-    λ P bs h m.
-    let at-place = c .before .before .before in
-    record {
-      place-is = laws.remembered m (at-place .before .if1 .left) (omega (arith, at-place .if2 .left)) (c .before .wide-byte .ensures) (c .if3 .taken);
-      memory-is = m;
-    }
+returns-3 c = λ P bs h m. record { place-is = c .search .ensures P bs h; memory-is = m }
 
 returns-4 : tie.Need-returns-4
 returns-4 c =
     λ P bs h m.
+    let at-place = c .before .before .before in
+    record {
+      place-is = laws.remembered m (at-place .before .if1 .left) (omega (arith, at-place .if2 .left)) (c .before .wide-byte .ensures) (c .if4 .taken);
+      memory-is = m;
+    }
+
+returns-5 : tie.Need-returns-5
+returns-5 c =
+    λ P bs h m.
     let at-place = c .before .before .before .before .before in
-    let place-is = c .before .search-any2 .ensures P bs h in
+    let place-is = c .before .search2 .ensures P bs h in
     record {
       place-is = place-is;
       memory-is = laws.remembers-more m (at-place .before .if1 .left) (omega (arith, at-place .if2 .left)) place-is;
     }
 
-returns-5 : tie.Need-returns-5
-returns-5 c = λ P bs h m. record { place-is = c .before .search-any2 .ensures P bs h; memory-is = m }
+returns-6 : tie.Need-returns-6
+returns-6 c = λ P bs h m. record { place-is = c .before .search2 .ensures P bs h; memory-is = m }
 
 -- the function meets its contract
 pub choose-spec : {M : Type 1} → statement M
@@ -56,15 +66,17 @@ choose-spec =
     tie.close
     (tie.spec
     returns
-    search-any-requires
+    search-apart-requires
     returns-2
+    search-requires
+    returns-3
     (λ c. search needs)
     (λ c. search needs)
     (λ c. search needs)
     (λ c κs. search needs)
-    returns-3
-    search-any-requires-2
-    (λ c. search needs)
-    (λ c. search needs)
     returns-4
-    returns-5)
+    search-requires-2
+    (λ c. search needs)
+    (λ c. search needs)
+    returns-5
+    returns-6)
