@@ -1,3 +1,4 @@
 pub mod Showing
 pub mod ReadBack
 pub mod TextsHang
+pub mod TextChoice
