@@ -2,3 +2,4 @@ pub mod Showing
 pub mod ReadBack
 pub mod TextsHang
 pub mod TextChoice
+pub mod TextSorts
