@@ -3,3 +3,5 @@ pub mod ReadBack
 pub mod TextsHang
 pub mod TextChoice
 pub mod TextSorts
+pub mod TextSetting
+pub mod TextReading
