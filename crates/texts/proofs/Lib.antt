@@ -5,3 +5,4 @@ pub mod TextChoice
 pub mod TextSorts
 pub mod TextSetting
 pub mod TextReading
+pub mod TextRun
