@@ -6,3 +6,5 @@ pub mod TextSorts
 pub mod TextSetting
 pub mod TextReading
 pub mod TextRun
+pub mod MoreRows
+pub mod TwoRooms

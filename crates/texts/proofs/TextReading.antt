@@ -172,7 +172,8 @@ module _ {G : Scope} {g : List Production} (setting : TextSetting G g) where
       ide-ends : (B : ℕ) → var ≤ B → B ≤ label → Ends (Stepped (terminal (ide B)) M s cells) Any (takeTerminal lent (ide B) s cells)
       ide-ends B l h =
           by-test (meetsIde (nextToken lent s .kind) B)
-          (λ e. subst⁻¹ (Ends (Stepped (terminal (ide B)) M s cells) Any) (terminal-met lent (ide B) s cells e) (found (meets-rule (nextToken lent s .kind) B e)))
+          (λ e.
+          subst⁻¹ (Ends (Stepped (terminal (ide B)) M s cells) Any) (terminal-met lent (ide B) s cells e) (found (meets-rule (nextToken lent s .kind) B e)))
           (λ e.
           subst⁻¹ (Ends (Stepped (terminal (ide B)) M s cells) Any) (terminal-unmet lent (ide B) s cells e)
           (take-ends (Stepped (terminal (ide B)) M s cells) wordKind (readValue (ide B)) s cells (λ q. absurd (no-word (here s) q))))
@@ -387,7 +388,8 @@ module _ {G : Scope} {g : List Production} (setting : TextSetting G g) where
       go f true e (chosen r) h =
           let k = takes g n (setting .declared n S newest) tokens (s .at) r (setting .small (s .at)) (sym (choice-is setting provides s n) ∙ h) in
           subst⁻¹ (Ends (Called n vs s cells) Any) (call-chosen depth lent n xs s cells r e h)
-          (subst₂ (λ is t. Ends (Called n vs s cells) Any (RunOf depth lent xs s cells is t)) (sym (k .same-items)) (sym (k .same-result)) (f (k .production) (k .taken)))
+          (subst₂ (λ is t. Ends (Called n vs s cells) Any (RunOf depth lent xs s cells is t)) (sym (k .same-items)) (sym (k .same-result))
+          (f (k .production) (k .taken)))
 
   -- ------------------------------------------------------------------ the whole text
 
@@ -433,8 +435,8 @@ module _ {G : Scope} {g : List Production} (setting : TextSetting G g) where
       (λ x s c d. ended-ends n x s c cells d)
       (λ r z. z)
 
-  -- what a number shows that stands at a sort is read off the rows, a Unit too
-  read-standing : {L : List ℕ} {made x B : ℕ} (cells : List ℕ) (t : Template) → G .outsides ≤ nameBase → length L ≤ nameBase → made ≤ nameBase
+  -- What a number shows that stands at a sort is read off the rows, a Unit too.
+  pub read-standing : {L : List ℕ} {made x B : ℕ} (cells : List ℕ) (t : Template) → G .outsides ≤ nameBase → length L ≤ nameBase → made ≤ nameBase
       → ShowsTemplate cells made x t → Standing (G .outsides) L t B → textTemplate made cells B x ≡ t
   read-standing cells t few short small h (standing-sorted w f) = read-back few short cells t (omega arith) small h w f
   read-standing {made = made} cells _ few short small shows-label standing-unit = at-unit (λ q. rowTemplate made cells q) unit 0 refl refl refl refl

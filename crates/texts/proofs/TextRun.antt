@@ -268,7 +268,8 @@ module _ {G : Scope} {g : List Production} (setting : TextSetting G g) (passed :
       → Finished (Returned ts₁ v s (calls + 1) (made + rowsOf (p .result)) cells) (runCall (suc depth) lent n xs s cells)
   call-done depth n p runs t e {lent} provides xs s cells here kept a c m =
       let within = provides-inner setting provides s in
-      let k = runs lent (inner lent s) provides within xs (callBegun s) cells here (record { room = kept .room; fits = kept .fits }) a (omega arith) (omega arith) in
+      let k =
+      runs lent (inner lent s) provides within xs (callBegun s) cells here (record { room = kept .room; fits = kept .fits }) a (omega arith) (omega arith) in
       let r = result-done within p s cells (k .value) (k .state) (k .cells) (k .holds) e m in
       record {
         value = r .value;

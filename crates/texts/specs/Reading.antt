@@ -120,8 +120,8 @@ pub record TextRead : Type 0 where
   pub template : Template
   pub used : ℕ
 
--- The text of the field at a place, scanned, where its nonterminal n has the sort A and B is asked: it holds no number and is read within 15 to 22 (26), with no
--- word at a Binder (27) and no fresh name (28); its words are outside names (9), and its sort fits (11).
+-- The text of the field at a place, scanned, where its nonterminal n has the sort A and B is asked: it holds no number and is read within 15 to 22 (26), with
+-- no word at a Binder (27) and no fresh name (28); its words are outside names (9), and its sort fits (11).
 abbrev pub checkReading : TextContext → ℕ → ℕ → ℕ → ℕ → Lexed → Checked TextRead
 checkReading P n A B at l =
     need (isScanned (l .answer) && not (hasNumber (l .tokens))) 26 at

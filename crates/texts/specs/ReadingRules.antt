@@ -53,8 +53,8 @@ pub data TextTaken (g : List Production) (n : ℕ) (s : List Token) : Production
 
 -- ------------------------------------------------------------------ terminals and items
 
--- terminals of a text: a keyword gives Unit; a `$` variable stands at an ide that it fits, an outside name at Var or Label. No rule reads a number (26) or a word
--- at a Binder (27), and none makes a fresh name (28): the counter i stays.
+-- terminals of a text: a keyword gives Unit; a `$` variable stands at an ide that it fits, an outside name at Var or Label. No rule reads a number (26) or a
+-- word at a Binder (27), and none makes a fresh name (28): the counter i stays.
 pub data TextReads : List Token → ℕ → Item → List Token → ℕ → Template → Type 0 where
   by-keyword : {t : Token} {s : List Token} {i k : ℕ}
       → t .kind ≡ keywordKind k
