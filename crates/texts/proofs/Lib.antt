@@ -8,3 +8,4 @@ pub mod TextReading
 pub mod TextRun
 pub mod MoreRows
 pub mod TwoRooms
+pub mod TextScan
