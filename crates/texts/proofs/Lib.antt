@@ -1,3 +1,11 @@
 pub mod Showing
 pub mod ReadBack
 pub mod TextsHang
+pub mod TextChoice
+pub mod TextSorts
+pub mod TextSetting
+pub mod TextReading
+pub mod TextRun
+pub mod MoreRows
+pub mod TwoRooms
+pub mod TextScan

@@ -1,1 +1,3 @@
 pub mod Substitution
+pub mod Reading
+pub mod ReadingRules
