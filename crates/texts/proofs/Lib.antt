@@ -9,3 +9,4 @@ pub mod TextRun
 pub mod MoreRows
 pub mod TwoRooms
 pub mod TextScan
+pub mod TextAccepted

@@ -461,6 +461,8 @@ module _ {G : Scope} {g : List Production} (setting : TextSetting G g) where
     pub shows : ShowsTemplate cells (s .made) x value
     -- no more rows are made than there are
     pub few : s .made ≤ rows
+    -- fresh names are counted from 1
+    pub counted : 1 ≤ s .fresh
     -- the rules derive it
     pub derived : s .fresh ≡ 1 → ReadWithin n value (s .made)
 
@@ -479,6 +481,7 @@ module _ {G : Scope} {g : List Production} (setting : TextSetting G g) where
             value = d .value;
             shows = d .shows;
             few = d .kept .fits;
+            counted = d .grows;
             derived = λ h.
                 let k =
                 subst (λ ts. Derived (d .below) [] tokens 1 0 (d .production .items) ts (s .calls) (d .middle) (d .variables)) all-read (d .derived h) in

@@ -28,20 +28,20 @@ use Rattle.texts.proofs.TextSetting.{TextSetting}
 
 -- ------------------------------------------------------------------ one token
 
--- what is known of a text's token, where N outside names are defined and variables have the sorts L
-record TextToken (N : ℕ) (L : List ℕ) (t : Token) : Type 0 where
+-- What is known of a text's token, where N outside names are defined and variables have the sorts L
+pub record TextToken (N : ℕ) (L : List ℕ) (t : Token) : Type 0 where
   -- its kind is no outside name's
-  small : t .kind < outsideKind
+  pub small : t .kind < outsideKind
   -- a word is an outside name
-  outside : t .kind ≡ wordKind → t .value < N
+  pub outside : t .kind ≡ wordKind → t .value < N
   -- the number of a variable
-  name : ℕ
+  pub name : ℕ
   -- what is behind kind 64 has its name
-  named : noKind < t .kind → t .value ≡ variableName name
+  pub named : noKind < t .kind → t .value ≡ variableName name
   -- which is that of a variable
-  below : noKind < t .kind → name < length L
+  pub below : noKind < t .kind → name < length L
   -- of the sort that its kind says
-  kind-is : noKind < t .kind → t .kind ≡ variableKind (getD L name 0)
+  pub kind-is : noKind < t .kind → t .kind ≡ variableKind (getD L name 0)
 
 -- a token of a kind up to 64 that is no word
 other-token : {N : ℕ} {L : List ℕ} {t : Token} → t .kind ≤ noKind → (t .kind ≡ wordKind → ⊥) → TextToken N L t
@@ -103,8 +103,8 @@ module _ (lex : Lexicon) (few-keywords : length (lex .keywords) ≤ most .keywor
 
   -- ------------------------------------------------------------------ all tokens
 
-  -- each token, and the one past the last
-  tokens-known : {formula : List ℕ} {at to : ℕ} {met met′ : List (List ℕ)} {ts : List Token} → Tiled lex formula at met ts to met′ → length met′ ≡ 0
+  -- Each token is known, and the one past the last.
+  pub tokens-known : {formula : List ℕ} {at to : ℕ} {met met′ : List (List ℕ)} {ts : List Token} → Tiled lex formula at met ts to met′ → length met′ ≡ 0
       → (place : ℕ) → TextToken (length (lex .outsides)) (lex .variables) (getD ts place endToken)
   tokens-known here e zero = other-token (omega arith) (λ z. omega arith)
   tokens-known here e (suc place) = other-token (omega arith) (λ z. omega arith)
@@ -135,7 +135,8 @@ module _ (lex : Lexicon) (few-keywords : length (lex .keywords) ≤ most .keywor
   tiled-named (past-separator l q d) e = tiled-named d e
   tiled-named (past-token {t = t} l h d) e = named-more (token-named t (stands-token h (omega (arith, tiled-more d, e)))) (tiled-named d e)
 
-  no-number : (ts : List Token) → hasNumber ts ≡ false → (place : ℕ) → getD ts place endToken .kind ≡ numberKind → ⊥
+  -- No token is a number.
+  pub no-number : (ts : List Token) → hasNumber ts ≡ false → (place : ℕ) → getD ts place endToken .kind ≡ numberKind → ⊥
   unfolding hasNumber
   no-number [] e zero h = omega arith
   no-number [] e (suc place) h = omega arith
@@ -147,7 +148,7 @@ module _ (lex : Lexicon) (few-keywords : length (lex .keywords) ≤ most .keywor
       behind false q = q
 
   -- What a scan gives is a setting, where the productions are sorted.
-  pub text-setting : {G : Scope} {g : List Production} → AllSorted G g → G .keywords ≤ most .keywords
+  abbrev pub text-setting : {G : Scope} {g : List Production} → AllSorted G g → G .keywords ≤ most .keywords
       → ((n : ℕ) (S : Signature) → Newest (G .env) n S → n < most .nonterminals) → (rows : ℕ) → length (lex .outsides) ≤ most .outsides
       → {formula : List ℕ} {ts : List Token} {words : List (List ℕ)} → Tiled lex formula 0 [] ts (length formula) words → length words ≡ 0
       → hasNumber ts ≡ false → TextSetting G g
