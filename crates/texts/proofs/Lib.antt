@@ -10,3 +10,4 @@ pub mod MoreRows
 pub mod TwoRooms
 pub mod TextScan
 pub mod TextAccepted
+pub mod TextComplete

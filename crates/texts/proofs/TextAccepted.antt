@@ -181,7 +181,8 @@ module _ {G : Scope} {P : TextContext} {L : List ℕ} {n : ℕ} {S : Signature} 
       → Accepted P L n (S .result) B bs r
   read-so {B} {r = r} k e none-other counted read d small not-fresh answered =
       let tiled = scan-tiled (lexiconFor P L n) (place .few-outsides) bs e in
-      let few : length (lexiconFor P L n .keywords) ≤ most .keywords = omega (arith, kept-many (kindsReached (P .productions) n) 0 (P .keywords), place .few-spellings) in
+      let few : length (lexiconFor P L n .keywords) ≤ most .keywords =
+      omega (arith, kept-many (kindsReached (P .productions) n) 0 (P .keywords), place .few-spellings) in
       let setting : TextSetting G (P .productions) =
       text-setting (lexiconFor P L n) few (place .sorts) (place .all) (place .few-keywords) (place .declared) (rowsLeft P) (place .few-outsides) tiled
       none-other (k .numberless) in
