@@ -1,7 +1,7 @@
 -- What the code's check of sorts means: on the bytes of a table it is the check of the table. The places that the walk of the table counts
 -- are the offsets of the fields.
 use Prim.Native.Nat.{ℕ, zero, suc, _+_, _-_, _≤_, _<_}
-use mathlib.Core.Path.{_≡_, refl, sym, ap, _∙_}
+use mathlib.Core.Path.{_≡_, refl, sym, ap, subst, _∙_}
 use mathlib.Core.Bool.{false≢true}
 use mathlib.Core.List.{List, [], _∷_, _++_}
 use native.Mathlib.Omega.{arith}
@@ -35,10 +35,11 @@ use Rattle.bodies.specs.declared.ItemSort.{ItemSort}
 use Rattle.bodies.specs.declared.ItemSort.the-variants.{As, Unsorted}
 use Rattle.bodies.specs.HeadBytes.{signatureAt, Collected, collected, collectFrom}
 use Rattle.bodies.specs.BodyBytes.{oneMore, itemAt}
+use Rattle.bodies.proofs.HeadLaws.{before-in-front}
 use Rattle.sorts.specs.ByBytes.{stepped, counting, verdictStep, afterBlock, afterItem, stepAt, goOn, sortsFrom, sortsOf}
 use Rattle.sorts.proofs.StepLaws.{sorts-short}
 use Rattle.sorts.proofs.PlacedFields.{Placed, over-alternatives, placed-fields}
-use Rattle.sorts.proofs.HeadsByBytes.{bytesOf, Knows, Collects, head-signature}
+use Rattle.sorts.proofs.HeadsByBytes.{bytesOf, KnowsHead, Knows, Collects, head-signature}
 use Rattle.sorts.proofs.CollectByBytes.{Below, Agree, collect-agrees}
 use Rattle.sorts.proofs.BodiesByBytes.{knownOf, Carries, sortedAt, item-agrees, result-agrees, root-agrees}
 
@@ -257,7 +258,13 @@ module _ (bs : List ℕ) (keywords outsides root : ℕ) (low : root < 64) (whole
       let place : behind + blocksSize blocks ≡ at + blocksSize (b ∷ blocks) = omega arith in
       let follow : List Field = blocksThen blocks rootField in
       let before : Collects bs E [] at heads =
-      record { size = s .size; knows = s .knows; here = λ n l. le-leb (getD heads n 0) at (s .below n) } in
+      record {
+        size = s .size;
+        knows = s .knows;
+        here = λ n l. le-leb (getD heads n 0) at (s .below n);
+        before = λ n l.
+            subst (λ h. KnowsHead bs E h n) (sym (before-in-front bs heads at n (le-leb (getD heads n 0) at (s .below n)))) (s .knows n l);
+      } in
       let bodies : Env → Checked (List Definition) = λ own. checkBodies (scope keywords outsides (own ++ E)) [] (at + 3) b in
       let rest : Env → List Definition → Checked Before = λ own ds. checkBlocks keywords outsides (behindBlock P own ds) behind blocks in
       block-goes E at behind _ room (spread (at + 3) (definitionsThen b follow)) (collect E [] (at + 3) b)
