@@ -22,9 +22,9 @@ use Rattle.decoding.specs.Decode.{decode}
 use Rattle.decoding.specs.Within.{Among, Within}
 use Rattle.decoding.proofs.LayoutTheorems.{decode-exactly}
 use Rattle.decoding.proofs.RefusalNumbers.{isLayoutNumber, decode-answers}
-use Rattle.judgements.specs.CheckSorts.{checkSorts}
-use Rattle.judgements.specs.Elaboration.{Elaborates}
-use Rattle.judgements.proofs.SortTheorems.{sorts-exactly, sort-refusals}
+use Rattle.elaboration.specs.CheckSequence.{checkSorts}
+use Rattle.elaboration.specs.Elaboration.{Elaborates}
+use Rattle.elaboration.proofs.SortTheorems.{sorts-exactly, sort-refusals}
 use Rattle.productions.specs.Normal.{Production, normalized}
 use Rattle.clashes.specs.CheckFirsts.{checkFirsts}
 use Rattle.clashes.specs.FirstRefusals.{Says}

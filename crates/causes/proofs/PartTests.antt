@@ -21,12 +21,13 @@ use Rattle.grammar.specs.Written.{WrittenResult, template, WrittenDefinition}
 use Rattle.decoding.specs.Within.{TemplatesWithin, ide-within, ItemWithin, terminal-within, call-within, ResultWithin, template-within}
 use Rattle.judgements.specs.Scopes.{Env, Scope}
 use Rattle.judgements.specs.CheckSorts.{isDefined, signatureOf, sameSignature, isAsBefore, isUnused, consistent, isClosed, areClosed, sortOf, isSorted, fill}
-use Rattle.judgements.specs.CheckSorts.{checkItem, checkResult, checkRoot}
+use Rattle.judgements.specs.CheckSorts.{checkItem}
 use Rattle.judgements.specs.Judgements.{Newest, Undeclared, Fits, Sorted, Fill, ItemSorted, by-keyword, by-ide, by-number, by-local, by-call}
-use Rattle.judgements.specs.Elaboration.{ResultSorted, by-template}
-use Rattle.judgements.proofs.Environments.{defined-here, defined-later, defined-newest, newest-defined, newest-signature, undefined-absent}
-use Rattle.judgements.proofs.Environments.{absent-undefined, same-signature, signature-same}
+use Rattle.judgements.proofs.Environments.{defined-here, defined-later, defined-newest, newest-defined, newest-signature, undefined-absent, absent-undefined}
+use Rattle.judgements.proofs.Environments.{same-signature, signature-same}
 use Rattle.judgements.proofs.TemplateSorts.{both, pair, fits-rule, rule-fits, sorted-rule, rule-sorted, fill-rule, rule-fill}
+use Rattle.elaboration.specs.CheckSequence.{checkResult, checkRoot}
+use Rattle.elaboration.specs.Elaboration.{ResultSorted, by-template}
 use Rattle.causes.specs.Missorted.{Undefined, no-variable, no-name, no-label, in-argument, SomeUndefined, this-one, a-later-one}
 use Rattle.causes.specs.Missorted.{UndefinedItem, no-keyword, no-nonterminal, in-arguments, Part, head, item, result, root, Fails}
 use Rattle.causes.specs.Missorted as rules

@@ -12,13 +12,14 @@ use Rattle.grammar.specs.Written.{WrittenAlternative, WrittenDefinition, Writte
 use Rattle.grammar.specs.Values.{Field, field, headValue}
 use Rattle.grammar.specs.Encode.{itemsThen, alternativesThen, definitionsThen}
 use Rattle.decoding.specs.Within.{Each, AlternativeWithin, DefinitionWithin, Within}
-use Rattle.judgements.specs.Sizes.{fieldSize, spellingsSize, itemsSize, alternativesSize, definitionsSize}
-use Rattle.judgements.specs.Scopes.{Env, Before, Scope}
-use Rattle.judgements.specs.CheckSorts.{collect, checkItems, checkResult, checkAlternative, checkBodies, checkBlocks, blocksSize, checkRoot, checkSorts}
+use Rattle.judgements.specs.Sizes.{fieldSize, spellingsSize, itemsSize, alternativesSize, definitionsSize, blocksSize}
+use Rattle.judgements.specs.Scopes.{Env, Scope}
+use Rattle.judgements.specs.CheckSorts.{collect, checkItems}
 use Rattle.judgements.specs.Judgements.{Numbered, Defines}
-use Rattle.judgements.specs.Elaboration.{Bodies, Ok}
-use Rattle.judgements.proofs.SequenceSorts.{atFirst}
 use Rattle.judgements.proofs.SizeLaws.{bytesOf, one-field, no-bytes, items-bytes, alternatives-bytes, definitions-bytes, front-size}
+use Rattle.elaboration.specs.CheckSequence.{Before, checkResult, checkAlternative, checkBodies, checkBlocks, checkRoot, checkSorts}
+use Rattle.elaboration.specs.Elaboration.{Bodies, Ok}
+use Rattle.elaboration.proofs.SequenceSorts.{atFirst}
 use Rattle.causes.specs.Missorted.{Part, head, result, root, Fails, At, Next, Derived, placeBehind, headPlace, bodyPlace, within, Missorted}
 use Rattle.causes.specs.Missorted as rules
 use Rattle.causes.proofs.PartTests.{outcome, item-view, item-fails, result-view, result-fails, head-view, head-fails, root-view, root-fails}

@@ -10,13 +10,13 @@ use Rattle.grammar.specs.Table.{Template, Item, Alternative, Mode, add, extend,
 use Rattle.grammar.specs.Written.{WrittenResult, WrittenAlternative, WrittenDefinition, withAlternatives}
 use Rattle.grammar.specs.Values.{itemValue, headValue}
 use Rattle.decoding.specs.Within.{Each, ItemWithin, AlternativeWithin, DefinitionWithin}
-use Rattle.judgements.specs.Sizes.{fieldSize, itemsSize, alternativeSize, alternativesSize, definitionSize, definitionsSize}
-use Rattle.judgements.specs.Scopes.{Env, Before, Scope, entryOf}
-use Rattle.judgements.specs.CheckSorts.{consistent, collect, checkItem, checkItems, checkResult, checkAlternative, checkAlternatives, checkBodies, checkBlocks}
-use Rattle.judgements.specs.CheckSorts.{blocksSize}
+use Rattle.judgements.specs.Sizes.{fieldSize, itemsSize, alternativeSize, alternativesSize, definitionSize, definitionsSize, blocksSize}
+use Rattle.judgements.specs.Scopes.{Env, Scope, entryOf}
+use Rattle.judgements.specs.CheckSorts.{consistent, collect, checkItem, checkItems}
 use Rattle.judgements.specs.Judgements.{ItemSorted, Numbered, no-item, one-more, Defines, no-definition, by-add, by-extend, by-update, scope}
-use Rattle.judgements.specs.Elaboration.{ResultSorted, Bodies, no-alternative, by-choice, Ok, ok-empty, ok-definition, Sequence, no-grammar, by-grammar}
-use Rattle.judgements.proofs.SequenceSorts.{behindBlock}
+use Rattle.elaboration.specs.CheckSequence.{Before, checkResult, checkAlternative, checkAlternatives, checkBodies, checkBlocks}
+use Rattle.elaboration.specs.Elaboration.{ResultSorted, Bodies, no-alternative, by-choice, Ok, ok-empty, ok-definition, Sequence, no-grammar, by-grammar}
+use Rattle.elaboration.proofs.SequenceSorts.{behindBlock}
 use Rattle.causes.proofs.PartTests.{outcome, item-view, item-passes, result-view, result-passes, Consistent, head-view, inconsistent}
 use Rattle.causes.proofs.Walking.{no-refusal, both-pass, then-is, Walk, passes, passed}
 

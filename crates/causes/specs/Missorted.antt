@@ -16,7 +16,7 @@ use Rattle.grammar.specs.Values.{Field, field, headValue}
 use Rattle.grammar.specs.Encode.{fieldBytes, spellingsThen, itemsThen, alternativesThen, definitionsThen, blocksThen}
 use Rattle.judgements.specs.Scopes.{Env, Scope}
 use Rattle.judgements.specs.Judgements.{Newest, Undeclared, Fits, Sorted, ItemSorted, Numbered, Defines, scope}
-use Rattle.judgements.specs.Elaboration.{Bodies, Ok, Sequence}
+use Rattle.elaboration.specs.Elaboration.{Bodies, Ok, Sequence}
 
 -- ------------------------------------------------------------------ 9: what is not defined
 

@@ -17,9 +17,9 @@ use Rattle.decoding.specs.Decode.{decode}
 use Rattle.decoding.specs.Within.{Within}
 use Rattle.decoding.proofs.Split.{Bytes}
 use Rattle.decoding.proofs.Inverse.{layout-encoded, decode-encoded}
-use Rattle.judgements.specs.CheckSorts.{checkSorts}
-use Rattle.judgements.proofs.SortTheorems.{sorts-exactly}
-use Rattle.judgements.proofs.Elaborated.{elaborated-blocks}
+use Rattle.elaboration.specs.CheckSequence.{checkSorts}
+use Rattle.elaboration.proofs.SortTheorems.{sorts-exactly}
+use Rattle.elaboration.proofs.Elaborated.{elaborated-blocks}
 use Rattle.sorts.specs.declared.Finding.{Finding}
 use Rattle.sorts.specs.declared.Finding.the-variants.{Judged, TextMet}
 use Rattle.sorts.specs.ByBytes.{sortsOf}

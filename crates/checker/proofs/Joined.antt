@@ -13,8 +13,8 @@ use Rattle.decoding.specs.Decode.{tableOf, decodeFields, decode}
 use Rattle.decoding.proofs.Split.{Bytes}
 use Rattle.decoding.proofs.Spelled.{each-map}
 use Rattle.decoding.proofs.LayoutTheorems.{decode-exactly}
-use Rattle.judgements.proofs.SortTheorems.{sorts-exactly}
-use Rattle.judgements.proofs.Elaborated.{elaborated-blocks}
+use Rattle.elaboration.proofs.SortTheorems.{sorts-exactly}
+use Rattle.elaboration.proofs.Elaborated.{elaborated-blocks}
 use Rattle.decoding.specs.Within.{Each}
 use Rattle.productions.specs.Index.{Whole, placesOf}
 use Rattle.productions.proofs.FewAlternatives.{few-alternatives}

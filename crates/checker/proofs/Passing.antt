@@ -21,8 +21,8 @@ use Rattle.grammar.specs.Written.{Written}
 use Rattle.decoding.specs.Decode.{decode}
 use Rattle.decoding.proofs.LayoutTheorems.{decode-exactly}
 use Rattle.decoding.proofs.Inverse.{decode-encoded}
-use Rattle.judgements.specs.CheckSorts.{checkSorts}
-use Rattle.judgements.proofs.SortTheorems.{sorts-exactly, sort-refusals}
+use Rattle.elaboration.specs.CheckSequence.{checkSorts}
+use Rattle.elaboration.proofs.SortTheorems.{sorts-exactly, sort-refusals}
 use Rattle.clashes.specs.CheckFirsts.{checkFirsts}
 use Rattle.clashes.proofs.ClashTheorems.{passes-exactly, left-recursion-lowest, clash-lowest}
 use Rattle.checker.specs.Syntax.{Syntax, syntaxOf}

@@ -17,9 +17,9 @@ use Rattle.grammar.specs.Encode.{encode}
 use Rattle.decoding.specs.Within.{Within}
 use Rattle.decoding.specs.Decode.{decode}
 use Rattle.decoding.proofs.LayoutTheorems as layout
-use Rattle.judgements.specs.Elaboration.{Elaborates}
-use Rattle.judgements.specs.CheckSorts.{checkSorts}
-use Rattle.judgements.proofs.SortTheorems as sorting
+use Rattle.elaboration.specs.Elaboration.{Elaborates}
+use Rattle.elaboration.specs.CheckSequence.{checkSorts}
+use Rattle.elaboration.proofs.SortTheorems as sorting
 use Rattle.productions.specs.Normal.{Production}
 use Rattle.clashes.specs.CheckFirsts.{checkFirsts}
 use Rattle.firsts.specs.FirstSets.{nullables, firstSets, leftCalls}

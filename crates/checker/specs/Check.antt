@@ -4,7 +4,7 @@ use mathlib.Core.List.{List}
 use Rattle.answers.specs.Checked.{Checked, ok, bad, _>>=_, _>>_, verdict}
 use Rattle.answers.specs.declared.Verdict.{Verdict}
 use Rattle.decoding.specs.Decode.{decode}
-use Rattle.judgements.specs.CheckSorts.{checkSorts}
+use Rattle.elaboration.specs.CheckSequence.{checkSorts}
 use Rattle.productions.specs.Normal.{normalized}
 use Rattle.clashes.specs.CheckFirsts.{checkFirsts}
 use Rattle.checker.specs.Syntax.{Syntax, syntaxOf}

@@ -7,7 +7,7 @@ use Rattle.answers.specs.declared.Verdict.the-variants.{Passed}
 use Rattle.answers.specs.Checked.{Checked, ok, bad, _>>=_}
 use Rattle.decoding.specs.Decode.{decode}
 use Rattle.decoding.specs.Within.{Each}
-use Rattle.judgements.specs.CheckSorts.{checkSorts}
+use Rattle.elaboration.specs.CheckSequence.{checkSorts}
 use Rattle.productions.specs.Index.{Whole, placesOf}
 use Rattle.productions.specs.Room.{overwritten}
 use Rattle.firsts.specs.Room.{tableRoom}

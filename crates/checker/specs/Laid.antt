@@ -6,7 +6,7 @@ use Rattle.grammar.specs.Table.{Table}
 use Rattle.grammar.specs.Written.{Written}
 use Rattle.grammar.specs.Encode.{encode}
 use Rattle.decoding.specs.Within.{Within}
-use Rattle.judgements.specs.Elaboration.{Elaborates}
+use Rattle.elaboration.specs.Elaboration.{Elaborates}
 
 -- bytes that are the encoding of a well sorted table within the counts, spellings and ranges; `table` is what it is elaborated to
 pub record Laid (bs : List ℕ) : Type 0 where

@@ -6,7 +6,7 @@ use Rattle.grammar.specs.Table.{Table}
 use Rattle.grammar.specs.Written.{Written}
 use Rattle.grammar.specs.Encode.{encode}
 use Rattle.decoding.specs.Within.{Within}
-use Rattle.judgements.specs.Elaboration.{Elaborates}
+use Rattle.elaboration.specs.Elaboration.{Elaborates}
 use Rattle.productions.specs.Normal.{Production, normalized}
 use Rattle.clashes.specs.Clashes.{Never, LeftRecursive, Clashes}
 

@@ -2,9 +2,5 @@ pub mod Accepting
 pub mod Environments
 pub mod TemplateSorts
 pub mod BodySorts
-pub mod SequenceSorts
+pub mod HeadSorts
 pub mod SizeLaws
-pub mod BlocksBefore
-pub mod RefusalNumbers
-pub mod Elaborated
-pub mod SortTheorems

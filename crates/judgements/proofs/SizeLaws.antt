@@ -8,8 +8,7 @@ use Rattle.grammar.specs.Table.{Item}
 use Rattle.grammar.specs.Values.{Field, field, itemValue, headValue}
 use Rattle.grammar.specs.Written.{WrittenAlternative, WrittenDefinition, resultField}
 use Rattle.grammar.specs.Encode.{fieldBytes, spellingsThen, itemsThen, alternativesThen, definitionsThen, blocksThen}
-use Rattle.judgements.specs.Sizes.{spellingsSize, itemsSize, alternativeSize, alternativesSize, definitionSize, definitionsSize}
-use Rattle.judgements.specs.CheckSorts.{blocksSize}
+use Rattle.judgements.specs.Sizes.{spellingsSize, itemsSize, alternativeSize, alternativesSize, definitionSize, definitionsSize, blocksSize}
 
 -- how many bytes some fields take
 abbrev pub bytesOf : List Field → ℕ

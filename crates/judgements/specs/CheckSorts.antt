@@ -1,20 +1,19 @@
--- The static check of a grammar sequence: refusals 7, 8, 9 and 11, with their order and places.
--- 001, section 4.1: environments E and L, the two passes E ⊢ g :: E' and E ⊢ g ok over each grammar of the sequence.
--- `at` is always the place of the part's first field.
+-- The static check of a grammar's heads and items: refusals 7, 8, 9 and 11, with their order and places. Results, and the sequence, are in
+-- elaboration/specs/CheckSequence. 001, section 4.1: environments E and L, the pass E ⊢ g :: E', and E; L ⊢ p : B. `at` is always the place of the part's first field.
 use Prim.Native.Nat.{ℕ, _+_}
 use mathlib.Core.Bool.{Bool, true, false, not, _&&_}
 use mathlib.Core.List.{List, [], _∷_, _++_}
 use lib.{Dec.eqb, Dec.ltb, ListN.length, ListN.getD}
 use Rattle.answers.specs.Checked.{Checked, ok, _>>=_, _>>_, need}
 use Rattle.spellings.specs.Bytes.{same}
-use Rattle.grammar.specs.Sorts.{Signature, gives, unit, var, binder, label, term, num, constructor}
+use Rattle.grammar.specs.Sorts.{Signature, gives, unit, var, binder, label, num, constructor}
 use Rattle.grammar.specs.SortTests.{fits}
 use Rattle.grammar.specs.Table.{Template, Templates, variable, outsideVar, outsideLabel, make, none, more, keyword, ide, number, Item, terminal, local, call}
-use Rattle.grammar.specs.Table.{Alternative, Mode, add, extend, update, DefinitionOf, Definition, Table}
-use Rattle.grammar.specs.Written.{WrittenResult, template, WrittenAlternative, WrittenDefinition, Written, withAlternatives}
-use Rattle.grammar.specs.Values.{itemValue, headValue}
-use Rattle.judgements.specs.Sizes.{fieldSize, spellingsSize, itemsSize, alternativeSize, definitionSize, definitionsSize}
-use Rattle.judgements.specs.Scopes.{Env, Before, Scope, entryOf}
+use Rattle.grammar.specs.Table.{Mode, add, extend, update, DefinitionOf}
+use Rattle.grammar.specs.Written.{WrittenDefinition}
+use Rattle.grammar.specs.Values.{itemValue}
+use Rattle.judgements.specs.Sizes.{fieldSize, definitionSize}
+use Rattle.judgements.specs.Scopes.{Env, Scope, entryOf}
 
 -- ------------------------------------------------------------------ global environments E
 
@@ -103,49 +102,3 @@ checkItem G L at (call n ts) =
 unfoldable pub checkItems : Scope → List ℕ → ℕ → List Item → Checked (List ℕ)
 checkItems G L at [] = ok L
 checkItems G L at (i ∷ is) = checkItem G L at i >>= λ s. checkItems G (L ++ (s ∷ [])) (at + fieldSize (itemValue i)) is
-
--- a result where the sort B is asked; a check answers what it checked with a template for each result, `done` has what it checked before
-abbrev pub checkResult : Scope → List ℕ → ℕ → ℕ → WrittenResult → Checked Template
-checkResult G L B at (template t) = need (isClosed t G (length L)) 9 at >> need (isSorted t L && fits (sortOf t L) B) 11 at >> ok t
-
-unfoldable pub checkAlternative : Scope → Signature → ℕ → WrittenAlternative → Checked Alternative
-checkAlternative G S at a =
-    checkItems G (S .params) (at + 3) (a .items)
-    >>= λ L. checkResult G L (S .result) (at + 3 + itemsSize (a .items)) (a .result) >>= λ t. ok (record { items = a .items; result = t })
-
-unfoldable pub checkAlternatives : Scope → Signature → List Alternative → ℕ → List WrittenAlternative → Checked (List Alternative)
-checkAlternatives G S done at [] = ok done
-checkAlternatives G S done at (a ∷ rest) = checkAlternative G S at a >>= λ b. checkAlternatives G S (done ++ (b ∷ [])) (at + alternativeSize a) rest
-
--- ------------------------------------------------------------------ E ⊢ g ok, and ⊢ gseq ⇒ E
-
-unfoldable pub checkBodies : Scope → List Definition → ℕ → List WrittenDefinition → Checked (List Definition)
-checkBodies G done at [] = ok done
-checkBodies G done at (d ∷ ds) =
-    checkAlternatives G (d .signature) [] (at + fieldSize (headValue d)) (d .alternatives)
-    >>= λ choices. checkBodies G (done ++ (withAlternatives d choices ∷ [])) (at + definitionSize d) ds
-
--- what stands behind the blocks; K and N are the counts of keywords and outside names
-unfoldable pub checkBlocks : ℕ → ℕ → Before → ℕ → List (List WrittenDefinition) → Checked Before
-checkBlocks K N P at [] = ok P
-checkBlocks K N P at (b ∷ bs) =
-    collect (P .env) [] (at + 3) b
-    >>= λ own. checkBodies (record { keywords = K; outsides = N; env = own ++ P .env }) [] (at + 3) b
-    >>= λ ds. checkBlocks K N (record { env = own ++ P .env; blocks = P .blocks ++ (ds ∷ []) }) (at + 3 + definitionsSize b) bs
-
-unfoldable pub blocksSize : List (List WrittenDefinition) → ℕ
-blocksSize [] = 0
-blocksSize (b ∷ bs) = 3 + definitionsSize b + blocksSize bs
-
--- the root is defined, has no parameters and gives a Term
-unfoldable pub checkRoot : Env → ℕ → ℕ → Checked (Unit {0})
-checkRoot E at n =
-    need (isDefined E n) 9 at >> need (eqb (length (signatureOf E n .params)) 0 && eqb (signatureOf E n .result) term) 11 at
-
--- the whole table
-unfoldable pub checkSorts : Written → Checked Table
-checkSorts t =
-    let first : ℕ = spellingsSize (t .keywords) + spellingsSize (t .outsides) in
-    checkBlocks (length (t .keywords)) (length (t .outsides)) (record { env = []; blocks = [] }) first (t .blocks)
-    >>= λ P. checkRoot (P .env) (first + blocksSize (t .blocks)) (t .root)
-    >> ok (record { keywords = t .keywords; outsides = t .outsides; blocks = P .blocks; root = t .root })

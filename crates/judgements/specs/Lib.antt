@@ -2,4 +2,3 @@ pub mod Scopes
 pub mod Sizes
 pub mod CheckSorts
 pub mod Judgements
-pub mod Elaboration

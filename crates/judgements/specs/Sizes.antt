@@ -32,3 +32,8 @@ definitionSize d = fieldSize (headValue d) + alternativesSize (d .alternatives)
 unfoldable pub definitionsSize : List WrittenDefinition → ℕ
 definitionsSize [] = 0
 definitionsSize (d ∷ ds) = definitionSize d + definitionsSize ds
+
+-- blocks, each with its own field
+unfoldable pub blocksSize : List (List WrittenDefinition) → ℕ
+blocksSize [] = 0
+blocksSize (b ∷ bs) = 3 + definitionsSize b + blocksSize bs

@@ -14,14 +14,14 @@ use Rattle.decoding.proofs.Fronts.{frontFields}
 use Rattle.productions.specs.Normal.{normalized}
 use Rattle.productions.specs.Index.{normalizedBy}
 use Rattle.productions.proofs.NormalizedByFields.{normalized-before}
-use Rattle.judgements.specs.Sizes.{spellingsSize}
-use Rattle.judgements.specs.Scopes.{Env, Before}
-use Rattle.judgements.specs.CheckSorts.{checkBlocks, blocksSize}
-use Rattle.judgements.specs.Elaboration.{Sequence}
-use Rattle.judgements.proofs.SequenceSorts.{atFirst}
+use Rattle.judgements.specs.Sizes.{spellingsSize, blocksSize}
+use Rattle.judgements.specs.Scopes.{Env}
 use Rattle.judgements.proofs.SizeLaws.{no-bytes, front-size}
-use Rattle.judgements.proofs.BlocksBefore.{carried}
-use Rattle.judgements.proofs.Elaborated.{blocks-made}
+use Rattle.elaboration.specs.CheckSequence.{Before, checkBlocks}
+use Rattle.elaboration.specs.Elaboration.{Sequence}
+use Rattle.elaboration.proofs.SequenceSorts.{atFirst}
+use Rattle.elaboration.proofs.BlocksBefore.{carried}
+use Rattle.elaboration.proofs.Elaborated.{blocks-made}
 
 -- What the check carries to the blocks `behind` of a table, which stand at a place: it goes on with it there, and its normalized grammar is the one that
 -- the table's bytes up to that place have.

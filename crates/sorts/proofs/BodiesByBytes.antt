@@ -18,8 +18,9 @@ use Rattle.grammar.specs.Values.{templateThen, templatesThen, itemValue}
 use Rattle.decoding.specs.Within.{TemplateWithin, TemplatesWithin, keyword-within, ide-within, number-within}
 use Rattle.decoding.specs.Within.{ItemWithin, terminal-within, local-within, call-within}
 use Rattle.decoding.proofs.Templates.{read-templates, read-template}
-use Rattle.judgements.specs.CheckSorts.{isDefined, signatureOf, isClosed, areClosed, isSorted, sortOf, fill, checkItem, checkResult, checkRoot}
+use Rattle.judgements.specs.CheckSorts.{isDefined, signatureOf, isClosed, areClosed, isSorted, sortOf, fill, checkItem}
 use Rattle.judgements.specs.Scopes.{Scope}
+use Rattle.elaboration.specs.CheckSequence.{checkResult, checkRoot}
 use Rattle.bodies.specs.declared.Known.{Known}
 use Rattle.bodies.specs.declared.ItemSort.{ItemSort}
 use Rattle.bodies.specs.declared.ItemSort.the-variants.{As, Unsorted}

@@ -24,12 +24,12 @@ use Rattle.decoding.specs.Decode.{decode}
 use Rattle.decoding.specs.Within.{Each, each-none, each-more, ItemWithin, ResultWithin, template-within, AlternativeWithin, DefinitionWithin, Within}
 use Rattle.decoding.proofs.Split.{Bytes, spread, fields-of-bytes}
 use Rattle.decoding.proofs.Inverse.{decoded-encoding}
-use Rattle.judgements.specs.Sizes.{fieldSize, spellingsSize, itemsSize, alternativeSize, alternativesSize, definitionSize, definitionsSize}
-use Rattle.judgements.specs.CheckSorts.{isDefined, collect, checkItem, checkItems, checkResult, checkAlternative, checkAlternatives, checkBodies}
-use Rattle.judgements.specs.CheckSorts.{checkBlocks, blocksSize, checkRoot, checkSorts}
-use Rattle.judgements.specs.Scopes.{Env, Before, Scope}
+use Rattle.judgements.specs.Sizes.{fieldSize, spellingsSize, itemsSize, alternativeSize, alternativesSize, definitionSize, definitionsSize, blocksSize}
+use Rattle.judgements.specs.CheckSorts.{isDefined, collect, checkItem, checkItems}
+use Rattle.judgements.specs.Scopes.{Env, Scope}
 use Rattle.judgements.specs.Judgements.{scope}
-use Rattle.judgements.proofs.SequenceSorts.{atFirst, behindBlock}
+use Rattle.elaboration.specs.CheckSequence.{checkResult, checkAlternative, checkAlternatives, checkBodies, checkBlocks, checkRoot, checkSorts, Before}
+use Rattle.elaboration.proofs.SequenceSorts.{atFirst, behindBlock}
 use Rattle.bodies.specs.declared.Known.{Known}
 use Rattle.bodies.specs.declared.ItemSort.{ItemSort}
 use Rattle.bodies.specs.declared.ItemSort.the-variants.{As, Unsorted}

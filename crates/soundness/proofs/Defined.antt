@@ -11,13 +11,12 @@ use Rattle.grammar.specs.Sorts.{Signature}
 use Rattle.grammar.specs.Table.{Templates, Alternative, Mode, add, extend, update, Definition, Table, call}
 use Rattle.grammar.specs.Written.{WrittenDefinition, Written, withAlternatives}
 use Rattle.decoding.specs.Within.{Each, each-none, each-more, DefinitionWithin, Within, Among, among-first, among-later}
-use Rattle.judgements.specs.Scopes.{Env, entryOf}
-use Rattle.judgements.specs.Scopes.{Scope}
+use Rattle.judgements.specs.Scopes.{Env, entryOf, Scope}
 use Rattle.judgements.specs.Judgements.{Newest, newest-first, newest-later, ItemSorted, by-call, Defines, no-definition, by-add, by-extend, by-update}
-use Rattle.judgements.specs.Elaboration.{Bodies, Ok, ok-empty, ok-definition, Sequence, no-grammar, by-grammar, Elaborates, scopeOf}
 use Rattle.judgements.specs.CheckSorts.{isDefined}
 use Rattle.judgements.proofs.Environments.{newest-defined}
-use Rattle.judgements.proofs.Elaborated.{as-many}
+use Rattle.elaboration.specs.Elaboration.{Bodies, Ok, ok-empty, ok-definition, Sequence, no-grammar, by-grammar, Elaborates, scopeOf}
+use Rattle.elaboration.proofs.Elaborated.{as-many}
 use Rattle.productions.specs.Normal.{Production, productionsOf, without, kept, defined, definedAll, normalizedFrom, normalized}
 use Rattle.firsts.specs.Rules.{Of}
 

@@ -22,7 +22,7 @@ use Rattle.clashes.proofs.ClashTheorems.{passes-exactly}
 use Rattle.grammar.specs.Sorts.{Signature}
 use Rattle.grammar.specs.Sorts as Sorts
 use Rattle.judgements.specs.Judgements.{Newest, ItemSorted, Body}
-use Rattle.judgements.specs.Elaboration.{scopeOf}
+use Rattle.elaboration.specs.Elaboration.{scopeOf}
 use Rattle.judgements.specs.Judgements as Judgements
 use Rattle.checker.specs.Passes.{grammarOf}
 use Rattle.terms.specs.Term.{Name, Term}

@@ -14,9 +14,10 @@ use Rattle.decoding.specs.Within.{Each, each-none, each-more, AlternativeWithin
 use Rattle.judgements.specs.Scopes.{Env, entryOf}
 use Rattle.judgements.specs.Judgements.{Newest, newest-first, newest-later, Undeclared, absent-empty, absent-entry, ItemSorted, by-keyword, by-ide, by-number}
 use Rattle.judgements.specs.Judgements.{by-local, by-call, Body, by-result, by-binding, Defines, no-definition, by-add, by-extend, by-update, scope}
-use Rattle.judgements.specs.Elaboration.{Bodies, no-alternative, by-choice, Ok, ok-empty, ok-definition, Sequence, no-grammar, by-grammar, Elaborates, scopeOf}
 use Rattle.judgements.proofs.Environments.{newest-defined, newest-signature, absent-undefined}
-use Rattle.judgements.proofs.Elaborated.{body-sorted, made-within}
+use Rattle.elaboration.specs.Elaboration.{Bodies, no-alternative, by-choice, Ok, ok-empty, ok-definition, Sequence, no-grammar, by-grammar, Elaborates}
+use Rattle.elaboration.specs.Elaboration.{scopeOf}
+use Rattle.elaboration.proofs.Elaborated.{body-sorted, made-within}
 use Rattle.productions.specs.Normal.{Production, productionsOf, without, kept, definedAll, normalizedFrom, normalized}
 use Rattle.soundness.proofs.Typing.{Fit, FitAll}
 

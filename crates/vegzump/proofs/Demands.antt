@@ -23,7 +23,7 @@ use Rattle.answers.specs.declared.Verdict.the-variants.{Passed, Refused}
 use Rattle.grammar.specs.Table.{Template, Templates, none, Item, call}
 use Rattle.grammar.specs.Sorts.{Signature}
 use Rattle.judgements.specs.Judgements.{Newest, ItemSorted, Body}
-use Rattle.judgements.specs.Elaboration.{scopeOf}
+use Rattle.elaboration.specs.Elaboration.{scopeOf}
 use Rattle.tokens.specs.declared.Token.{Token}
 use Rattle.tokens.specs.Unscanned.{Unscans}
 use Rattle.checker.specs.Syntax.{Syntax, syntaxOf}

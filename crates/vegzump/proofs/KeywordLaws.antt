@@ -18,9 +18,9 @@ use Rattle.decoding.specs.Within.{Different, Within}
 use Rattle.decoding.proofs.Split.{Bytes}
 use Rattle.decoding.proofs.LayoutTheorems.{decode-exactly}
 use Rattle.keywords.proofs.KeptLaws.{kept-many, kept-at, all-kept}
-use Rattle.judgements.specs.CheckSorts.{checkSorts}
-use Rattle.judgements.specs.Elaboration.{Elaborates}
-use Rattle.judgements.proofs.SortTheorems.{sorts-exactly}
+use Rattle.elaboration.specs.CheckSequence.{checkSorts}
+use Rattle.elaboration.specs.Elaboration.{Elaborates}
+use Rattle.elaboration.proofs.SortTheorems.{sorts-exactly}
 use Rattle.productions.specs.Normal.{Production, normalized}
 use Rattle.firsts.specs.Reach.{kindsReached}
 use Rattle.reach.specs.Reached.{KeywordReached}

@@ -17,7 +17,7 @@ use Rattle.firsts.specs.Mentions.{notes}
 use Rattle.firsts.specs.Reach.{reachedBy, kindsReached}
 use Rattle.reach.specs.Reached.{Reached, KeywordReached}
 use Rattle.reach.proofs.Exactly as reach
-use Rattle.judgements.specs.Elaboration.{Elaborates}
+use Rattle.elaboration.specs.Elaboration.{Elaborates}
 use Rattle.checker.specs.Passes.{grammarOf, Passes}
 use Rattle.checker.specs.Syntax.{syntaxOf}
 use Rattle.checker.proofs.PassedNames.{names-within}

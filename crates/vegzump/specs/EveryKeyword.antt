@@ -7,7 +7,7 @@ use Rattle.answers.specs.Checked.{Checked, ok, bad, _>>=_, _>>_}
 use Rattle.answers.specs.Refusals.{refusal}
 use Rattle.grammar.specs.Table.{Table, Lexicon}
 use Rattle.decoding.specs.Decode.{decode}
-use Rattle.judgements.specs.CheckSorts.{checkSorts}
+use Rattle.elaboration.specs.CheckSequence.{checkSorts}
 use Rattle.productions.specs.Normal.{normalized}
 use Rattle.clashes.specs.CheckFirsts.{checkFirsts}
 use Rattle.checker.specs.Syntax.{Syntax}

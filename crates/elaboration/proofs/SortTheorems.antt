@@ -1,16 +1,16 @@
 -- What the sort check of a table means.
-use mathlib.Core.Path.{_≡_, refl, ap, subst}
+use mathlib.Core.Path.{_≡_, refl, subst}
 use mathlib.Core.Logic.{_↔_}
 use Rattle.answers.specs.declared.Refusal.{Refusal}
 use Rattle.answers.specs.Checked.{ok, bad}
 use Rattle.grammar.specs.Table.{Table}
 use Rattle.grammar.specs.Written.{Written}
 use Rattle.decoding.specs.Within.{Within}
-use Rattle.judgements.specs.CheckSorts.{checkSorts}
-use Rattle.judgements.specs.Elaboration.{Elaborates}
 use Rattle.judgements.proofs.Accepting.{passed, passes}
-use Rattle.judgements.proofs.SequenceSorts.{table-rule, rule-table}
-use Rattle.judgements.proofs.RefusalNumbers.{IsSortRefusal, table-sort}
+use Rattle.elaboration.specs.CheckSequence.{checkSorts}
+use Rattle.elaboration.specs.Elaboration.{Elaborates}
+use Rattle.elaboration.proofs.SequenceSorts.{table-rule, rule-table}
+use Rattle.elaboration.proofs.RefusalNumbers.{IsSortRefusal, table-sort}
 
 -- A table within the counts and ranges passes the sort check, which answers `made`, exactly if the judgements derive its sequence of grammars, elaborate it
 -- to that of `made`, and its root is defined, without parameters, of sort Term.

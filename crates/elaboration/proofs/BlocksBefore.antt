@@ -6,14 +6,16 @@ use native.Mathlib.Omega.{arith}
 use native.Mathlib.Nat.{add-zero}
 use Rattle.grammar.specs.Table.{Definition}
 use Rattle.grammar.specs.Written.{WrittenDefinition}
-use Rattle.judgements.specs.Sizes.{definitionsSize}
-use Rattle.judgements.specs.Scopes.{Env, Before, Scope}
-use Rattle.judgements.specs.CheckSorts.{collect, checkBodies, checkBlocks, blocksSize}
+use Rattle.judgements.specs.Sizes.{definitionsSize, blocksSize}
+use Rattle.judgements.specs.Scopes.{Env, Scope}
+use Rattle.judgements.specs.CheckSorts.{collect}
 use Rattle.judgements.specs.Judgements.{scope}
-use Rattle.judgements.specs.Elaboration.{Sequence, no-grammar, by-grammar}
 use Rattle.judgements.proofs.Accepting.{passes}
-use Rattle.judgements.proofs.BodySorts.{rule-ok}
-use Rattle.judgements.proofs.SequenceSorts.{behindBlock, rule-collect}
+use Rattle.judgements.proofs.HeadSorts.{rule-collect}
+use Rattle.elaboration.specs.CheckSequence.{Before, checkBodies, checkBlocks}
+use Rattle.elaboration.specs.Elaboration.{Sequence, no-grammar, by-grammar}
+use Rattle.elaboration.proofs.ResultSorts.{rule-ok}
+use Rattle.elaboration.proofs.SequenceSorts.{behindBlock}
 
 module _ (keywords outsides : ℕ) (behind : List (List WrittenDefinition)) where
   -- Behind blocks that are derived the check goes on with what they give and with what they are elaborated to, at the place behind them.

@@ -12,11 +12,11 @@ use Rattle.grammar.specs.SortTests.{fits}
 use Rattle.grammar.specs.Table.{keyword, ide, number, Item, terminal, local, call, Alternative, Mode, add, extend, update, Definition}
 use Rattle.grammar.specs.Written.{WrittenResult, template, WrittenAlternative, WrittenDefinition, Written}
 use Rattle.grammar.specs.Values.{itemValue}
 use Rattle.judgements.specs.Sizes.{fieldSize, alternativeSize, definitionSize, definitionsSize}
-use Rattle.judgements.specs.CheckSorts.{isDefined, signatureOf, isUnused, isAsBefore, isClosed, areClosed, isSorted, sortOf, fill}
-use Rattle.judgements.specs.Scopes.{Env, Before, Scope, entryOf}
-use Rattle.judgements.specs.CheckSorts.{consistent, collect, checkItem, checkItems, checkResult, checkAlternative, checkAlternatives, checkBodies}
-use Rattle.judgements.specs.CheckSorts.{checkBlocks, checkRoot, checkSorts}
+use Rattle.judgements.specs.CheckSorts.{isDefined, signatureOf, isUnused, isAsBefore, isClosed, areClosed, isSorted, sortOf, fill, consistent, collect}
+use Rattle.judgements.specs.CheckSorts.{checkItem, checkItems}
+use Rattle.judgements.specs.Scopes.{Env, Scope, entryOf}
+use Rattle.elaboration.specs.CheckSequence.{Before, checkResult, checkAlternative, checkAlternatives, checkBodies, checkBlocks, checkRoot, checkSorts}
 
 -- one of the four numbers; b and c are 0
 abbrev pub IsSortRefusal : Refusal → Type 0

@@ -8,10 +8,10 @@ use Rattle.grammar.specs.Table.{Template, Item, Alternative, Definition, Table}
 use Rattle.grammar.specs.Written.{WrittenResult, WrittenAlternative, WrittenDefinition, Written}
 use Rattle.grammar.specs.Templated.{templateOf, withTemplate, withTemplates, templated}
 use Rattle.decoding.specs.Within.{TemplateWithin, ResultWithin, template-within}
 use Rattle.judgements.specs.Scopes.{Env, Scope}
 use Rattle.judgements.specs.Judgements.{Numbered, no-item, one-more, Body, by-result, by-binding, Defines, no-definition, by-add, by-extend, by-update}
-use Rattle.judgements.specs.Elaboration.{ResultSorted, by-template, Bodies, no-alternative, by-choice, Ok, ok-empty, ok-definition}
-use Rattle.judgements.specs.Elaboration.{Sequence, no-grammar, by-grammar, Elaborates}
+use Rattle.elaboration.specs.Elaboration.{ResultSorted, by-template, Bodies, no-alternative, by-choice, Ok, ok-empty, ok-definition, Sequence}
+use Rattle.elaboration.specs.Elaboration.{no-grammar, by-grammar, Elaborates}
 
 module _ {G : Scope} where
   -- An alternative with the template of its result has the sort that was asked.

@@ -1,0 +1,2 @@
+pub mod CheckSequence
+pub mod Elaboration
