@@ -20,13 +20,14 @@ use Rattle.firsts.specs.Patterns.{opensIde, opensPlace}
 use Rattle.grammar.proofs.ReaderLaws.{getD-past}
 use Rattle.decoding.specs.Within.{Each, each-none, each-more, Among, among-first, among-later}
 use Rattle.productions.specs.Normal.{Production}
-use Rattle.productions.specs.Index.{Place, placesOf, productionAt, Whole}
+use Rattle.productions.specs.Index.{Place, placesOf, productionAt}
 use Rattle.productions.specs.Room.{Entry, noEntry, noPlace, HoldsEntries, placeFrom, isOf, isNullableOf, firstIn, startIn, firstSetIn}
 use Rattle.productions.specs.Room.{firstPlaceIn, nextPlaceIn, nullablePlaceIn, patternsIn}
 use Rattle.productions.proofs.RoomLaws.{first-set-in, first-place-in, nullable-place-in, first-in, start-in, next-place-in, patterns-in}
 use Rattle.firsts.specs.FirstSets.{openingOf, nullables, firstOf}
-use Rattle.firsts.specs.Room.{entryFor, productionsIn, tableRoomFor}
+use Rattle.firsts.specs.Room.{entryFor, productionsIn, HoldsFor}
 use Rattle.firsts.specs.Rules.{Opens}
+use Rattle.firsts.proofs.RoomEntries.{table-entries}
 use Rattle.firsts.proofs.StepLaws.{length-sets}
 use Rattle.firsts.proofs.FirstsTheorems.{opens-exactly, production-opens-exactly}
 use Rattle.expansion.specs.TextTokens.{isOpened, isPlaced}
@@ -401,6 +402,10 @@ module _ (room : List ℕ) (nonterminal : ℕ) where
   unfolding kindsIn
   kinds-outside l = rw (le-ltb nonterminal 64 l, kindsIn)
 
+-- A room that is made one for a text is of the same places.
+pub held-with : {patterns others : List Item → ℕ} {bs room room′ : List ℕ} → HeldFor patterns bs room → HoldsFor others bs room′ → HeldFor others bs room′
+held-with held grammar = record { grammar = grammar; places = held .places }
+
 module _ {patterns : List Item → ℕ} {bs room : List ℕ} (held : HeldFor patterns bs room) where
   abbrev nulls : ℕ
   nulls = nullables (productionsIn bs)
@@ -426,26 +431,14 @@ module _ {patterns : List Item → ℕ} {bs room : List ℕ} (held : HeldFor pat
   unfolding entriesFor
   entry-is spot l = map-at E (placesOf bs) spot somewhere noEntry l
 
-  entries-near : (spot : ℕ) → getD (entriesFor patterns bs) spot noEntry .start < 65536
-  entries-near spot =
-      by-test (ltb spot (length (placesOf bs)))
-      (λ t.
-      let l : spot < length (placesOf bs) = ltb-true _ _ t in
-      let w : Whole bs (getD (placesOf bs) spot somewhere) = each-at (held .places) spot l in
-      rw (entry-is spot l) (omega (arith, w .inside, held .grammar .small)))
-      (λ t.
-      let l : length (entriesFor patterns bs) ≤ spot = omega (arith, ltb-false spot (length (placesOf bs)) t, entries-count) in
-      rw (getD-past (entriesFor patterns bs) spot noEntry l) (omega arith))
-
   -- They are 256 at most.
   pub entries-few : length (entriesFor patterns bs) ≤ 256
   entries-few = omega (arith, entries-count, few)
 
   -- The room holds the entries of the table's productions.
   pub entries-held : HoldsEntries (firstSetsOf bs) (entriesFor patterns bs) room
-  unfolding tableRoomFor entriesFor firstSetsOf
-  entries-held =
-      record { kinds = _; rest = held .grammar .rest; held = held .grammar .held; few = entries-few; near = entries-near }
+  unfolding entriesFor firstSetsOf
+  entries-held = table-entries (held .grammar) (held .places)
 
   -- the walk over the places of one of the 64 nonterminals
   module _ {nonterminal : ℕ} (small : nonterminal < 64) (test : Entry → Bool) where

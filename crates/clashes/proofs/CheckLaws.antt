@@ -14,10 +14,9 @@ use Rattle.answers.specs.Refusals.{refusal}
 use Rattle.answers.specs.Checked.{Checked, ok, bad, _>>_, verdict}
 use Rattle.answers.specs.declared.Refusal.{Refusal}
 use Rattle.answers.specs.declared.Verdict.the-variants.{Passed, Refused}
-use Rattle.decoding.specs.Within.{Each, each-none, each-more}
 use Rattle.productions.specs.Normal.{Production}
-use Rattle.productions.specs.Index.{Place, placesFrom, placesIn, productionsAt, Whole, rootIn}
-use Rattle.productions.specs.Room.{Entry, noEntry, overwritten, placeFrom, isOf, firstPlaceIn, HoldsEntries}
+use Rattle.productions.specs.Index.{Place, placesFrom, placesIn, productionsAt, rootIn}
+use Rattle.productions.specs.Room.{Entry, overwritten, placeFrom, isOf, firstPlaceIn, HoldsEntries}
 use Rattle.productions.proofs.RoomLaws.{first-place-in}
 use Rattle.kinds.specs.Kinds.{hasKind}
 use Rattle.kinds.proofs.KindsLaws.{has-none}
@@ -33,8 +32,8 @@ use Rattle.clashes.specs.CheckCalls.{OwnersSmall, BoundIndex, Prepared}
 use Rattle.clashes.proofs.FillLaws.{length-entries, owner-small}
 use Rattle.clashes.proofs.HeldPairs.{no-clash-is}
 use Rattle.clashes.proofs.PairsLaws.{lowest-within, lowest-beyond, linked-none}
+use Rattle.firsts.proofs.RoomEntries.{near-entries}
 use Rattle.firsts.proofs.StepLaws.{length-sets, sets-below}
-use Rattle.grammar.specs.Limits.{most}
 
 -- ------------------------------------------------------------------ the sets
 
@@ -76,13 +75,6 @@ prepared bs places en et ek e er el =
       recursive = el ∙ rw (e .calls-are, en .nullables-are) refl;
       held = er ∙ rw (ek, et, en .noted .kinds-are, en .noted .calls-are, e .kinds-are, en .nullables-are) refl;
     }
-
--- an offset in a table that is not too long
-near-entries : {bs : List ℕ} (nulls : ℕ) (sets : List ℕ) → length bs ≤ most .bytes → {ps : List Place} → Each (Whole bs) ps → (place : ℕ)
-    → getD (map (entryAt bs nulls sets) ps) place noEntry .start < 65536
-near-entries nulls sets short each-none place = omega arith
-near-entries nulls sets short (each-more w ws) zero = omega (arith, w .inside)
-near-entries nulls sets short (each-more w ws) (suc place) = near-entries nulls sets short ws place
 
 -- ------------------------------------------------------------------ the nonterminals that have productions
 
@@ -146,7 +138,7 @@ module _ {bs : List ℕ} {below many : ℕ} {owners starts : List ℕ} (bound-in
           rest = _;
           held = given-prepared .held;
           few = omega (arith, bound-index .index .few, length-entries entry many owners starts);
-          near = near-entries _ _ (bound-index .index .short) (bound-index .index .whole);
+          near = near-entries (λ is. 0) _ _ (bound-index .index .short) (bound-index .index .whole);
         }
 
     no-entry : (number : ℕ) → below ≤ number → (count from turn : ℕ) → from + count ≤ many

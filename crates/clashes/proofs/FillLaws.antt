@@ -1,15 +1,14 @@
 -- Laws of filling the room of a grammar.
-use Prim.Native.Nat.{ℕ, zero, suc, _+_, _-_, _<_, _≤_}
+use Prim.Native.Nat.{ℕ, _+_, _-_, _<_, _≤_}
 use mathlib.Core.Path.{_≡_, refl, sym, _∙_, subst}
 use mathlib.Core.List.{List, map}
-use native.Mathlib.Nat.{add-zero, zero-add}
+use native.Mathlib.Nat.{zero-add}
 use native.Mathlib.Omega.{arith}
 use lib.ListN.{length, getD, length-map}
 use Rattle.grammar.specs.Lookup.{fieldsAt}
-use Rattle.decoding.specs.Within.{Each, each-more}
-use Rattle.productions.specs.Index.{itemsOf, Place, placesFrom, placesIn, Whole}
+use Rattle.productions.specs.Index.{itemsOf, Place, placesIn, Whole}
 use Rattle.productions.specs.Room.{Entry, noEntry, begun, laid, overwritten, RoomAt}
-use Rattle.productions.proofs.IndexLaws.{placeAt, length-places}
+use Rattle.productions.proofs.IndexLaws.{placeAt, length-places, map-at, each-at}
 use Rattle.productions.proofs.RoomWriting.{Filling, filling-start, filling-next, filling-end}
 use Rattle.firsts.specs.declared.Gathered.{Gathered}
 use Rattle.firsts.specs.SetCalls.{gathered}
@@ -17,25 +16,6 @@ use Rattle.firsts.specs.Room.{entryAt, roomBy, WholeIndex}
 use Rattle.clashes.specs.CheckCalls.{FillRoom}
 
 -- ------------------------------------------------------------------ the entries of an index
-
--- the entry of a place
-pub map-at : (entry-at : Place → Entry) (count : ℕ) (owners starts : List ℕ) (from place : ℕ) → place < count
-    → getD (map entry-at (placesFrom count owners starts from)) place noEntry ≡ entry-at (placeAt owners starts (from + place))
-unfolding placesFrom
-map-at entry-at zero owners starts from place h = absurd (omega arith)
-map-at entry-at (suc count) owners starts from zero h = rw add-zero refl
-map-at entry-at (suc count) owners starts from (suc place) h =
-    let z : from + 1 + place ≡ from + suc place = omega arith in
-    rw z at (map-at entry-at count owners starts (from + 1) place (omega arith))
-
-each-at : {P : Place → Type 0} (count : ℕ) (owners starts : List ℕ) (from place : ℕ) → Each P (placesFrom count owners starts from) → place < count
-    → P (placeAt owners starts (from + place))
-unfolding placesFrom
-each-at zero owners starts from place e h = absurd (omega arith)
-each-at (suc count) owners starts from zero (each-more p ps) h = rw add-zero p
-each-at {P} (suc count) owners starts from (suc place) (each-more p ps) h =
-    let z : from + 1 + place ≡ from + suc place = omega arith in
-    rw z at (each-at count owners starts (from + 1) place ps (omega arith))
 
 -- as many entries as places
 pub length-entries : (entry-at : Place → Entry) (all : ℕ) (owners starts : List ℕ) → length (map entry-at (placesIn all owners starts)) ≡ all
@@ -82,7 +62,7 @@ module _ {bs : List ℕ} {all : ℕ} {owners starts sets room₀ : List ℕ} (pr
     fill-next {start} es ef {room′} er =
         let z : 0 + (place - 1) ≡ place - 1 = omega arith in
         let here : entryAt bs nulls sets (placeAt owners starts (place - 1)) ≡ getD entries (place - 1) noEntry =
-        sym (map-at (entryAt bs nulls sets) all owners starts 0 (place - 1) (omega (arith, filling .low, many)) ∙ rw z refl) in
+        sym (map-at noEntry (entryAt bs nulls sets) all owners starts 0 (place - 1) (omega (arith, filling .low, many)) ∙ rw z refl) in
         let f : Filling kinds sets entries room₁ (place - 1) (laid (entryAt bs nulls sets (placeAt owners starts (place - 1))) (place - 1) room) =
         filling-next filling positive here (owner-small (pre .index) (place - 1) (omega (arith, filling .low, many))) in
         subst (Filling kinds sets entries room₁ (place - 1)) (sym (er ∙ rw (ef, es) refl)) f

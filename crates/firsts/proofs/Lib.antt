@@ -7,5 +7,6 @@ pub mod ItemsLaws
 pub mod MentionLaws
 pub mod NeedsLaws
 pub mod NullablesExactly
+pub mod RoomEntries
 pub mod Rounds
 pub mod StepLaws

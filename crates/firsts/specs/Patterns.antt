@@ -8,7 +8,7 @@ use Rattle.grammar.specs.Sorts.{var, binder, label}
 use Rattle.grammar.specs.SortTests.{isIdeSort, fits}
 use Rattle.grammar.specs.Table.{keyword, ide, number, Item, terminal, local, call}
 use Rattle.productions.specs.Normal.{Production}
-use Rattle.firsts.specs.FirstSets.{gather, setsOf}
+use Rattle.firsts.specs.FirstSets.{nullables, gather, setsOf}
 
 -- the set of one number, if a test passes: what no layout passes gives nothing, so that no ide has the bit of a place
 abbrev pub onlyIf : Bool → ℕ → ℕ
@@ -27,6 +27,10 @@ patternSets nulls g = setsOf patternOf nulls g
 
 abbrev pub patternsOf : ℕ → List ℕ → Production → ℕ
 patternsOf nulls sets p = gather patternOf nulls sets (p .items) 0
+
+-- what reads a variable first in items
+abbrev pub patternsIn : List Production → List Item → ℕ
+patternsIn g is = gather patternOf (nullables g) (patternSets (nullables g) g) is 0
 
 -- by rule: the sort that an ide reads at
 pub data ReadsAt : Item → ℕ → Type 0 where

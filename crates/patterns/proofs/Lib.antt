@@ -1,1 +1,2 @@
 pub mod PatternLaws
+pub mod TextRoomLaws

@@ -15,6 +15,7 @@ use Rattle.grammar.specs.declared.FieldSpan.{FieldSpan}
 use Rattle.grammar.specs.Lookup.{fieldAt, valueIn, fieldsAt}
 use Rattle.grammar.proofs.LookupLaws.{fields-of, field-lies, Walk, walk-field, walk-end}
 use Rattle.decoding.specs.Decode.{modeOf}
+use Rattle.decoding.specs.Within.{Each, each-more, Among, among-first, among-later}
 use Rattle.productions.specs.Index.{Place, placesFrom, placesIn, placesBy, placesOf, placesWithout, placesKept, alternativeFields}
 use Rattle.productions.specs.IndexCalls.{IndexRoomFor, LaidIndex, Arrays, arrays, laidOver, arraysBy, BuiltIndex, FitsIndex}
 use Rattle.grammar.specs.Limits.{most}
@@ -46,6 +47,54 @@ pub length-places : (count : ℕ) (owners starts : List ℕ) (from : ℕ) → le
 unfolding placesFrom
 length-places zero owners starts from = refl
 length-places (suc count) owners starts from = ap suc (length-places count owners starts (from + 1))
+
+-- ------------------------------------------------------------------ places by number
+
+-- what stands for a place
+pub map-at : {B : Type 0} (other : B) (image : Place → B) (count : ℕ) (owners starts : List ℕ) (from place : ℕ) → place < count
+    → getD (map image (placesFrom count owners starts from)) place other ≡ image (placeAt owners starts (from + place))
+unfolding placesFrom
+map-at other image zero owners starts from place h = absurd (omega arith)
+map-at other image (suc count) owners starts from zero h = rw add-zero refl
+map-at other image (suc count) owners starts from (suc place) h =
+    let z : from + 1 + place ≡ from + suc place = omega arith in
+    rw z at (map-at other image count owners starts (from + 1) place (omega arith))
+
+-- what holds of each place
+pub each-at : {P : Place → Type 0} (count : ℕ) (owners starts : List ℕ) (from place : ℕ) → Each P (placesFrom count owners starts from) → place < count
+    → P (placeAt owners starts (from + place))
+unfolding placesFrom
+each-at zero owners starts from place e h = absurd (omega arith)
+each-at (suc count) owners starts from zero (each-more p ps) h = rw add-zero p
+each-at {P} (suc count) owners starts from (suc place) (each-more p ps) h =
+    let z : from + 1 + place ≡ from + suc place = omega arith in
+    rw z at (each-at count owners starts (from + 1) place ps (omega arith))
+
+-- what stands for a place is among what stands for all,
+pub place-among : {B : Type 0} (image : Place → B) (count : ℕ) (owners starts : List ℕ) (from place : ℕ) → place < count
+    → Among (map image (placesFrom count owners starts from)) (image (placeAt owners starts (from + place)))
+unfolding placesFrom
+place-among image zero owners starts from place h = absurd (omega arith)
+place-among image (suc count) owners starts from zero h = rw add-zero among-first
+place-among image (suc count) owners starts from (suc place) h =
+    let z : from + 1 + place ≡ from + suc place = omega arith in
+    among-later (rw z at (place-among image count owners starts (from + 1) place (omega arith)))
+
+-- the place that something stands for
+pub record Numbered {B : Type 0} (image : Place → B) (count : ℕ) (owners starts : List ℕ) (from : ℕ) (one : B) : Type 0 where
+  pub place : ℕ
+  pub inside : place < count
+  pub equal : one ≡ image (placeAt owners starts (from + place))
+
+-- and what is among them stands for one.
+pub among-place : {B : Type 0} (image : Place → B) (count : ℕ) (owners starts : List ℕ) (from : ℕ) {one : B}
+    → Among (map image (placesFrom count owners starts from)) one → Numbered image count owners starts from one
+unfolding placesFrom
+among-place image (suc count) owners starts from among-first = record { place = 0; inside = omega arith; equal = rw add-zero refl }
+among-place image (suc count) owners starts from (among-later a) =
+    let n = among-place image count owners starts (from + 1) a in
+    let z : from + 1 + n .place ≡ from + suc (n .place) = omega arith in
+    record { place = suc (n .place); inside = omega (arith, n .inside); equal = rw z at (n .equal) }
 
 -- ------------------------------------------------------------------ one entry written
 

@@ -12,7 +12,7 @@ use Rattle.grammar.specs.Limits.{most}
 use Rattle.productions.specs.Room.{Entry, noEntry, HoldsEntries, placeFrom, isOf, isNullableOf, valuesOf, placesNumber, flagNumber}
 use Rattle.productions.specs.Room.{linkNumber, entryNumbers, roomOf, firstSetIn, firstPlaceIn, nullablePlaceIn}
 use Rattle.productions.specs.Room.{setsAt, placesAt, productionsAt, linksAt, nullableBase}
-use Rattle.productions.specs.Room.{firstIn, startIn, nextPlaceIn, nullableIn, patternsIn}
+use Rattle.productions.specs.Room.{kindsIn, firstIn, startIn, nextPlaceIn, nullableIn, patternsIn}
 
 -- ------------------------------------------------------------------ values
 
@@ -176,6 +176,11 @@ module _ {sets : List ℕ} {es : List Entry} {room : List ℕ} (holds-entries : 
   at-entries : (place : ℕ) → getD room (productionsAt + place) 0 ≡ getD (entryNumbers es 0 ++ holds-entries .rest) place 0
   at-entries place = rw parts (last-part (holds-entries .kinds) setOf (placesNumber es) (entryNumbers es 0 ++ holds-entries .rest) place)
 
+  -- The kinds that are reached.
+  pub kinds-in : kindsIn room ≡ holds-entries .kinds
+  unfolding roomOf
+  kinds-in = rw (holds-entries .held) refl
+
   -- ------------------------------------------------------------------ of a nonterminal
 
   module _ (nonterminal : ℕ) (small : nonterminal < most .nonterminals) where
@@ -209,7 +214,8 @@ module _ {sets : List ℕ} {es : List Entry} {room : List ℕ} (holds-entries : 
         ∙ List·getD-append (entryNumbers es 0) _ 0 (2 * place) (omega (arith, length-entries es 0))
         ∙ entry-first es 0 place inside
 
-    link-in : getD room (linksAt + 2 * place) 0 ≡ linkNumber (getD es place noEntry) (drop (place + 1) es) place
+    -- Its offset, the next place, its nullability and what reads a variable first in it, in one number.
+    pub link-in : getD room (linksAt + 2 * place) 0 ≡ linkNumber (getD es place noEntry) (drop (place + 1) es) place
     link-in =
         let z : linksAt + 2 * place ≡ productionsAt + (2 * place + 1) = omega arith in
         let y : 0 + place ≡ place = omega arith in
@@ -218,7 +224,8 @@ module _ {sets : List ℕ} {es : List Entry} {room : List ℕ} (holds-entries : 
         ∙ entry-link es 0 place inside
         ∙ ap (linkNumber (getD es place noEntry) (drop (place + 1) es)) y
 
-    next-small : placeFrom (isOf (getD es place noEntry .nonterminal)) (drop (place + 1) es) (place + 1) ≤ most .alternatives
+    -- The next place is one that there may be, or none.
+    pub next-small : placeFrom (isOf (getD es place noEntry .nonterminal)) (drop (place + 1) es) (place + 1) ≤ most .alternatives
     next-small = place-small _ (drop (place + 1) es) (place + 1) (omega (arith, holds-entries .few, length-drop (place + 1) es))
 
     -- The offset of its first item, or of its result.

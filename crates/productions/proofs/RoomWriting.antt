@@ -384,7 +384,8 @@ module _ {kinds : ℕ} {sets : List ℕ} {es : List Entry} {room₀ : List ℕ} 
           List·getD-append (entryNumbers es 0) rest 0 at-place (omega (arith, length-entries es 0)),
         )
 
-    filled : room ≡ roomOf kinds sets es ++ drop (productionsAt + 2 * length es) room₀
+    -- All entries, before what was there.
+    pub filled : room ≡ roomOf kinds sets es ++ drop (productionsAt + 2 * length es) room₀
     unfolding roomOf
     filled =
         parts-are kinds (λ n. getD sets n 0) (placesNumber es) (entryNumbers es 0 ++ rest) room

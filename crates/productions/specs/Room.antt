@@ -127,6 +127,30 @@ laid e j room =
     (placesAt + e .nonterminal)
     (j + placeBase * (elim (e .nullable) [ true ↦ j | false ↦ getD room (placesAt + e .nonterminal) 0 / placeBase ]))
 
+-- what reads a variable first, by bits, is below this: bits 1 to 3 are ides, bits 8 to 14 pattern places (document 02, C-14)
+abbrev pub patternsMost : ℕ
+patternsMost = 32768
+
+-- a whole room, a place that there may be, whose link has nothing that reads a variable, and what is to be added
+pub record PatternsAt (j patterns : ℕ) (room : List ℕ) : Type 0 where
+  pub size : length room ≡ roomSize
+  pub near : j < most .alternatives
+  pub free : getD room (linksAt + 2 * j) 0 < patternsBase
+  pub small : patterns < patternsMost
+
+-- what reads a variable first in the production at place j, added to its link
+abbrev pub patterned : ℕ → ℕ → List ℕ → List ℕ
+patterned j patterns room = set room (linksAt + 2 * j) (getD room (linksAt + 2 * j) 0 + patternsBase * patterns)
+
+-- the links before place `index` have what `pattern` gives; all else is as before
+pub record Patterned (pattern : ℕ → ℕ) (room₀ : List ℕ) (index : ℕ) (room : List ℕ) : Type 0 where
+  -- the room has its size
+  pub size : length room ≡ roomSize
+  -- a link that is past
+  pub done : (place : ℕ) → place < index → getD room (linksAt + 2 * place) 0 ≡ getD room₀ (linksAt + 2 * place) 0 + patternsBase * pattern place
+  -- any other number
+  pub left : (at-place : ℕ) → ((place : ℕ) → place < index → at-place ≡ linksAt + 2 * place → ⊥) → getD room at-place 0 ≡ getD room₀ at-place 0
+
 -- what stands past the last entry
 abbrev pub noEntry : Entry
 noEntry = record { nonterminal = 0; start = 0; first = 0; nullable = false; patterns = 0 }

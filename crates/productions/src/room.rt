@@ -7,7 +7,7 @@ ghost use mathlib.Core.Path.{_≡_};
 ghost use lib.ListN.{length, getD};
 ghost use mathlib.Core.Bool.{true, false};
 ghost use Rattle.grammar.specs.Limits.{most};
-ghost use Rattle.productions.specs.Room.{roomSize, productionsAt, linksAt, placeBase, nullableBase, flagNumber, begun, laid, RoomAndSets, RoomAt};
+ghost use Rattle.productions.specs.Room.{roomSize, productionsAt, linksAt, placeBase, nullableBase, flagNumber, begun, laid, patterned, RoomAndSets, RoomAt, PatternsAt};
 ghost use Rattle.productions.specs.Room.{kindsIn, firstSetIn, firstPlaceIn, nullablePlaceIn, firstIn, startIn, nextPlaceIn, nullableIn, patternsIn};
 
 // Where the room has the first sets of nonterminals, the places of their productions, and two numbers for each production: its first set
@@ -165,4 +165,14 @@ pub fn lay(room: &mut [u64], j: usize, owner: u8, start: u16, first: u64, nullab
     room[PRODUCTIONS + 2 * j] = first;
     room[LINKS + 2 * j] = start as u64 + START_BASE * (old % PLACE_BASE) + flag(nullable);
     room[own] = places_from(nullable, j as u64, old);
+}
+
+// Adds to the link of the production at a place what reads a variable first in it, of which the link has nothing.
+pub fn add_patterns(room: &mut [u64], j: usize, patterns: u64)
+    requires { ⌜ PatternsAt j patterns (now room) ⌝ }
+    ensures { λ r. ⌜ now (room .exit) ≡ patterned j patterns (now (room .entry)) ⌝ }
+{
+    let at = LINKS + 2 * j;
+    let link = room[at];
+    room[at] = link + PATTERNS * patterns;
 }

@@ -21,7 +21,7 @@ use Rattle.tokens.specs.Tokens.{endToken}
 use Rattle.productions.specs.Normal.{Production}
 use Rattle.decoding.specs.Within.{Among}
 use Rattle.firsts.specs.Rules.{Of, First, first-own, first-call, first-past, Reads, reads}
-use Rattle.firsts.specs.Patterns.{patternOf, ReadsAt, reads-at, opensIdeOf, opensIde, opensPlace}
+use Rattle.firsts.specs.Patterns.{patternOf, patternsIn, ReadsAt, reads-at, opensIdeOf, opensIde, opensPlace}
 use Rattle.firsts.proofs.FirstsTheorems.{production-opens-exactly, production-nullable-exactly}
 use Rattle.firsts.proofs.FirstSetsExactly.{items-exactly, reads-at-exactly}
 use Rattle.firsts.proofs.Rounds.{or-left, or-right, or-split}
@@ -32,7 +32,7 @@ use Rattle.expansion.specs.TextTokens.{isTextKind, isOpened, isPlaced}
 use Rattle.expansion.specs.Expansion.{Rule, readyFor, Choice, unfit, chosen, firstRule, choice}
 use Rattle.expansion.proofs.AsBefore.{opened-as-before, opened-variable, placed-variable, placed-never, nothing-found}
 use Rattle.expansion.proofs.Choosing.{nextKind, kind-next, Found, Missing, first-rule, rule}
-use Rattle.texts.specs.Reading.{patternsIn, readyText, asOutside}
+use Rattle.texts.specs.Reading.{readyText, asOutside}
 use Rattle.texts.specs.ReadingRules.{TextOpened, opened-kind, opened-ide, TextTaken, taken-opened, taken-nullable}
 
 -- ------------------------------------------------------------------ the kind of the next token

@@ -11,7 +11,7 @@ use Rattle.kinds.specs.Kinds.{wordKind, numberKind}
 use Rattle.kinds.specs.TextKinds.{outsideKind}
 use Rattle.keywords.specs.KeptSpellings.{spellingsKept}
 use Rattle.grammar.specs.SortTests.{fits}
-use Rattle.grammar.specs.Table.{Template, Item, Lexicon}
+use Rattle.grammar.specs.Table.{Template, Lexicon}
 use Rattle.terms.specs.Cells.{columns, mostCells}
 use Rattle.terms.specs.Term.{largestTerm}
 use Rattle.tokens.specs.declared.Token.{Token}
@@ -20,8 +20,7 @@ use Rattle.tokens.specs.declared.Scanned.the-variants.{Tokens, Unscanned}
 use Rattle.tokens.specs.Tokens.{token}
 use Rattle.tokens.specs.Scan.{Lexed}
 use Rattle.productions.specs.Normal.{Production}
-use Rattle.firsts.specs.FirstSets.{gather, nullables}
-use Rattle.firsts.specs.Patterns.{patternOf, patternSets}
+use Rattle.firsts.specs.Patterns.{patternsIn}
 use Rattle.firsts.specs.Reach.{kindsReached}
 use Rattle.expansion.specs.Run.{Result, done, halt}
 use Rattle.expansion.specs.Expansion.{Grammar, Input, readyFor, run}
@@ -41,10 +40,6 @@ pub record TextContext : Type 0 where
 abbrev pub lexiconFor : TextContext → List ℕ → ℕ → Lexicon
 lexiconFor P L n =
     record { keywords = spellingsKept (kindsReached (P .productions) n) 0 (P .keywords); outsides = P .outsides; variables = L }
-
--- what reads a variable first in items
-abbrev pub patternsIn : List Production → List Item → ℕ
-patternsIn g is = gather patternOf (nullables g) (patternSets (nullables g) g) is 0
 
 -- productions made ready for a text
 abbrev pub readyText : List Production → Grammar
