@@ -11,3 +11,6 @@ pub mod TwoRooms
 pub mod TextScan
 pub mod TextAccepted
 pub mod TextComplete
+pub mod TextValues
+pub mod ValueReading
+pub mod ValueRun

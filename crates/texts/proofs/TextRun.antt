@@ -71,8 +71,8 @@ pub record Finished {A : Type 0} (P : A → State → List ℕ → Type 0) (resu
   -- what holds of them
   pub holds : P value state cells
 
--- a run that cannot be refused is done
-finished : {A : Type 0} (P : A → State → List ℕ → Type 0) (H : Refusal → Type 0) (result : Result A) → Ends P H result → ((r : Refusal) → H r → ⊥)
+-- A run that cannot be refused is done.
+pub finished : {A : Type 0} (P : A → State → List ℕ → Type 0) (H : Refusal → Type 0) (result : Result A) → Ends P H result → ((r : Refusal) → H r → ⊥)
     → Finished P result
 finished P H (done a s cells) p h = record { value = a; state = s; cells = cells; is = refl; holds = p }
 finished P H (halt r cells) p h = absurd (h r p)
