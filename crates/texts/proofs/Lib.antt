@@ -14,3 +14,6 @@ pub mod TextComplete
 pub mod TextValues
 pub mod ValueReading
 pub mod ValueRun
+pub mod Sizes
+pub mod SizeReading
+pub mod SizeRules

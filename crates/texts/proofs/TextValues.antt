@@ -187,8 +187,8 @@ module _ {G : Scope} {g : List Production} {values : Values (G .outsides)} (read
     -- Templates that are built as arguments are shown,
     pub arguments-built : {L Bs : List ℕ} {M : List (values .Value)} (ts : Templates) {xs : List ℕ} (s : State) (cells : List ℕ) → Fill (G .outsides) L ts Bs
         → Kept (reader .rows) s cells → Shown values (s .made) cells L xs M
-        → Ends (λ ys s′ c′. Made (reader .rows) (rowsOfAll ts) s cells s′ c′ × Shown values (s′ .made) c′ Bs ys (values .giveAll M ts)) (Full (reader .rows) (s .made + rowsOfAll ts))
-        (buildAll ts input xs s cells)
+        → Ends (λ ys s′ c′. Made (reader .rows) (rowsOfAll ts) s cells s′ c′ × Shown values (s′ .made) c′ Bs ys (values .giveAll M ts))
+        (Full (reader .rows) (s .made + rowsOfAll ts)) (buildAll ts input xs s cells)
     arguments-built {Bs = Bs} {M = M} ts {xs = xs} s cells w k a =
         subst
         (λ many. Ends (λ ys s′ c′. Made many (rowsOfAll ts) s cells s′ c′ × Shown values (s′ .made) c′ Bs ys (values .giveAll M ts))
@@ -198,8 +198,8 @@ module _ {G : Scope} {g : List Production} {values : Values (G .outsides)} (read
     -- and so is one that is built as a result.
     pub result-built : {L : List ℕ} {A B : ℕ} {M : List (values .Value)} (t : Template) {xs : List ℕ} (s : State) (cells : List ℕ) → Sorted (G .outsides) L t A
         → Fits A B → Kept (reader .rows) s cells → Shown values (s .made) cells L xs M
-        → Ends (λ x s′ c′. Made (reader .rows) (rowsOf t) s cells s′ c′ × values .Shows c′ (s′ .made) B x (values .give M t)) (Full (reader .rows) (s .made + rowsOf t))
-        (build t input xs s cells)
+        → Ends (λ x s′ c′. Made (reader .rows) (rowsOf t) s cells s′ c′ × values .Shows c′ (s′ .made) B x (values .give M t))
+        (Full (reader .rows) (s .made + rowsOf t)) (build t input xs s cells)
     result-built {B = B} {M = M} t {xs = xs} s cells w f k a =
         subst
         (λ many. Ends (λ x s′ c′. Made many (rowsOf t) s cells s′ c′ × values .Shows c′ (s′ .made) B x (values .give M t)) (Full many (s .made + rowsOf t))

@@ -1,18 +1,17 @@
 -- A text that is run to its end is derived by Figure 3, over any values that a reading may give, and its cells show the value derived.
 use Prim.Native.Nat.{ℕ, zero, suc, _+_, _*_, _≤_, _<_}
-use mathlib.Core.Path.{_≡_, refl, sym, ap, subst, subst⁻¹, subst₂, _∙_}
+use mathlib.Core.Path.{_≡_, refl, sym, ap, subst, subst⁻¹, subst₂}
 use mathlib.Core.Bool.{Bool, true, false}
 use mathlib.Core.List.{List, [], _∷_, _++_}
 use native.Mathlib.Omega.{arith}
 use lib.Dec.{ltb}
-use lib.ListN.{length, getD, drop, drop-of-length-le}
+use lib.ListN.{length, drop, drop-of-length-le}
 use borrow.Author.Tests.{ltb-true, ltb-false}
 use Rattle.answers.specs.Refusals.{refusal}
 use Rattle.grammar.specs.Sorts.{Signature}
 use Rattle.grammar.specs.Table.{Template, Templates, none, Item, terminal, local, call}
 use Rattle.terms.specs.Cells.{columns}
 use Rattle.tokens.specs.declared.Token.{Token}
-use Rattle.tokens.specs.Tokens.{endToken}
 use Rattle.productions.specs.Normal.{Production}
 use Rattle.judgements.specs.Scopes.{Scope}
 use Rattle.judgements.specs.Judgements.{Newest, Fits, Sorted, Fill, ItemSorted, Body, by-result, by-binding}
@@ -21,14 +20,14 @@ use Rattle.expansion.specs.declared.State.{State}
 use Rattle.expansion.specs.Run.{Result, done, halt, Run, after}
 use Rattle.expansion.specs.Limits.{mostCalls, mostOpen}
 use Rattle.expansion.specs.Figure3.{by-end, by-terminal, by-call}
-use Rattle.expansion.specs.Expansion.{Input, Rule, Choice, unfit, chosen, nextToken, build, buildAll, runItem, runItems, choice, callBegun, runCall}
+use Rattle.expansion.specs.Expansion.{Input, Choice, unfit, chosen, nextToken, build, buildAll, runItem, runItems, choice, callBegun, runCall}
 use Rattle.expansion.specs.Expansion.{initialState, ended, run}
 use Rattle.expansion.specs.Costs.{rowsOf, rowsOfAll, openIn, callsIn, rowsIn, Affords}
 use Rattle.expansion.proofs.CallLaws.{inner, call-full, call-unfit, call-chosen}
 use Rattle.expansion.proofs.Endings.{Ends, ends-after, ends-map, Made, Full}
 use Rattle.expansion.proofs.Shows.{Grown, grown-not, grown-trans}
 use Rattle.texts.specs.ReadingRules.{TextTaken}
-use Rattle.texts.proofs.TextChoice.{TextPicks, TakenAs, chosen-taken, taken-of}
+use Rattle.texts.proofs.TextChoice.{TextPicks, chosen-taken, taken-of}
 use Rattle.texts.proofs.TextSetting.{Kept}
 use Rattle.texts.proofs.TextValues.{show-none, show-and, isCall, Values, ValueDerives, Step, Any, TextReader, wholeInput, Lends, lends-whole}
 use Rattle.texts.proofs.TextValues.{lends-inner, Shown, shown-later, arguments-built, result-built, choice-picked}

@@ -1,25 +1,25 @@
 -- A text that Figure 3 derives within the limits, over any values that a reading may give, is run to its end, and its cells show the value.
-use Prim.Native.Nat.{ℕ, zero, suc, _+_, _*_, _≤_, _<_, max}
+use Prim.Native.Nat.{ℕ, zero, suc, _+_, _*_, _≤_, _<_}
 use mathlib.Core.Path.{_≡_, refl, sym, ap, subst, subst₂, _∙_}
-use mathlib.Core.Bool.{Bool, true, false, true≢false}
+use mathlib.Core.Bool.{false, true≢false}
 use mathlib.Core.List.{List, [], _∷_, _++_}
 use native.Mathlib.Omega.{arith}
 use lib.Dec.{ltb}
-use lib.ListN.{length, getD, drop, length-drop}
+use lib.ListN.{length, drop, length-drop}
 use borrow.Author.Tests.{lt-ltb, le-ltb}
 use Rattle.answers.specs.Checked.{ok}
 use Rattle.grammar.specs.Sorts.{Signature}
-use Rattle.grammar.specs.Table.{Template, Templates, none, Item, terminal, local, call}
+use Rattle.grammar.specs.Table.{Template, Templates, none, Item, call}
 use Rattle.terms.specs.Cells.{columns}
 use Rattle.tokens.specs.declared.Token.{Token}
 use Rattle.productions.specs.Normal.{Production}
 use Rattle.clashes.specs.CheckFirsts.{checkFirsts}
 use Rattle.judgements.specs.Scopes.{Scope}
-use Rattle.judgements.specs.Judgements.{Newest, Fits, Sorted, Fill, ItemSorted, Body, by-result, by-binding}
+use Rattle.judgements.specs.Judgements.{Newest, Fits, Sorted, Fill, Body, by-result, by-binding}
 use Rattle.judgements.specs.Judgements as Judgements
 use Rattle.expansion.specs.declared.State.{State}
 use Rattle.expansion.specs.Run.{Result, done, Run, after}
-use Rattle.expansion.specs.Limits.{mostCalls, mostOpen}
+use Rattle.expansion.specs.Limits.{mostCalls}
 use Rattle.expansion.specs.Figure3.{by-end, by-terminal, by-call}
 use Rattle.expansion.specs.Costs.{rowsOf, rowsOfAll, openIn, callsIn, rowsIn, Affords}
 use Rattle.expansion.specs.Expansion.{Input, build, buildAll, runItem, runItems, callBegun, runCall, initialState, ended, run}
@@ -31,7 +31,7 @@ use Rattle.texts.specs.ReadingRules.{TextTaken}
 use Rattle.texts.proofs.TextChoice.{taken-of, taken-chosen}
 use Rattle.texts.proofs.TextSetting.{Kept}
 use Rattle.texts.proofs.TextRun.{Finished, finished}
-use Rattle.texts.proofs.TextValues.{ShowAll, show-none, show-and, Values, ValueDerives, Returned, TextReader, wholeInput, Lends}
+use Rattle.texts.proofs.TextValues.{show-none, show-and, Values, ValueDerives, Returned, TextReader, wholeInput, Lends}
 use Rattle.texts.proofs.TextValues.{lends-whole, lends-inner, Shown, shown-later, arguments-built, result-built, choice-picked}
 
 module _ {G : Scope} {g : List Production} {values : Values (G .outsides)} (reader : TextReader G g values) (passed : checkFirsts g ≡ ok tt) where
