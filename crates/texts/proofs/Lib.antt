@@ -17,3 +17,5 @@ pub mod ValueRun
 pub mod Sizes
 pub mod SizeReading
 pub mod SizeRules
+pub mod UnreadCauses
+pub mod TextUnread
