@@ -11,3 +11,11 @@ pub mod TwoRooms
 pub mod TextScan
 pub mod TextAccepted
 pub mod TextComplete
+pub mod TextValues
+pub mod ValueReading
+pub mod ValueRun
+pub mod Sizes
+pub mod SizeReading
+pub mod SizeRules
+pub mod UnreadCauses
+pub mod TextUnread

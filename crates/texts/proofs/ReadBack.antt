@@ -35,7 +35,7 @@ row-place e fits-equal = e
 row-place e fits-binder = absurd (true≢false (sym e))
 
 -- a number of a class below that of variables
-no-variable : (x : ℕ) → x < 4 * nameBase → isVariableName x ≡ false
+pub no-variable : (x : ℕ) → x < 4 * nameBase → isVariableName x ≡ false
 no-variable x l = ne-eqb (x / nameBase) 4 (λ h. omega arith)
 
 -- ------------------------------------------------------------------ templates

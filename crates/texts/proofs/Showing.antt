@@ -46,7 +46,8 @@ shows-more (outsideVar n) l shows-var = shows-var
 shows-more (outsideLabel n) l shows-label = shows-label
 shows-more {made′ = made′} (make c ts) l (shows-make {row = row} h e cs) = shows-make {made = made′} {row = row} (omega arith) e cs
 
-fewer : {made made′ : ℕ} {cells cells′ : List ℕ} → made ≤ made′ → Agree made′ cells cells′ → Agree made cells cells′
+-- Cells that have the same rows have the same of fewer.
+pub fewer : {made made′ : ℕ} {cells cells′ : List ℕ} → made ≤ made′ → Agree made′ cells cells′ → Agree made cells cells′
 fewer l a = record { same = λ place h. a .same place (omega arith) }
 
 mutual
@@ -93,8 +94,8 @@ shows-bound (suc i) (show-more h hs) = shows-bound i hs
 
 module _ (made : ℕ) (cells : List ℕ) {code : ℕ} {xs numbers : List ℕ} (row : Row code xs numbers) (room : made * columns + columns ≤ length cells)
     (is-code : IsCode code) where
-  -- its numbers, by column
-  in-row : (k : ℕ) → k < columns → column (withRow cells made numbers) made k ≡ getD (filled code xs) k 0
+  -- Its numbers, by column.
+  pub in-row : (k : ℕ) → k < columns → column (withRow cells made numbers) made k ≡ getD (filled code xs) k 0
   in-row k h =
       let front : length (take (made * columns) cells) ≡ made * columns = length-take-le (made * columns) cells (omega arith) in
       let both : length (take (made * columns) cells ++ numbers) ≡ made * columns + columns = rw (length-append, row .as-many, front) refl in

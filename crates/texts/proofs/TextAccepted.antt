@@ -147,25 +147,27 @@ pub record Accepted (P : TextContext) (L : List ℕ) (n A B : ℕ) (bs : List �
   -- its sort fits
   pub fitting : fits A B ≡ true
 
-scanned-as : (answer : Scanned) → isScanned answer ≡ true → (many : ℕ) × (count : ℕ) × (answer ≡ Tokens many count)
+-- A scan that passes answers how many tokens and words there are.
+pub scanned-as : (answer : Scanned) → isScanned answer ≡ true → (many : ℕ) × (count : ℕ) × (answer ≡ Tokens many count)
 scanned-as (Tokens many count) e = (many, count, refl)
 scanned-as (Unscanned r) e = absurd (true≢false (sym e))
 
 -- a run whose reading is given is done
-record DoneAs (A : ℕ) (result : Result ℕ) (r : Reading) : Type 0 where
-  value : ℕ
-  state : State
-  cells : List ℕ
-  is : result ≡ done value state cells
-  template-is : textTemplate (state .made) cells A value ≡ r .template
-  made-is : state .made ≡ r .made
-  fresh-is : ltb 1 (state .fresh) ≡ r .isFresh
+pub record DoneAs (A : ℕ) (result : Result ℕ) (r : Reading) : Type 0 where
+  pub value : ℕ
+  pub state : State
+  pub cells : List ℕ
+  pub is : result ≡ done value state cells
+  pub template-is : textTemplate (state .made) cells A value ≡ r .template
+  pub made-is : state .made ≡ r .made
+  pub fresh-is : ltb 1 (state .fresh) ≡ r .isFresh
 
 abbrev isReading : Readings → Bool
 isReading unread = false
 isReading (reading r) = true
 
-done-as : (A : ℕ) (result : Result ℕ) {r : Reading} → readingOf A result ≡ reading r → DoneAs A result r
+-- A run that gives a reading is done with it.
+pub done-as : (A : ℕ) (result : Result ℕ) {r : Reading} → readingOf A result ≡ reading r → DoneAs A result r
 done-as A (halt q cells) e = absurd (true≢false (sym (ap isReading e)))
 done-as A (done x s cells) e =
     record { value = x; state = s; cells = cells; is = refl; template-is = cc e; made-is = cc e; fresh-is = cc e }

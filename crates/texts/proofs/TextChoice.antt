@@ -222,7 +222,8 @@ module _ (g : List Production) where
   isChosen unfit = false
   isChosen (chosen r) = true
 
-  chosen-taken : {nonterminal : ℕ} {s : List Token} (r : Rule) → TextPicks nonterminal s (chosen r) → TakenAs nonterminal s r
+  -- What a choice that picks a rule takes.
+  pub chosen-taken : {nonterminal : ℕ} {s : List Token} (r : Rule) → TextPicks nonterminal s (chosen r) → TakenAs nonterminal s r
   chosen-taken r (picks p t e) = record { production = p; taken = t; same-items = cc e; same-result = cc e }
   chosen-taken r (picks-none none e) = absurd (let y : true ≡ false = ap isChosen e in true≢false y)
 
@@ -251,7 +252,8 @@ module _ (g : List Production) where
     taken-one {other = other} (taken-nullable o h z) (taken-opened k j) = absurd (h other k j)
     taken-one {nonterminal} {s} {p} {other} (taken-nullable o h z) (taken-nullable k j y) = one-production g passed nonterminal p other o k .1 z y
 
-    taken-chosen : {nonterminal : ℕ} {s : List Token} {p : Production} {given-choice : Choice} → TextTaken g nonterminal s p
+    -- What the tokens take is what a choice picks.
+    pub taken-chosen : {nonterminal : ℕ} {s : List Token} {p : Production} {given-choice : Choice} → TextTaken g nonterminal s p
         → TextPicks nonterminal s given-choice → given-choice ≡ chosen (rule g p)
     taken-chosen t (picks q u e) = e ∙ ap (λ r. chosen (rule g r)) (taken-one u t)
     taken-chosen {p = p} t (picks-none f e) = absurd (f p t)

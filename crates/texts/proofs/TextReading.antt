@@ -61,11 +61,12 @@ negated true h = absurd (true≢false (sym h))
 negated false h = refl
 
 -- a variable that fits, or an outside name that is no Binder
-data Meets (kind B : ℕ) : Type 0 where
+pub data Meets (kind B : ℕ) : Type 0 where
   meets-variable : noKind < kind → isOutsideKind kind ≡ false → fits (sortOfKind kind) B ≡ true → Meets kind B
   meets-outside : kind ≡ outsideKind → (B ≡ binder → ⊥) → Meets kind B
 
-meets-rule : (kind B : ℕ) → meetsIde kind B ≡ true → Meets kind B
+-- What an ide of a text reads is one of these.
+pub meets-rule : (kind B : ℕ) → meetsIde kind B ≡ true → Meets kind B
 unfolding meetsIde
 meets-rule kind B h =
     either (isTextKind kind && not (isOutsideKind kind) && fits (sortOfKind kind) B) (isOutsideKind kind && not (eqb B binder)) h

@@ -71,14 +71,14 @@ pub record Finished {A : Type 0} (P : A → State → List ℕ → Type 0) (resu
   -- what holds of them
   pub holds : P value state cells
 
--- a run that cannot be refused is done
-finished : {A : Type 0} (P : A → State → List ℕ → Type 0) (H : Refusal → Type 0) (result : Result A) → Ends P H result → ((r : Refusal) → H r → ⊥)
+-- A run that cannot be refused is done.
+pub finished : {A : Type 0} (P : A → State → List ℕ → Type 0) (H : Refusal → Type 0) (result : Result A) → Ends P H result → ((r : Refusal) → H r → ⊥)
     → Finished P result
 finished P H (done a s cells) p h = record { value = a; state = s; cells = cells; is = refl; holds = p }
 finished P H (halt r cells) p h = absurd (h r p)
 
--- a variable that fits is read by an ide
-meets-variable : (A B : ℕ) → variableKind A < outsideKind → fits A B ≡ true → meetsIde (variableKind A) B ≡ true
+-- A variable that fits is read by an ide,
+pub meets-variable : (A B : ℕ) → variableKind A < outsideKind → fits A B ≡ true → meetsIde (variableKind A) B ≡ true
 unfolding meetsIde
 meets-variable A B l f =
     let e : isTextKind (variableKind A) ≡ true = lt-ltb noKind (variableKind A) (omega arith) in
@@ -86,8 +86,8 @@ meets-variable A B l f =
     let s : sortOfKind (variableKind A) ≡ A = omega arith in
     rw (e, o, s, f, meetsIde) refl
 
--- an outside name is read at Var and at Label
-meets-outside : (B : ℕ) → eqb B 2 ≡ false → meetsIde outsideKind B ≡ true
+-- and an outside name at Var and at Label.
+pub meets-outside : (B : ℕ) → eqb B 2 ≡ false → meetsIde outsideKind B ≡ true
 unfolding meetsIde
 meets-outside B e = rw (e, meetsIde) refl
 

@@ -1,3 +1,4 @@
 pub mod Substitution
 pub mod Reading
 pub mod ReadingRules
+pub mod Unread

@@ -1,0 +1,132 @@
+-- What a derivation over sizes says of its tokens, its counter and words at a Binder, and what a scan says of a text's tokens.
+use Prim.Native.Nat.{ℕ, zero, suc, _+_, _≤_, _<_, max}
+use mathlib.Core.Path.{_≡_, refl, ap, ap₂, _∙_}
+use mathlib.Core.Bool.{Bool, true, false, _||_}
+use mathlib.Core.List.{List, [], _∷_}
+use native.Mathlib.Omega.{arith}
+use lib.ListN.{length, getD}
+use borrow.Author.Tests.{ne-eqb}
+use Rattle.spellings.specs.Bytes.{valueOf}
+use Rattle.kinds.specs.Kinds.{numberKind}
+use Rattle.kinds.specs.TextKinds.{outsideKind}
+use Rattle.grammar.specs.Limits.{most}
+use Rattle.grammar.specs.Table.{Lexicon, Item}
+use Rattle.tokens.specs.declared.Token.{Token}
+use Rattle.tokens.specs.Tokens.{endToken}
+use Rattle.tokens.specs.Tiling.{Stands, a-keyword, a-keyword-symbol, an-outside-name, a-word-again, a-new-word, a-number, a-symbol, a-variable}
+use Rattle.tokens.specs.Tiling.{Tiled, here, past-separator, past-token}
+use Rattle.productions.specs.Normal.{Production}
+use Rattle.expansion.specs.Figure3.{by-end, by-terminal, by-call}
+use Rattle.expansion.specs.Costs.{rowsOf, rowsOfAll, openIn, callsIn, rowsIn, Affords}
+use Rattle.texts.specs.Reading.{hasNumber}
+use Rattle.texts.specs.Unread.{SizeReads, by-keyword, by-variable, by-word, by-local, SizeDerives}
+use Rattle.texts.proofs.TextScan.{no-number}
+use Rattle.texts.proofs.SizeReading.{TextTokens}
+
+-- ------------------------------------------------------------------ numbers and the counter
+
+-- a token that is no number
+number-past : (t : Token) (s : List Token) → (t .kind ≡ numberKind → ⊥) → hasNumber (t ∷ s) ≡ hasNumber s
+unfolding hasNumber
+number-past t s h = ap (λ b. b || hasNumber s) (ne-eqb (t .kind) numberKind h)
+
+terminal-numbers : {binders : Bool} {s s′ : List Token} {i i′ v : ℕ} {p : Item} → SizeReads binders s i p s′ i′ v → hasNumber s ≡ hasNumber s′
+terminal-numbers (by-keyword {t = t} {s = s} e) = number-past t s (λ z. omega (arith, e, z))
+terminal-numbers (by-variable {t = t} {s = s} A e f) = number-past t s (λ z. omega (arith, e, z))
+terminal-numbers (by-word {t = t} {s = s} e f) = number-past t s (λ z. omega (arith, e, z))
+terminal-numbers by-local = refl
+
+-- What is read holds no number.
+pub derived-numbers : {binders : Bool} {g : List Production} {M M′ : List ℕ} {s s′ : List Token} {i i′ : ℕ} {ps : List Item}
+    → SizeDerives binders g M s i ps s′ i′ M′ → hasNumber s ≡ hasNumber s′
+derived-numbers by-end = refl
+derived-numbers (by-terminal e d) = terminal-numbers e ∙ derived-numbers d
+derived-numbers (by-call vs t d v d′) = derived-numbers d ∙ derived-numbers d′
+
+terminal-counts : {binders : Bool} {s s′ : List Token} {i i′ v : ℕ} {p : Item} → SizeReads binders s i p s′ i′ v → i ≤ i′
+terminal-counts (by-keyword e) = omega arith
+terminal-counts (by-variable A e f) = omega arith
+terminal-counts (by-word e f) = omega arith
+terminal-counts by-local = omega arith
+
+-- The counter does not fall.
+pub derived-counts : {binders : Bool} {g : List Production} {M M′ : List ℕ} {s s′ : List Token} {i i′ : ℕ} {ps : List Item}
+    → SizeDerives binders g M s i ps s′ i′ M′ → i ≤ i′
+derived-counts by-end = omega arith
+derived-counts (by-terminal e d) = omega (arith, terminal-counts e, derived-counts d)
+derived-counts (by-call vs t d v d′) = omega (arith, derived-counts d, derived-counts d′)
+
+-- ------------------------------------------------------------------ words at a Binder
+
+terminal-wider : {s s′ : List Token} {i i′ v : ℕ} {p : Item} → SizeReads false s i p s′ i′ v → SizeReads true s i p s′ i′ v
+terminal-wider (by-keyword e) = by-keyword e
+terminal-wider (by-variable A e f) = by-variable A e f
+terminal-wider (by-word e f) = by-word e (λ z. refl)
+terminal-wider by-local = by-local
+
+-- a derivation with words at a Binder that costs as much as one without
+record Wider {g : List Production} {M M′ : List ℕ} {s s′ : List Token} {i i′ : ℕ} {ps : List Item} (d : SizeDerives false g M s i ps s′ i′ M′) : Type 0 where
+  -- the derivation
+  rule : SizeDerives true g M s i ps s′ i′ M′
+  -- as many calls are open
+  same-open : openIn rule ≡ openIn d
+  -- as many are begun
+  same-calls : callsIn rule ≡ callsIn d
+  -- as many rows are made
+  same-rows : rowsIn rule ≡ rowsIn d
+
+derived-wider : {g : List Production} {M M′ : List ℕ} {s s′ : List Token} {i i′ : ℕ} {ps : List Item} (d : SizeDerives false g M s i ps s′ i′ M′) → Wider d
+unfolding openIn callsIn rowsIn
+derived-wider by-end = record { rule = by-end; same-open = refl; same-calls = refl; same-rows = refl }
+derived-wider (by-terminal e d) =
+    let w = derived-wider d in
+    record { rule = by-terminal (terminal-wider e) (w .rule); same-open = w .same-open; same-calls = w .same-calls; same-rows = w .same-rows }
+derived-wider (by-call {ts = ts} {p = p} vs t d v d′) =
+    let w = derived-wider d in
+    let w′ = derived-wider d′ in
+    record {
+      rule = by-call vs t (w .rule) v (w′ .rule);
+      same-open = ap₂ (λ m n. max (m + 1) n) (w .same-open) (w′ .same-open);
+      same-calls = ap₂ (λ m n. m + 1 + n) (w .same-calls) (w′ .same-calls);
+      same-rows = ap₂ (λ m n. rowsOfAll ts + m + rowsOf (p .result) + n) (w .same-rows) (w′ .same-rows);
+    }
+
+-- What is derived without a word at a Binder within the limits is so derived where words may stand there.
+pub affords-wider : {g : List Production} {M M′ : List ℕ} {s s′ : List Token} {i i′ rows : ℕ} {ps : List Item} (d : SizeDerives false g M s i ps s′ i′ M′)
+    → Affords rows 0 0 0 d → (e : SizeDerives true g M s i ps s′ i′ M′) × Affords rows 0 0 0 e
+affords-wider d a =
+    let w = derived-wider d in (
+      w .rule,
+      record {
+        few-open = omega (arith, w .same-open, a .few-open);
+        few-calls = omega (arith, w .same-calls, a .few-calls);
+        few-rows = omega (arith, w .same-rows, a .few-rows);
+      },
+    )
+
+-- ------------------------------------------------------------------ tokens of a scan
+
+module _ (lex : Lexicon) (few-keywords : length (lex .keywords) ≤ most .keywords)
+    (sorts : (n : ℕ) → n < length (lex .variables) → getD (lex .variables) n 0 ≤ 6) where
+  stands-small : {at : ℕ} {rest : List ℕ} {met met′ : List (List ℕ)} {t : Token} → Stands lex at rest met t met′ → t .kind < outsideKind
+  stands-small (a-keyword w f) = omega (arith, f .there)
+  stands-small (a-keyword-symbol y f) = omega (arith, f .there)
+  stands-small (an-outside-name w n f) = omega arith
+  stands-small (a-word-again w n o f) = omega arith
+  stands-small (a-new-word w n o f) = omega arith
+  stands-small (a-number d) = omega arith
+  stands-small (a-symbol y n) = omega arith
+  stands-small (a-variable {s = s} f) = omega (arith, sorts (valueOf s) (f .below))
+
+  tiled-small : {formula : List ℕ} {at to : ℕ} {met met′ : List (List ℕ)} {ts : List Token} → Tiled lex formula at met ts to met′ → (place : ℕ)
+      → getD ts place endToken .kind < outsideKind
+  tiled-small here zero = omega arith
+  tiled-small here (suc place) = omega arith
+  tiled-small (past-separator l q d) place = tiled-small d place
+  tiled-small (past-token l h d) zero = stands-small h
+  tiled-small (past-token l h d) (suc place) = tiled-small d place
+
+  -- The tokens of a text that holds no number.
+  pub tiled-tokens : {formula : List ℕ} {ts : List Token} {words : List (List ℕ)} → Tiled lex formula 0 [] ts (length formula) words → hasNumber ts ≡ false
+      → TextTokens ts
+  tiled-tokens {ts = ts} d h = record { no-number = no-number lex few-keywords sorts ts h; small = tiled-small d }
