@@ -1,5 +1,5 @@
 -- What the code that reads a text answers, as the check of a reading has it. These definitions mirror code: nobody needs them to believe `expand`.
-use Prim.Native.Nat.{ℕ, _+_}
+use Prim.Native.Nat.{ℕ, _+_, _≤_}
 use mathlib.Core.Path.{_≡_}
 use mathlib.Core.Bool.{not}
 use mathlib.Core.List.{List}
@@ -33,10 +33,17 @@ tested used sort asked at others r =
     >> need (fits sort asked) 11 at
     >> ok (record { template = r .template; used = used + r .made })
 
+-- what is read is the value of the run and its rows, and no fresh name is made
+pub record ReadAs (x : ℕ) (s : State) (x′ made : ℕ) : Type 0 where
+  pub value-is : x′ ≡ x
+  pub made-is : made ≡ s .made
+  pub no-fresh : s .fresh ≤ 1
+
 -- an answer is what is tested gives, wherever the field stands
 pub record Judges (cells : List ℕ) (head : TextHead) (x : ℕ) (s : State) (others : ℕ) (r : TextAnswer) : Type 0 where
   pub judged :
       (used at : ℕ) → answered used (head .sort) at cells r ≡ tested used (head .sort) (head .asked) at others (doneReading (head .sort) x s cells)
+  pub read-as : (x′ made : ℕ) → r ≡ Read x′ made → ReadAs x s x′ made
 
 -- why a text is not read with its words as outside names, where its run with words is done
 abbrev pub becauseOf : ℕ → ℕ → State → List ℕ → ℕ
