@@ -1,0 +1,4 @@
+pub mod WordLaws
+pub mod JudgeLaws
+pub mod RunLaws
+pub mod AttemptLaws

@@ -1,0 +1,4 @@
+pub mod Words
+pub mod TextAnswers
+pub mod TextRuns
+pub mod TextReadings
