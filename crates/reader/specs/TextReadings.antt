@@ -19,7 +19,8 @@ use Rattle.expansion.specs.Run.{Result, done}
 use Rattle.steps.specs.Source.{Source, productionsFrom}
 use Rattle.steps.specs.Steps.{tokensLent}
 use Rattle.calls.specs.Lent.{Ready}
-use Rattle.texts.specs.Reading.{TextContext, lexiconFor, patternsIn, rowsLeft, asOutside, hasNumber, isScanned, runText, readingOf, unreadBecause, readElse}
+use Rattle.firsts.specs.Patterns.{patternsIn}
+use Rattle.texts.specs.Reading.{TextContext, lexiconFor, rowsLeft, asOutside, hasNumber, isScanned, runText, readingOf, unreadBecause, readElse}
 use Rattle.texts.specs.Reading.{TextRead, checkReading}
 use Rattle.reader.specs.declared.judging.TextAnswer.{TextAnswer}
 use Rattle.reader.specs.declared.judging.TextAnswer.the-variants.{Read, Refused}
