@@ -15,7 +15,7 @@ use Rattle.bodies.specs.declared.Fault.the-variants.{NumberInUse, BadExt
 use Rattle.bodies.specs.declared.Tested.{Tested}
 use Rattle.bodies.specs.declared.Tested.the-variants.{Sound, Faulty}
 use Rattle.bodies.specs.Faults.{testedBy}
-use Rattle.bodies.specs.HeadBytes.{valueAt, signatureAt, faultOf, Defined}
+use Rattle.bodies.specs.HeadBytes.{valueAt, signatureAt, headBefore, faultOf, Defined}
 use Rattle.bodies.proofs.TemplateInduction.{choose}
 
 -- ------------------------------------------------------------------ signatures
@@ -92,6 +92,25 @@ module _ (bs heads : List ℕ) (at block : ℕ) {nonterminal mode head : ℕ} (e
   fault-new m new k =
       let test : Bool = leb head block && ltb 0 head && same (signatureAt bs head) (signatureAt bs at) in
       cc fault-is
+
+-- ------------------------------------------------------------------ the head from the blocks before
+
+-- The newest head is kept or not, by one test of where it stands and of its mode.
+pub before-kept :
+    (bs heads : List ℕ) (block n : ℕ) {head mode : ℕ} → head ≡ getD heads n 0 → mode ≡ getD bs (head + 4) 0 → (test : Bool)
+    → ((leb head block || eqb mode 1) || eqb mode 2) ≡ test → (elim test [ true ↦ head | false ↦ 0 ]) ≡ headBefore bs heads block n
+unfolding headBefore
+before-kept bs heads block n h m test t = cc (h, m, t)
+
+-- It goes by the newest head alone.
+pub before-same-head : (bs heads heads′ : List ℕ) (block n : ℕ) → getD heads n 0 ≡ getD heads′ n 0 → headBefore bs heads block n ≡ headBefore bs heads′ block n
+unfolding headBefore
+before-same-head bs heads heads′ block n e = cc e
+
+-- A head in front of the block is the one from before.
+pub before-in-front : (bs heads : List ℕ) (block n : ℕ) → leb (getD heads n 0) block ≡ true → headBefore bs heads block n ≡ getD heads n 0
+unfolding headBefore
+before-in-front bs heads block n e = cc e
 
 -- ------------------------------------------------------------------ one head more
 

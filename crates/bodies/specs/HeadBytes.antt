@@ -37,6 +37,13 @@ faultOf bs at block H =
       | false ↦ testedBy (eqb h 0) NumberInUse
     ]
 
+-- the offset of the head that a nonterminal has from the blocks before the one at `block`, 0 for none (document 02, C-14). A head of that block itself
+-- either adds, so that there was none, or extends or updates what was there, with the same signature
+unfoldable pub headBefore : List ℕ → List ℕ → ℕ → ℕ → ℕ
+headBefore bs H block n =
+    let h : ℕ = getD H n 0 in
+    elim ((leb h block || eqb (getD bs (h + 4) 0) 1) || eqb (getD bs (h + 4) 0) 2) [ true ↦ h | false ↦ 0 ]
+
 -- the heads with that of the definition at an offset
 abbrev pub withHead : List ℕ → ℕ → List ℕ → List ℕ
 withHead bs at H = set H (getD bs (at + 3) 0) at

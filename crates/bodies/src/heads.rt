@@ -20,7 +20,7 @@ ghost use Prim.Native.Nat.{_+_, _≤_};
 ghost use mathlib.Core.Path.{_≡_};
 ghost use lib.ListN.{length, getD};
 ghost use Rattle.grammar.specs.Limits.{most};
-ghost use Rattle.bodies.specs.HeadBytes.{signatureAt, faultOf, Defined, collected, collectAt};
+ghost use Rattle.bodies.specs.HeadBytes.{signatureAt, headBefore, faultOf, Defined, collected, collectAt};
 
 // A head's nonterminal, its mode and its signature, from the offset of the head on; the signature is a sort and those of the parameters.
 const NONTERMINAL: usize = HEADER;
@@ -60,6 +60,19 @@ pub fn head_of(heads: &[u16], n: u8) -> usize
     let i = wide_byte(n);
     if i < heads.len() {
         heads[i] as usize
+    } else {
+        0
+    }
+}
+
+// The offset of the head that a nonterminal has from the blocks before the one that begins at `block`, 0 for none.
+pub fn head_before(table: &[u8], heads: &[u16], block: usize, n: u8) -> usize
+    ensures { λ r. ⌜ r ≡ headBefore (now (table .entry)) (now (heads .entry)) block n ⌝ }
+{
+    let h = head_of(heads, n);
+    let mode = byte(table, h + MODE);
+    if (h <= block) | (mode == EXTEND) | (mode == UPDATE) {
+        h
     } else {
         0
     }

@@ -1,6 +1,7 @@
 -- The check of a table from what the layers below answer, for the code.
 use Prim.Native.Nat.{ℕ}
 use mathlib.Core.Path.{_≡_, refl, sym, _∙_, ap}
+use mathlib.Core.Bool.{Bool, true, false, true≢false}
 use mathlib.Core.List.{List}
 use Rattle.answers.specs.declared.Refusal.{Refusal}
 use Rattle.answers.specs.declared.Verdict.{Verdict}
@@ -19,8 +20,10 @@ use Rattle.decoding.proofs.Inverse.{layout-encoded, decode-encoded}
 use Rattle.elaboration.specs.CheckSequence.{checkSorts}
 use Rattle.elaboration.proofs.SortTheorems.{sorts-exactly}
 use Rattle.elaboration.proofs.Elaborated.{elaborated-blocks}
+use Rattle.sorts.specs.declared.Finding.{Finding}
+use Rattle.sorts.specs.declared.Finding.the-variants.{Judged, TextMet}
 use Rattle.sorts.specs.ByBytes.{sortsOf}
-use Rattle.sorts.proofs.SortedBytes.{bytes-checked}
+use Rattle.sorts.proofs.SortedBytes.{found, bytes-checked}
 use Rattle.clashes.specs.CheckFirsts.{checkFirsts}
 use Rattle.productions.specs.Index.{placesIn, placesOf}
 use Rattle.productions.specs.IndexCalls.{Index, FitsIndex}
@@ -77,19 +80,35 @@ module _ (bs : List ℕ) where
     decoded : decode bs ≡ ok (encoded .0)
     decoded = ap decode (encoded .1) ∙ decode-encoded (encoded .0) (encoded .2)
 
-    sorts-here : sortsOf bs ≡ verdict (checkSorts (encoded .0))
+    sorts-here : sortsOf bs ≡ found (checkSorts (encoded .0))
     sorts-here = bytes-checked bs bytes (encoded .0) decoded
 
-    refused-sorts : (refusal : Refusal) → sortsOf bs ≡ Refused refusal → check bs ≡ Refused refusal
-    refused-sorts refusal e = refused-by-sorts bs (encoded .0) refusal decoded (refused-bad (checkSorts (encoded .0)) refusal (sym sorts-here ∙ e))
+    -- its verdict
+    judged-here : {given-verdict : Verdict} → sortsOf bs ≡ Judged given-verdict → verdict (checkSorts (encoded .0)) ≡ given-verdict
+    judged-here e = ap judgement (sym sorts-here ∙ e)
+      where
+        judgement : Finding → Verdict
+        judgement (Judged v) = v
+        judgement TextMet = Passed
 
-    room-left : (refusal : Refusal) → sortsOf bs ≡ Refused refusal → (room : List ℕ) → room ≡ roomAfter bs room
+    -- no text is met
+    pub no-text : sortsOf bs ≡ TextMet → ⊥
+    no-text e = true≢false (ap isJudged (sym sorts-here ∙ e))
+      where
+        isJudged : Finding → Bool
+        isJudged (Judged v) = true
+        isJudged TextMet = false
+
+    refused-sorts : (refusal : Refusal) → sortsOf bs ≡ Judged (Refused refusal) → check bs ≡ Refused refusal
+    refused-sorts refusal e = refused-by-sorts bs (encoded .0) refusal decoded (refused-bad (checkSorts (encoded .0)) refusal (judged-here e))
+
+    room-left : (refusal : Refusal) → sortsOf bs ≡ Judged (Refused refusal) → (room : List ℕ) → room ≡ roomAfter bs room
     unfolding roomAfter
     room-left refusal e room =
-        cc (refused-bad (checkSorts (encoded .0)) refusal (sym sorts-here ∙ e), decoded)
+        cc (refused-bad (checkSorts (encoded .0)) refusal (judged-here e), decoded)
 
     -- and so does one refused for its sorts
-    pub into-sorts : (refusal : Refusal) → sortsOf bs ≡ Refused refusal → (room : List ℕ) → CheckedInto bs room room (Refused refusal)
+    pub into-sorts : (refusal : Refusal) → sortsOf bs ≡ Judged (Refused refusal) → (room : List ℕ) → CheckedInto bs room room (Refused refusal)
     into-sorts refusal e room =
         record { answer = sym (refused-sorts refusal e); held = room-left refusal e room; whole = λ p. never refusal p }
 
@@ -110,10 +129,10 @@ module _ (bs : List ℕ) where
     pub indexed : productionsIn bs ≡ normalized (templated (encoded .0 .blocks))
     indexed = cc (productions-at bs, encoded .1, normalized-by (encoded .0) (encoded .2))
 
-    module _ (sorted : sortsOf bs ≡ Passed) where
+    module _ (sorted : sortsOf bs ≡ Judged Passed) where
       -- what its check of sorts answers
       sorts-ok : (made : Table) × (checkSorts (encoded .0) ≡ ok made)
-      sorts-ok = passed-ok (checkSorts (encoded .0)) (sym sorts-here ∙ sorted)
+      sorts-ok = passed-ok (checkSorts (encoded .0)) (judged-here sorted)
 
       by-firsts : check bs ≡ verdict (checkFirsts (productionsIn bs))
       unfolding check passedTable

@@ -5,6 +5,7 @@ use grammar::limits::EACH_ALTERNATIVE;
 use layout::check_layout;
 use productions::index::build_index;
 use productions::room::ROOM;
+use sorts::Finding;
 use sorts::check_sorts;
 ghost use mathlib.Core.Path.{_≡_};
 ghost use mathlib.Core.Logic.{_↔_};
@@ -24,7 +25,10 @@ pub fn check_into(table: &[u8], room: &mut [u64; ROOM]) -> Verdict
         Verdict::Refused(r) => return Verdict::Refused(r),
         Verdict::Passed => {}
     }
-    let sorted = check_sorts(table);
+    // The layout passes no text, so that the check of sorts meets none.
+    let Finding::Judged(sorted) = check_sorts(table) else {
+        return Verdict::Passed;
+    };
     match sorted {
         Verdict::Refused(q) => return Verdict::Refused(q),
         Verdict::Passed => {}

@@ -59,9 +59,9 @@ module _ (bs : List ℕ) (E : Env) (block : ℕ) (follow : List Field)
     (ends : (at : ℕ) (heads : List ℕ) → collectFrom (spread at follow) bs block heads ≡ collected Passed heads) where
   -- refused by both, or one more
   refused-or-more :
-      (limit : ℕ) (tested : Tested) (at : ℕ) (heads : List ℕ) (checked : Checked Env) (more : Collected) → Agree bs E block limit checked more
-      → Agree bs E block limit (checkOf at tested >> checked) (collectAfter tested at heads more)
-  refused-or-more limit Sound at heads checked more a = a
+      (limit : ℕ) (tested : Tested) (at : ℕ) (heads : List ℕ) (checked : Checked Env) (more : Collected)
+      → (tested ≡ Sound → Agree bs E block limit checked more) → Agree bs E block limit (checkOf at tested >> checked) (collectAfter tested at heads more)
+  refused-or-more limit Sound at heads checked more a = a refl
   refused-or-more limit (Faulty fault) at heads checked more a = refl
 
   -- the heads of a block are collected from the bytes as from its definitions
@@ -78,8 +78,9 @@ module _ (bs : List ℕ) (E : Env) (block : ℕ) (follow : List Field)
       let heads′ : List ℕ = withHead bs at heads in
       rw (head-same bs E own block heads c at d w (p .0))
       (refused-or-more limit (faultOf bs at block heads) at heads _ _
-      (rw (← (over-alternatives (λ fs. collectFrom fs bs block heads′ ≡ collectFrom (spread first (alternativesThen (d .alternatives) rest)) bs block heads′)
+      (λ sound.
+      rw (← (over-alternatives (λ fs. collectFrom fs bs block heads′ ≡ collectFrom (spread first (alternativesThen (d .alternatives) rest)) bs block heads′)
       (collect-part bs block heads′ _) (d .alternatives) rest first behind (omega arith) refl))
       (collect-agrees ws behind limit (omega arith) (entryOf d ∷ own) heads′
       (over-alternatives (Placed bs) (λ tag part at v fs q. q .1) (d .alternatives) rest first behind (omega arith) (p .1))
-      (omega arith) (head-more bs E own block heads c at d w (p .0) l) (below-more heads (getD bs (at + 3) 0) at behind b (omega arith)))))
+      (omega arith) (head-more bs E own block heads c at d w (p .0) l sound) (below-more heads (getD bs (at + 3) 0) at behind b (omega arith)))))

@@ -1,7 +1,7 @@
 -- The heads collected from a table's bytes are the environment collected from its definitions.
 use Prim.Native.Nat.{ℕ, suc, _+_, _*_, _≤_, _<_}
-use mathlib.Core.Path.{_≡_, refl, sym, ap, ap₂, _∙_}
-use mathlib.Core.Bool.{Bool, true, false, not, _&&_, _||_, true≢false}
+use mathlib.Core.Path.{_≡_, refl, sym, ap, ap₂, subst, _∙_}
+use mathlib.Core.Bool.{Bool, true, false, not, _&&_, _||_, true≢false, and-eq-true-iff}
 use mathlib.Core.List.{List, [], _∷_, _++_}
 use native.Mathlib.Omega.{arith}
 use native.Mathlib.Nat.{add-zero, add-assoc}
@@ -12,7 +12,7 @@ use borrow.Author.Tests.{eqb-true, eqb-false, eq-eqb, ne-eqb, lt-ltb, ltb-true, 
 use Rattle.answers.specs.Refusals.{refusal}
 use Rattle.answers.specs.Checked.{Checked, ok, bad, need}
 use Rattle.spellings.specs.Bytes.{same}
-use Rattle.spellings.proofs.BytesLaws.{by-test}
+use Rattle.spellings.proofs.BytesLaws.{by-test, same-true}
 use Rattle.grammar.specs.Sorts.{Signature}
 use Rattle.grammar.specs.Table.{Mode, add, extend, update}
 use Rattle.grammar.specs.Written.{WrittenDefinition}
@@ -26,8 +26,8 @@ use Rattle.bodies.specs.declared.Fault.the-variants.{NumberInUse, BadExtension}
 use Rattle.bodies.specs.declared.Tested.{Tested}
 use Rattle.bodies.specs.declared.Tested.the-variants.{Sound, Faulty}
 use Rattle.bodies.specs.Faults.{causeOf, testedBy}
-use Rattle.bodies.specs.HeadBytes.{valueAt, signatureAt, faultOf, withHead}
-use Rattle.bodies.proofs.HeadLaws.{fault-earlier, fault-new}
+use Rattle.bodies.specs.HeadBytes.{valueAt, signatureAt, headBefore, faultOf, withHead}
+use Rattle.bodies.proofs.HeadLaws.{fault-earlier, fault-new, before-kept, before-same-head}
 
 -- ------------------------------------------------------------------ a head
 
@@ -62,11 +62,15 @@ module _ (bs : List ℕ) (at : ℕ) (definition : WrittenDefinition) (within : D
 -- ------------------------------------------------------------------ environments
 
 -- one nonterminal: its head's offset is not 0 exactly if it is defined, and the head has its newest signature
-pub record Knows (bs : List ℕ) (E : Env) (known-heads : List ℕ) (nonterminal : ℕ) : Type 0 where
+pub record KnowsHead (bs : List ℕ) (E : Env) (head nonterminal : ℕ) : Type 0 where
   -- it has a head exactly if it is defined
-  pub defined : ltb 0 (getD known-heads nonterminal 0) ≡ isDefined E nonterminal
+  pub defined : ltb 0 head ≡ isDefined E nonterminal
   -- the head of a defined one spells its newest signature
-  pub shown : isDefined E nonterminal ≡ true → signatureAt bs (getD known-heads nonterminal 0) ≡ bytesOf (signatureOf E nonterminal)
+  pub shown : isDefined E nonterminal ≡ true → signatureAt bs head ≡ bytesOf (signatureOf E nonterminal)
+
+-- its head stands among those that are known
+abbrev pub Knows : List ℕ → Env → List ℕ → ℕ → Type 0
+Knows bs E known-heads nonterminal = KnowsHead bs E (getD known-heads nonterminal 0) nonterminal
 
 -- a number is 0 exactly if it is not above 0
 pub zero-test : (count : ℕ) → eqb count 0 ≡ not (ltb 0 count)
@@ -104,6 +108,17 @@ pub record Collects (bs : List ℕ) (E own : Env) (block : ℕ) (known-heads : L
   pub knows : (nonterminal : ℕ) → nonterminal < 64 → Knows bs (own ++ E) known-heads nonterminal
   -- a head lies in front of the block exactly if the block does not define its nonterminal
   pub here : (nonterminal : ℕ) → nonterminal < 64 → leb (getD known-heads nonterminal 0) block ≡ not (isDefined own nonterminal)
+  -- what the environment before the block has can be told from the heads too
+  pub before : (nonterminal : ℕ) → nonterminal < 64 → KnowsHead bs E (headBefore bs known-heads block nonterminal) nonterminal
+
+-- a test that finds nothing
+tested-sound : (test : Bool) (fault : Fault) → testedBy test fault ≡ Sound → test ≡ true
+tested-sound true fault e = refl
+tested-sound false fault e = absurd (true≢false (sym (ap isSound e)))
+  where
+    isSound : Tested → Bool
+    isSound Sound = true
+    isSound (Faulty other) = false
 
 -- three tests, each of which is asked only after those before it
 three :
@@ -187,8 +202,8 @@ module _ (bs : List ℕ) (E own : Env) (block : ℕ) (known-heads : List ℕ) (c
       by extend q = before-outcome q refl
       by update q = before-outcome q refl
 
-  -- one head more
-  module _ (later : block < at) where
+  -- one head more, if nothing is wrong with it
+  module _ (later : block < at) (sound : faultOf bs at block known-heads ≡ Sound) where
     abbrev e : Declaration
     e = entryOf definition
 
@@ -229,6 +244,56 @@ module _ (bs : List ℕ) (E own : Env) (block : ℕ) (known-heads : List ℕ) (c
         (λ q. cc (this-head other q, lt-leb at block later, defined-here e own other q))
         (λ q. cc (that-head other q, collects .here other k, defined-later e own other q))
 
+    -- the head that is kept from before, by the mode of the definition
+    before-by : {mode : Mode} → definition .mode ≡ mode → (test : Bool) → (eqb (modeCode mode) 1 || eqb (modeCode mode) 2) ≡ test
+        → (elim test [ true ↦ at | false ↦ 0 ]) ≡ headBefore bs heads block n
+    before-by {mode} q test m =
+        before-kept bs heads block n (sym (this-head n (eq-eqb n n refl))) (coded q) test
+        (ap (λ (b : Bool). (b || eqb (modeCode mode) 1) || eqb (modeCode mode) 2) (lt-leb at block later) ∙ m)
+
+    -- add: there was none
+    added-before : definition .mode ≡ add → KnowsHead bs E (headBefore bs heads block n) n
+    added-before q =
+        let new : eqb head 0 ≡ true =
+        tested-sound (eqb head 0) NumberInUse
+        (fault-new bs known-heads at block (head-nonterminal bs at definition within placed) (coded q) refl refl (eqb head 0) refl ∙ sound) in
+        let none : isDefined E n ≡ false = not-true (isDefined E n) (and-eq-true-iff (not (isDefined own n)) (not (isDefined E n)) .0 (sym new-same ∙ new) .1) in
+        let kept : 0 ≡ headBefore bs heads block n = before-by q false refl in
+        record { defined = ap (ltb 0) (sym kept) ∙ sym none; shown = λ d. absurd (true≢false (sym d ∙ none)) }
+
+    -- extend and update: there was one, with the same signature
+    changed-before : {mode : Mode} → definition .mode ≡ mode → (eqb (modeCode mode) 1 || eqb (modeCode mode) 2) ≡ true
+        → KnowsHead bs E (headBefore bs heads block n) n
+    changed-before q m =
+        let good : Bool = leb head block && ltb 0 head && same (signatureAt bs head) (signatureAt bs at) in
+        let old : good ≡ true =
+        tested-sound good BadExtension
+        (fault-earlier bs known-heads at block (head-nonterminal bs at definition within placed) (coded q) refl m refl refl refl good refl ∙ sound) in
+        let parts =
+        and-eq-true-iff (not (isDefined own n) && isDefined E n) (sameSignature (signatureOf E n) (definition .signature)) .0 (sym before-same ∙ old) in
+        let there : isDefined E n ≡ true = and-eq-true-iff (not (isDefined own n)) (isDefined E n) .0 (parts .0) .1 in
+        let kept : at ≡ headBefore bs heads block n = before-by q true m in
+        record {
+          defined = ap (ltb 0) (sym kept) ∙ lt-ltb 0 at (omega arith) ∙ sym there;
+          shown = λ d.
+              ap (signatureAt bs) (sym kept) ∙ head-signature bs at definition within placed
+              ∙ sym (same-true (bytesOf (signatureOf E n)) (bytesOf (definition .signature)) (parts .1));
+        }
+
+    before-this : KnowsHead bs E (headBefore bs heads block n) n
+    before-this = by (definition .mode) refl
+      where
+        by : (mode : Mode) → definition .mode ≡ mode → KnowsHead bs E (headBefore bs heads block n) n
+        by add q = added-before q
+        by extend q = changed-before q refl
+        by update q = changed-before q refl
+
+    before-more : (other : ℕ) → other < 64 → KnowsHead bs E (headBefore bs heads block other) other
+    before-more other k =
+        by-test (eqb n other) (λ q. subst (λ m. KnowsHead bs E (headBefore bs heads block m) m) (eqb-true n other q) before-this)
+        (λ q. subst (λ h. KnowsHead bs E h other) (before-same-head bs known-heads heads block other (sym (that-head other q))) (collects .before other k))
+
     -- the heads show one entry more
     pub head-more : Collects bs E (entryOf definition ∷ own) block (withHead bs at known-heads)
-    head-more = record { size = length-set known-heads (getD bs (at + 3) 0) at ∙ collects .size; knows = knows-more; here = here-more }
+    head-more =
+        record { size = length-set known-heads (getD bs (at + 3) 0) at ∙ collects .size; knows = knows-more; here = here-more; before = before-more }

@@ -1,7 +1,7 @@
 -- What the code's check of sorts means: on the bytes of a table it is the check of the table. The places that the walk of the table counts
 -- are the offsets of the fields.
 use Prim.Native.Nat.{ℕ, zero, suc, _+_, _-_, _≤_, _<_}
-use mathlib.Core.Path.{_≡_, refl, sym, ap, _∙_}
+use mathlib.Core.Path.{_≡_, refl, sym, ap, subst, _∙_}
 use mathlib.Core.Bool.{false≢true}
 use mathlib.Core.List.{List, [], _∷_, _++_}
 use native.Mathlib.Omega.{arith}
@@ -37,46 +37,53 @@ use Rattle.bodies.specs.declared.ItemSort.{ItemSort}
 use Rattle.bodies.specs.declared.ItemSort.the-variants.{As, Unsorted}
 use Rattle.bodies.specs.HeadBytes.{signatureAt, Collected, collected, collectFrom}
 use Rattle.bodies.specs.BodyBytes.{oneMore, itemAt}
+use Rattle.bodies.proofs.HeadLaws.{before-in-front}
+use Rattle.sorts.specs.declared.Finding.{Finding}
+use Rattle.sorts.specs.declared.Finding.the-variants.{Judged}
 use Rattle.sorts.specs.ByBytes.{stepped, counting, verdictStep, afterBlock, afterItem, stepAt, goOn, sortsFrom, sortsOf}
 use Rattle.sorts.proofs.StepLaws.{sorts-short}
 use Rattle.sorts.proofs.PlacedFields.{Placed, over-alternatives, placed-fields}
-use Rattle.sorts.proofs.HeadsByBytes.{bytesOf, Knows, Collects, head-signature}
+use Rattle.sorts.proofs.HeadsByBytes.{bytesOf, KnowsHead, Knows, Collects, head-signature}
 use Rattle.sorts.proofs.CollectByBytes.{Below, Agree, collect-agrees}
 use Rattle.sorts.proofs.BodiesByBytes.{knownOf, Carries, sortedAt, item-agrees, result-agrees, root-agrees}
 
 -- ------------------------------------------------------------------ checks in order
 
 -- what comes after a check that passes
-abbrev after : {A : Type 0} → Checked A → (A → Verdict) → Verdict
+abbrev after : {A : Type 0} → Checked A → (A → Finding) → Finding
 after (ok a) f = f a
-after (bad r) f = Refused r
+after (bad r) f = Judged (Refused r)
 
-after-bind : {A B : Type 0} (first : Checked A) (second : A → Checked B) (last : B → Verdict)
+-- what a check finds
+abbrev pub found : {A : Type 0} → Checked A → Finding
+found checked = Judged (verdict checked)
+
+after-bind : {A B : Type 0} (first : Checked A) (second : A → Checked B) (last : B → Finding)
     → after first (λ a. after (second a) last) ≡ after (first >>= second) last
 after-bind (ok a) second last = refl
 after-bind (bad r) second last = refl
 
-after-same : {A : Type 0} (first : Checked A) (last last′ : A → Verdict) → ((a : A) → last a ≡ last′ a) → after first last ≡ after first last′
+after-same : {A : Type 0} (first : Checked A) (last last′ : A → Finding) → ((a : A) → last a ≡ last′ a) → after first last ≡ after first last′
 after-same (ok a) last last′ e = e a
 after-same (bad r) last last′ e = refl
 
 -- a check of what is before, of what is beside it, and of the rest
 rest-goes : {A B C D : Type 0} (first : Checked A) (second : A → Checked B) (third : A → B → Checked C) (last : C → Checked D)
-    → after first (λ a. after (second a) (λ b. verdict (third a b >>= last))) ≡ verdict ((first >>= λ a. second a >>= λ b. third a b) >>= last)
+    → after first (λ a. after (second a) (λ b. found (third a b >>= last))) ≡ found ((first >>= λ a. second a >>= λ b. third a b) >>= last)
 rest-goes {B = B} (ok a) second third last = by (second a)
   where
-    by : (checked : Checked B) → after checked (λ b. verdict (third a b >>= last)) ≡ verdict ((checked >>= λ b. third a b) >>= last)
+    by : (checked : Checked B) → after checked (λ b. found (third a b >>= last)) ≡ found ((checked >>= λ b. third a b) >>= last)
     by (ok b) = refl
     by (bad r) = refl
 rest-goes (bad r) second third last = refl
 
 -- a value that is given at the end does not change a verdict
-value-given : {A B : Type 0} (checked : Checked A) (value : B) → verdict checked ≡ verdict (checked >> ok value)
+value-given : {A B : Type 0} (checked : Checked A) (value : B) → found checked ≡ found (checked >> ok value)
 value-given (ok a) value = refl
 value-given (bad r) value = refl
 
 -- a verdict on the way
-verdict-goes : {A : Type 0} (checked : Checked A) (known : Known) (heads room : List ℕ) (f : Known → List ℕ → List ℕ → Verdict)
+verdict-goes : {A : Type 0} (checked : Checked A) (known : Known) (heads room : List ℕ) (f : Known → List ℕ → List ℕ → Finding)
     → goOn (stepped (verdictStep known (verdict checked)) heads room) f ≡ after checked (λ u. f known heads room)
 verdict-goes (ok u) known heads room f = refl
 verdict-goes (bad r) known heads room f = refl
@@ -108,13 +115,13 @@ carries-parameters params room e h =
 
 module _ (bs : List ℕ) (given-scope : Scope) (before : Before) (heads : List ℕ)
     (knows : (nonterminal : ℕ) → nonterminal < 64 → Knows bs (given-scope .env) heads nonterminal) where
-  abbrev walk : List Field → ℕ → ℕ → ℕ → List ℕ → Verdict
+  abbrev walk : List Field → ℕ → ℕ → ℕ → List ℕ → Finding
   walk fields at head count room = sortsFrom (spread at fields) bs (knownOf given-scope head count) heads room
 
   -- an item is checked, then what is behind it
   item-goes :
       (head at : ℕ) (L room : List ℕ) (rest : RawFields) (item-sort : ItemSort) (checked : Checked ℕ) → sortedAt at item-sort ≡ checked → length L < 16
-      → (last : ℕ → Verdict)
+      → (last : ℕ → Finding)
       → ((sort : ℕ) → sortsFrom rest bs (knownOf given-scope head (length (L ++ (sort ∷ [])))) heads (set room (length L) sort) ≡ last sort)
       → goOn (afterItem (knownOf given-scope head (length L)) heads room at item-sort) (λ k H M. sortsFrom rest bs k H M) ≡ after checked last
   item-goes head at L room rest (As s) checked e h last f =
@@ -124,7 +131,7 @@ module _ (bs : List ℕ) (given-scope : Scope) (before : Before) (heads : List �
 
   items-sorted :
       {is : List Item} → Each ItemWithin is → (follow : List Field) (head at to : ℕ) → at + itemsSize is ≡ to → (L room : List ℕ) → Carries L room
-      → length L + length is ≤ 16 → (last : List ℕ → Verdict)
+      → length L + length is ≤ 16 → (last : List ℕ → Finding)
       → ((L′ room′ : List ℕ) → Carries L′ room′ → walk follow to head (length L′) room′ ≡ last L′)
       → walk (itemsThen is follow) at head (length L) room ≡ after (checkItems given-scope L at is) last
   unfolding spread itemsThen itemsSize sortsFrom stepAt checkItems
@@ -141,7 +148,7 @@ module _ (bs : List ℕ) (given-scope : Scope) (before : Before) (heads : List �
   -- a result is checked, then what is behind it
   result-sorted :
       {result : WrittenResult} → ResultWithin result → (follow : List Field) (head at : ℕ) {L room : List ℕ} → Carries L room
-      → (S : Signature) → signatureAt bs head ≡ bytesOf S → (used : ℕ) (last : TextRead → Verdict)
+      → (S : Signature) → signatureAt bs head ≡ bytesOf S → (used : ℕ) (last : TextRead → Finding)
       → ((made : TextRead) → walk follow (at + fieldSize (resultField result .value)) head (length L) room ≡ last made)
       → walk (resultField result ∷ follow) at head (length L) room ≡ after (checkResult given-scope before L (S .result) used at result) last
   unfolding spread sortsFrom stepAt
@@ -151,16 +158,16 @@ module _ (bs : List ℕ) (given-scope : Scope) (before : Before) (heads : List �
       ∙ after-same (checkResult given-scope before L (S .result) used at (template t)) _ _ f)
 
   -- whatever head and variables are known behind the fields, they give the same
-  abbrev Goes : List Field → ℕ → Verdict → Type 0
+  abbrev Goes : List Field → ℕ → Finding → Type 0
   Goes fields at last = (head count : ℕ) (room : List ℕ) → length room ≡ 16 → walk fields at head count room ≡ last
 
   -- and for one head
-  abbrev GoesAt : ℕ → List Field → ℕ → Verdict → Type 0
+  abbrev GoesAt : ℕ → List Field → ℕ → Finding → Type 0
   GoesAt head fields at last = (count : ℕ) (room : List ℕ) → length room ≡ 16 → walk fields at head count room ≡ last
 
   module _ (head : ℕ) (S : Signature) (signed : signatureAt bs head ≡ bytesOf S) (few : length (S .params) ≤ 4) where
     alternatives-sorted : {rest : List WrittenAlternative} → Each AlternativeWithin rest → (follow : List Field) (at to : ℕ) → at + alternativesSize rest ≡ to
-        → (last : Elaborated (List Alternative) → Verdict) → ((choices : Elaborated (List Alternative)) → GoesAt head follow to (last choices))
+        → (last : Elaborated (List Alternative) → Finding) → ((choices : Elaborated (List Alternative)) → GoesAt head follow to (last choices))
         → (done : Elaborated (List Alternative))
         → GoesAt head (alternativesThen rest follow) at (after (checkAlternatives given-scope before S done at rest) last)
     unfolding spread alternativesThen alternativesSize alternativeSize sortsFrom stepAt checkAlternatives checkAlternative
@@ -170,7 +177,7 @@ module _ (bs : List ℕ) (given-scope : Scope) (before : Before) (heads : List �
         let behind : ℕ = at + alternativeSize a in
         let params : List ℕ = S .params in
         let whole : TextRead → Elaborated Alternative = λ t. record { value = record { items = a .items; result = t .template }; used = t .used } in
-        let others : Elaborated Alternative → Verdict
+        let others : Elaborated Alternative → Finding
         = λ b. after (checkAlternatives given-scope before S (andThen done (b .value) (b .used)) behind rest) last in
         let many : length (bytesOf S) - 1 ≡ length params = omega arith in
         rw (signed, many)
@@ -188,7 +195,7 @@ module _ (bs : List ℕ) (given-scope : Scope) (before : Before) (heads : List �
         (λ b. checkAlternatives given-scope before S (andThen done (b .value) (b .used)) behind rest) last
 
   definitions-sorted : {ds : List WrittenDefinition} → Each DefinitionWithin ds → (follow : List Field) (at to : ℕ) → at + definitionsSize ds ≡ to
-      → Placed bs (spread at (definitionsThen ds follow)) → (last : Elaborated (List Definition) → Verdict)
+      → Placed bs (spread at (definitionsThen ds follow)) → (last : Elaborated (List Definition) → Finding)
       → (Placed bs (spread to follow) → (ds : Elaborated (List Definition)) → Goes follow to (last ds))
       → (done : Elaborated (List Definition)) → Goes (definitionsThen ds follow) at (after (checkBodies given-scope before done at ds) last)
   unfolding spread definitionsThen definitionsSize definitionSize sortsFrom stepAt counting checkBodies
@@ -235,13 +242,13 @@ module _ (bs : List ℕ) (root : ℕ) (low : root < 64) (whole : List (List Defi
   -- a block is collected, then what is behind it is checked
   block-goes :
       (E : Env) (block limit : ℕ) (known : Known) (room : List ℕ) (rest : RawFields) (checked : Checked Env) (given-collected : Collected)
-      → Agree bs E block limit checked given-collected → (last : Env → Verdict)
+      → Agree bs E block limit checked given-collected → (last : Env → Finding)
       → ((own : Env) (heads : List ℕ) → Collects bs E own block heads → Below heads limit → sortsFrom rest bs known heads room ≡ last own)
       → goOn (afterBlock known room given-collected) (λ k H M. sortsFrom rest bs k H M) ≡ after checked last
   block-goes E block limit known room rest (ok own) (collected Passed heads) (c, b) last f = f own heads c b
   block-goes E block limit known room rest (ok own) (collected (Refused r) heads) a last f = absurd a
   block-goes E block limit known room rest (bad r) (collected Passed heads) a last f = absurd a
-  block-goes E block limit known room rest (bad r) (collected (Refused q) heads) a last f = ap Refused (sym a)
+  block-goes E block limit known room rest (bad r) (collected (Refused q) heads) a last f = ap (λ p. Judged (Refused p)) (sym a)
 
   -- behind the blocks the root is checked
   abbrev rootAfter : ℕ → Before → Checked Table
@@ -254,28 +261,34 @@ module _ (bs : List ℕ) (root : ℕ) (low : root < 64) (whole : List (List Defi
   blocks-sorted : {blocks : List (List WrittenDefinition)} → Each (Each DefinitionWithin) blocks → (P : Before) (heads : List ℕ) (at : ℕ)
       → Shows bs (P .env) heads at → Placed bs (spread at (blocksThen blocks rootField)) → (head count : ℕ) (room : List ℕ) → length room ≡ 16
       → sortsFrom (spread at (blocksThen blocks rootField)) bs (knownOf (scopeAfter P []) head count) heads room
-      ≡ verdict (checkRest P at blocks)
+      ≡ found (checkRest P at blocks)
   unfolding spread blocksThen sortsFrom stepAt checkBlocks blocksSize isDefined
   blocks-sorted each-none P heads at s p head count room r =
       rw (add-zero at)
-      (root-agrees bs (scopeAfter P []) heads (s .knows) at root low ∙ value-given (checkRoot (P .env) at root) (whole (P .blocks)))
+      (ap Judged (root-agrees bs (scopeAfter P []) heads (s .knows) at root low) ∙ value-given (checkRoot (P .env) at root) (whole (P .blocks)))
   blocks-sorted (each-more {x = b} {xs = blocks} w ws) P heads at s p head count room r =
       let E : Env = P .env in
       let behind : ℕ = at + 3 + definitionsSize b in
       let place : behind + blocksSize blocks ≡ at + blocksSize (b ∷ blocks) = omega arith in
       let follow : List Field = blocksThen blocks rootField in
       let before : Collects bs E [] at heads =
-      record { size = s .size; knows = s .knows; here = λ n l. le-leb (getD heads n 0) at (s .below n) } in
+      record {
+        size = s .size;
+        knows = s .knows;
+        here = λ n l. le-leb (getD heads n 0) at (s .below n);
+        before = λ n l.
+            subst (λ h. KnowsHead bs E h n) (sym (before-in-front bs heads at n (le-leb (getD heads n 0) at (s .below n)))) (s .knows n l);
+      } in
       let next : Env → Elaborated (List Definition) → Before = λ own ds. behindBlock P own (ds .value) (ds .used) in
       let bodies : Env → Checked (Elaborated (List Definition)) = λ own. checkBodies (scopeAfter P own) P (noneYet (P .used)) (at + 3) b in
       let rest : Env → Elaborated (List Definition) → Checked Before = λ own ds. checkBlocks (next own ds) behind blocks in
       block-goes E at behind _ room (spread (at + 3) (definitionsThen b follow)) (collect E [] (at + 3) b)
       (collectFrom (spread (at + 3) (definitionsThen b follow)) bs at heads)
       (collect-agrees bs E at follow (collect-ends blocks at) w (at + 3) behind refl [] heads (p .1) (omega arith) before (λ n. omega (arith, s .below n)))
-      (λ own. after (bodies own) (λ ds. verdict (checkRest (next own ds) behind blocks)))
+      (λ own. after (bodies own) (λ ds. found (checkRest (next own ds) behind blocks)))
       (λ own heads′ c l.
       definitions-sorted bs (scopeAfter P own) P heads′ (c .knows) w follow (at + 3) behind refl (p .1)
-      (λ ds. verdict (checkRest (next own ds) behind blocks))
+      (λ ds. found (checkRest (next own ds) behind blocks))
       (λ q ds. blocks-sorted ws (next own ds) heads′ behind (record { size = c .size; knows = c .knows; below = l }) q)
       (noneYet (P .used)) head count room r)
       ∙ rest-goes (collect E [] (at + 3) b) bodies rest (rootAfter (behind + blocksSize blocks))
@@ -327,7 +340,7 @@ unfolding spread spellingsThen spellingsSize
 placed-spellings bs tag [] follow at to z p = let e : at ≡ to = omega arith in rw e at p
 placed-spellings bs tag (s ∷ ss) follow at to z p = placed-spellings bs tag ss follow (at + fieldSize s) to (omega arith) (p .1)
 
-table-sorted : (table : Written) → Within table → sortsOf (encode table) ≡ verdict (checkSorts table)
+table-sorted : (table : Written) → Within table → sortsOf (encode table) ≡ found (checkSorts table)
 unfolding encode tableFields checkSorts
 table-sorted table w =
     let bs : List ℕ = encode table in
@@ -352,8 +365,8 @@ table-sorted table w =
     (placed-spellings bs 2 os blocks second first refl (placed-spellings bs 1 ks names 0 second (zero-add second) placed)) 0 0 room
     (length-replicate {A = ℕ} 16 0)))
 
--- On the bytes of a decoded table the code's check, `sortsOf`, is the verdict of the sort check of that table.
-pub bytes-checked : (bs : List ℕ) → Bytes bs → (table : Written) → decode bs ≡ ok table → sortsOf bs ≡ verdict (checkSorts table)
+-- On the bytes of a decoded table the code's check, `sortsOf`, finds the verdict of the sort check of that table.
+pub bytes-checked : (bs : List ℕ) → Bytes bs → (table : Written) → decode bs ≡ ok table → sortsOf bs ≡ found (checkSorts table)
 bytes-checked bs b table e =
     let laid = decoded-encoding bs b table e in
     ap sortsOf (laid .0) ∙ table-sorted table (laid .1)

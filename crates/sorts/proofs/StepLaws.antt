@@ -19,7 +19,9 @@ use Rattle.bodies.specs.declared.Known.{Known}
 use Rattle.bodies.specs.declared.ItemSort.{ItemSort}
 use Rattle.bodies.specs.declared.ItemSort.the-variants.{As, Unsorted}
 use Rattle.sorts.specs.declared.FieldStep.{FieldStep}
-use Rattle.sorts.specs.declared.FieldStep.the-variants.{Next, Stop}
+use Rattle.sorts.specs.declared.FieldStep.the-variants.{Next, Stop, Text}
+use Rattle.sorts.specs.declared.Finding.{Finding}
+use Rattle.sorts.specs.declared.Finding.the-variants.{Judged, TextMet}
 use Rattle.bodies.specs.HeadBytes.{signatureAt, collected, collectAt}
 use Rattle.bodies.specs.BodyBytes.{ParameterSorts, SortAdded, itemAt, resultAt}
 use Rattle.bodies.specs.declared.Fault.{Fault}
@@ -164,22 +166,27 @@ module _ {bs : List ℕ} {at tag : ℕ} {value : List ℕ} {to : ℕ} {known : K
   unfolding stepAt
   step-root e p q f = record { steps = rw e (cc); counts = tt }
 
+  -- a text
+  pub step-text : tag ≡ 9 → FieldChecked bs at tag value to known heads L Text heads L
+  unfolding stepAt
+  step-text e = record { steps = rw e refl; counts = tt }
+
   -- any other field
   pub step-counts :
       {known′ : Known}
-      → ((((Unit {0} × (tag ≡ 3 → ⊥)) × (tag ≡ 5 → ⊥)) × (tag ≡ 6 → ⊥)) × (tag ≡ 7 → ⊥)) × (tag ≡ 8 → ⊥)
+      → (((((Unit {0} × (tag ≡ 3 → ⊥)) × (tag ≡ 5 → ⊥)) × (tag ≡ 6 → ⊥)) × (tag ≡ 7 → ⊥)) × (tag ≡ 8 → ⊥)) × (tag ≡ 9 → ⊥)
       → known′ ≡ counting known tag at → FieldChecked bs at tag value to known heads L (Next known′) heads L
   unfolding stepAt
-  step-counts (((((u, a), b), c), d), e) q =
+  step-counts ((((((u, a), b), c), d), e), f) q =
       record {
-        steps = rw (ne-eqb tag 3 a, ne-eqb tag 5 b, ne-eqb tag 6 c, ne-eqb tag 7 d, ne-eqb tag 8 e, stepAt) (cc);
+        steps = rw (ne-eqb tag 3 a, ne-eqb tag 5 b, ne-eqb tag 6 c, ne-eqb tag 7 d, ne-eqb tag 8 e, ne-eqb tag 9 f, stepAt) (cc);
         counts = rw q (counts known tag at);
       }
 
 -- ------------------------------------------------------------------ the walk
 
 -- a table that is too long is not looked at; of any other the fields give the answer
-pub sorts-long : (bs : List ℕ) → most .bytes < length bs → Passed ≡ sortsOf bs
+pub sorts-long : (bs : List ℕ) → most .bytes < length bs → Judged Passed ≡ sortsOf bs
 unfolding sortsOf
 sorts-long bs h = cc (lt-leb (length bs) (most .bytes) h)
 
@@ -210,12 +217,12 @@ sorting-start =
     record { heads = refl; sorts = refl; full = refl; keywords = omega arith; outsides = omega arith; rest = refl }
 
 module _ {bs heads₀ L₀ stack₀ heads L stack : List ℕ} {at : ℕ} {known : Known} (sorting : Sorting bs heads₀ L₀ stack₀ heads L stack at known) where
-  walks : Walk (λ fs. sortsFrom fs bs known heads L) Passed
+  walks : Walk (λ fs. sortsFrom fs bs known heads L) (Judged Passed)
   unfolding sortsFrom stepAt
   walks = record { at-end = λ at. refl; at-cut = λ at. refl; at-none = λ at to. refl }
 
   -- at the end
-  pub sorting-end : length bs ≤ at → Passed ≡ sortsFrom (fieldsAt bs 0) bs unknown heads₀ L₀
+  pub sorting-end : length bs ≤ at → Judged Passed ≡ sortsFrom (fieldsAt bs 0) bs unknown heads₀ L₀
   sorting-end h = sym (walk-end walks bs at h) ∙ sorting .rest
 
   module _ {field : FieldSpan} {step : FieldStep} {heads′ L′ : List ℕ} (equal : field ≡ fieldAt bs at)
@@ -227,8 +234,12 @@ module _ {bs heads₀ L₀ stack₀ heads L stack : List ℕ} {at : ℕ} {known 
     step-gives h = cc (field-checked .steps, walk-field walks bs at equal, sorting .rest)
 
     -- a field stops the check
-    pub sorting-stop : {verdict : Verdict} → step ≡ Stop verdict → verdict ≡ sortsFrom (fieldsAt bs 0) bs unknown heads₀ L₀
+    pub sorting-stop : {verdict : Verdict} → step ≡ Stop verdict → Judged verdict ≡ sortsFrom (fieldsAt bs 0) bs unknown heads₀ L₀
     sorting-stop h = step-gives h
+
+    -- a text stops it
+    pub sorting-text : step ≡ Text → TextMet ≡ sortsFrom (fieldsAt bs 0) bs unknown heads₀ L₀
+    sorting-text h = step-gives h
 
     -- the check goes on behind it
     pub sorting-next :

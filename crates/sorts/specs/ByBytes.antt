@@ -22,7 +22,9 @@ use Rattle.bodies.specs.Faults.{causeOf, testedBy, verdictOf}
 use Rattle.bodies.specs.declared.ItemSort.{ItemSort}
 use Rattle.bodies.specs.declared.ItemSort.the-variants.{As, Unsorted}
 use Rattle.sorts.specs.declared.FieldStep.{FieldStep}
-use Rattle.sorts.specs.declared.FieldStep.the-variants.{Next, Stop}
+use Rattle.sorts.specs.declared.FieldStep.the-variants.{Next, Stop, Text}
+use Rattle.sorts.specs.declared.Finding.{Finding}
+use Rattle.sorts.specs.declared.Finding.the-variants.{Judged, TextMet}
 use Rattle.bodies.specs.HeadBytes.{signatureAt, Collected, collected, collectFrom}
 use Rattle.bodies.specs.BodyBytes.{oneMore, itemAt, resultAt}
 
@@ -93,28 +95,29 @@ stepAt bs at tag v fs k H L =
                         | false ↦
                             elim (eqb tag 8) [
                               | true ↦ stepped (Stop (verdictOf at (rootAt bs H (getD v 0 0)))) H L
-                              | false ↦ stepped (Next (counting k tag at)) H L
+                              | false ↦ elim (eqb tag 9) [ true ↦ stepped Text H L | false ↦ stepped (Next (counting k tag at)) H L ]
                             ]
                       ]
                 ]
           ]
     ]
 
-abbrev pub goOn : Stepped → (Known → List ℕ → List ℕ → Verdict) → Verdict
+abbrev pub goOn : Stepped → (Known → List ℕ → List ℕ → Finding) → Finding
 goOn (stepped (Next k) H L) f = f k H L
-goOn (stepped (Stop v) H L) f = v
+goOn (stepped (Stop v) H L) f = Judged v
+goOn (stepped Text H L) f = TextMet
 
-unfoldable pub sortsFrom : RawFields → List ℕ → Known → List ℕ → List ℕ → Verdict
-sortsFrom (end at) bs k H L = Passed
-sortsFrom (cut at) bs k H L = Passed
+unfoldable pub sortsFrom : RawFields → List ℕ → Known → List ℕ → List ℕ → Finding
+sortsFrom (end at) bs k H L = Judged Passed
+sortsFrom (cut at) bs k H L = Judged Passed
 sortsFrom (next at tag v fs) bs k H L = goOn (stepAt bs at tag v fs k H L) (λ k′ H′ L′. sortsFrom fs bs k′ H′ L′)
 
 -- a longer table was refused before
-unfoldable pub sortsOf : List ℕ → Verdict
+unfoldable pub sortsOf : List ℕ → Finding
 sortsOf bs =
     elim (leb (length bs) (most .bytes)) [
       | true ↦ sortsFrom (fieldsOf bs) bs unknown (replicate (most .nonterminals) 0) (replicate mostVariables 0)
-      | false ↦ Passed
+      | false ↦ Judged Passed
     ]
 
 -- ------------------------------------------------------------------ what the code's functions ask and ensure
@@ -128,6 +131,7 @@ pub record Countable (k : Known) : Type 0 where
 abbrev pub Counts : Known → FieldStep → Type 0
 Counts k (Next k′) = (k′ .keywords ≤ k .keywords + 1) × (k′ .outsides ≤ k .outsides + 1)
 Counts k (Stop v) = Unit {0}
+Counts k Text = Unit {0}
 
 -- an item at an offset: what it gives, where the code answers r and leaves the sorts L′
 pub record ItemChecked (bs : List ℕ) (at : ℕ) (v : List ℕ) (k : Known) (H L : List ℕ) (r : FieldStep) (L′ : List ℕ) : Type 0 where

@@ -38,10 +38,20 @@ ghost use Rattle.grammar.specs.Lookup.{fieldsAt};
 ghost use Rattle.sorts.specs.ByBytes.{rootAt, unknown, verdictStep, counting, sortsFrom, sortsOf};
 ghost use Rattle.sorts.specs.ByBytes.{Countable, ItemChecked, FieldChecked, Room, FieldReady, middleTable, Lengthy};
 
-// What a field gives: what is known after it, or the verdict.
+// A result that is written as a text.
+const TEXT_TAG: u8 = 9;
+
+// What a field gives: what is known after it, or the verdict; or it is a result that is written as a text.
 pub enum FieldStep {
     Next(Known),
     Stop(Verdict),
+    Text,
+}
+
+// What the check of sorts finds: its verdict, or a text, which only the check that has rooms to read it judges.
+pub enum Finding {
+    Judged(Verdict),
+    TextMet,
 }
 
 // What is wrong with the root: it is defined, has no parameters and gives a Term.
@@ -167,12 +177,13 @@ fn check_field(
             known,
         ),
         ROOT_TAG => FieldStep::Stop(verdict_of(check_root(table, heads, byte(v, 0)), at)),
+        TEXT_TAG => FieldStep::Text,
         _ => FieldStep::Next(count(known, tag, at)),
     }
 }
 
 // A table's fields from the first on, with no head known yet and room for the variables and for the places that templates open.
-fn check_fields(heads: &mut [u16], sorts: &mut [u8], stack: &mut [u8], table: &[u8]) -> Verdict
+fn check_fields(heads: &mut [u16], sorts: &mut [u8], stack: &mut [u8], table: &[u8]) -> Finding
     requires { ⌜ (length (now table) ≤ most .bytes) × Room (now table) (now sorts) (now stack) ⌝ }
     ensures { λ r. ⌜ r ≡ sortsFrom (fieldsAt (now (table .entry)) 0) (now (table .entry)) unknown (now (heads .entry)) (now (sorts .entry)) ⌝ }
 {
@@ -191,7 +202,10 @@ fn check_fields(heads: &mut [u16], sorts: &mut [u8], stack: &mut [u8], table: &[
         let step = check_field(heads, sorts, stack, table, at, field.tag, v, to, known);
         match step {
             FieldStep::Stop(v) => {
-                return v;
+                return Finding::Judged(v);
+            }
+            FieldStep::Text => {
+                return Finding::TextMet;
             }
             FieldStep::Next(k) => {
                 known = k;
@@ -199,7 +213,7 @@ fn check_fields(heads: &mut [u16], sorts: &mut [u8], stack: &mut [u8], table: &[
             }
         }
     }
-    Verdict::Passed
+    Finding::Judged(Verdict::Passed)
 }
 
 // The places that the templates of a table open: at most two for each of its bytes, and some more.
@@ -211,7 +225,7 @@ const LARGE_STACK: usize = 2 * LONGEST_TABLE + 8;
 
 // The sorts of a table of middle size. The room for its places is in no frame but this function's: one that calls itself is never laid into
 // its caller, and this one does so on an empty table, which it is not passed.
-fn check_middle(table: &[u8]) -> Verdict
+fn check_middle(table: &[u8]) -> Finding
     requires { ⌜ Lengthy (now table) middleTable ⌝ }
     ensures { λ r. ⌜ r ≡ sortsOf (now (table .entry)) ⌝ }
 {
@@ -226,7 +240,7 @@ fn check_middle(table: &[u8]) -> Verdict
 }
 
 // The same with a room for the places of every table.
-fn check_large(table: &[u8]) -> Verdict
+fn check_large(table: &[u8]) -> Finding
     requires { ⌜ Lengthy (now table) (most .bytes) ⌝ }
     ensures { λ r. ⌜ r ≡ sortsOf (now (table .entry)) ⌝ }
 {
@@ -241,11 +255,11 @@ fn check_large(table: &[u8]) -> Verdict
 }
 
 // The sorts of a table whose layout is right: refusals 7, 8, 9 and 11. A longer table is refused before.
-pub fn check_sorts(table: &[u8]) -> Verdict
+pub fn check_sorts(table: &[u8]) -> Finding
     ensures { λ r. ⌜ r ≡ sortsOf (now (table .entry)) ⌝ }
 {
     if LONGEST_TABLE < table.len() {
-        return Verdict::Passed;
+        return Finding::Judged(Verdict::Passed);
     }
     if MIDDLE_TABLE < table.len() {
         return check_large(table);

@@ -1,5 +1,5 @@
 -- `check_into`: layout, then sorts, then first sets.
-use mathlib.Core.Path.{_≡_, sym, _∙_}
+use mathlib.Core.Path.{_≡_, sym, ap, _∙_}
 use mathlib.Core.List.{List}
 use Prim.Native.Nat.{ℕ}
 use native.Mathlib.Omega.{arith}
@@ -7,6 +7,7 @@ use Rattle.answers.specs.Checked.{verdict}
 use Rattle.answers.specs.declared.Verdict.the-variants.{Passed}
 use Rattle.decoding.specs.Layout.{layout}
 use Rattle.decoding.proofs.Split.{Bytes}
+use Rattle.sorts.specs.declared.Finding.the-variants.{Judged}
 use Rattle.sorts.specs.ByBytes.{sortsOf}
 use Rattle.checker.proofs.CheckLaws as laws
 use borrow.Author.Needs.{needs}
@@ -42,30 +43,43 @@ module _ (point : lts.After-enum-told claims reads.Pre reads.Post) where
   laid : verdict (layout bs) ≡ Passed
   laid = sym (point .before .before .check-layout .ensures) ∙ point .enum-told .given .1
 
--- the sorts are right
-sorted : (point : lts.After-enum-told2 claims reads.Pre reads.Post) → sortsOf (bs (point .before .before .before)) ≡ Passed
-sorted point = sym (point .before .before .check-sorts .ensures) ∙ point .enum-told2 .given .1
+-- the sorts are judged
+module _ (point : lts.After-known-told2 claims reads.Pre reads.Post) where
+  abbrev checked : lts.After-check-sorts claims reads.Pre reads.Post
+  checked = point .before .before .before
+
+  judged : sortsOf (bs (checked .before)) ≡ Judged (point .before .sorted .given .0 .0)
+  judged = sym (checked .check-sorts .ensures) ∙ point .before .sorted .given .1
+
+-- and right
+sorted : (point : lts.After-enum-told3 claims reads.Pre reads.Post) → sortsOf (bs (checked (point .before .before) .before)) ≡ Judged Passed
+sorted point = judged (point .before .before) ∙ ap Judged (point .enum-told3 .given .1)
 
 -- the index has been built
 module _ (point : lts.After-build-index claims reads.Pre reads.Post) where
-  abbrev after-sorts : lts.After-enum-told2 claims reads.Pre reads.Post
+  abbrev after-sorts : lts.After-enum-told3 claims reads.Pre reads.Post
   after-sorts = point .before .before .before
 
   abbrev after-layout : lts.After-enum-told claims reads.Pre reads.Post
-  after-layout = after-sorts .before .before .before
+  after-layout = checked (after-sorts .before .before) .before
 
 returns : tie.Need-returns
 returns c = search (laws.into-layout, sym (c .before .before .before .check-layout .ensures) ∙ c .before .laid .given .1)
 
 returns-2 : tie.Need-returns-2
 returns-2 c =
-    let q = c .before in
-    let r = q .before .before in
+    let r = c .before .before in
     let p = r .before in
-    laws.into-sorts (bs p) (bytes p) (laid p) _ (sym (r .check-sorts .ensures) ∙ q .sorted .given .1) _
+    absurd (laws.no-text (bs p) (bytes p) (laid p) (sym (r .check-sorts .ensures) ∙ c .enum-told2 .given .1))
+
+returns-3 : tie.Need-returns-3
+returns-3 c =
+    let q = c .before .before .before in
+    let p = checked q .before in
+    laws.into-sorts (bs p) (bytes p) (laid p) _ (judged q ∙ ap Judged (c .before .sorted2 .given .1)) _
 
 build-index-requires : tie.Need-build-index-requires
-build-index-requires c κs = let p = c .before .before .before .before .before in laws.few (bs p) (bytes p) (laid p)
+build-index-requires c κs = let p = checked (c .before .before .before .before) .before in laws.few (bs p) (bytes p) (laid p)
 
 check-firsts-requires : tie.Need-check-firsts-requires
 check-firsts-requires c κs =
@@ -73,8 +87,8 @@ check-firsts-requires c κs =
     let p = after-layout built in
     laws.whole-index (bs p) (bytes p) (laid p) (built .build-index .ensures .index)
 
-returns-3 : tie.Need-returns-3
-returns-3 c =
+returns-4 : tie.Need-returns-4
+returns-4 c =
     let built = c .before .before .before .before in
     let p = after-layout built in
     laws.into-firsts (bs p) (bytes p) (laid p) (sorted (after-sorts built)) (built .build-index .ensures .index) (c .check-firsts .ensures)
@@ -90,8 +104,11 @@ check-into-spec =
     (λ c. search needs)
     (λ c κs. search needs)
     (λ c. search needs)
+    (λ c. search needs)
     returns-2
+    (λ c. search needs)
+    returns-3
     (λ c. search needs)
     build-index-requires
     check-firsts-requires
-    returns-3)
+    returns-4)

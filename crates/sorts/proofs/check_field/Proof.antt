@@ -50,7 +50,10 @@ returns-5 : tie.Need-returns-5
 returns-5 c = search laws.step-root
 
 returns-6 : tie.Need-returns-6
-returns-6 c = search laws.step-counts
+returns-6 c = search laws.step-text
+
+returns-7 : tie.Need-returns-7
+returns-7 c = search laws.step-counts
 
 -- the function meets its contract
 pub check-field-spec : {M : Type 1} → statement M
@@ -82,4 +85,5 @@ check-field-spec =
     returns-4
     same-length-8
     returns-5
-    returns-6)
+    returns-6
+    returns-7)

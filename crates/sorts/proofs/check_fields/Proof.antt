@@ -77,6 +77,11 @@ returns c =
     let p = checked (c .before .before .before) in
     laws.sorting-stop (turn (field p) .loop .inv) (field p .field-at .ensures) (p .check-field .ensures) (c .before .step .given .1)
 
+returns-2 : tie.Need-returns-2 Inv-loop μ-loop
+returns-2 c =
+    let p = checked (c .before .before) in
+    laws.sorting-text (turn (field p) .loop .inv) (field p .field-at .ensures) (p .check-field .ensures) (c .enum-told .given .1)
+
 loop-less : tie.Need-loop-less Inv-loop μ-loop
 loop-less c =
     let p = field (checked (c .before .before .before)) in
@@ -88,8 +93,8 @@ loop-again c =
     laws.sorting-next (turn (field p) .loop .inv) (field p .field-at .ensures) (p .check-field .ensures) (field p .before .loop-test .taken)
     (c .before .step2 .given .1) (p .check-field .kept .0) (p .check-field .kept .1 .0) (p .check-field .kept .1 .1 .0)
 
-returns-2 : tie.Need-returns-2 Inv-loop μ-loop
-returns-2 c = search laws.sorting-end
+returns-3 : tie.Need-returns-3 Inv-loop μ-loop
+returns-3 c = search laws.sorting-end
 
 -- the function meets its contract
 pub check-fields-spec : {M : Type 1} → statement M
@@ -110,9 +115,14 @@ check-fields-spec =
     (λ c. search needs)
     returns
     (λ c. search needs)
+    (λ c. search needs)
+    (λ c. search needs)
+    (λ c. search needs)
+    returns-2
+    (λ c. search needs)
     loop-less
     loop-again
     (λ c. search needs)
     (λ c. search needs)
     (λ c. search needs)
-    returns-2)
+    returns-3)
