@@ -24,6 +24,7 @@ use Rattle.decoding.proofs.LayoutTheorems.{decode-exactly}
 use Rattle.decoding.proofs.RefusalNumbers.{isLayoutNumber, decode-answers}
 use Rattle.elaboration.specs.CheckSequence.{checkSorts}
 use Rattle.elaboration.specs.Elaboration.{Elaborates}
+use Rattle.elaboration.proofs.Elaborated.{Headed, heads-derived}
 use Rattle.elaboration.proofs.SortTheorems.{sorts-exactly, sort-refusals}
 use Rattle.productions.specs.Normal.{Production, normalized}
 use Rattle.clashes.specs.CheckFirsts.{checkFirsts}
@@ -71,9 +72,11 @@ normalized-member = normalizing.normalized-member
 pub normalized-in-blocks : (table : Written) (made : Table) → Elaborates table made → (p : Production)
     → Among (normalized (made .blocks)) p ↔ RemainsInBlocks p (made .blocks)
 normalized-in-blocks table made elaborates p =
-    let (to, back) = normalized-member (made .blocks) p in (
+    let (to, back) = normalized-member (made .blocks) p in
+    let (hs, headed, is) = heads-derived (elaborates .sequence) in
+    let whole : Headed [] (made .blocks) = subst⁻¹ (Headed []) (elaborates .same-blocks ∙ is) headed in (
       λ m. blocks.to-blocks (made .blocks) (to m),
-      λ r. back (blocks.from-blocks (elaborates .sequence) r),
+      λ r. back (blocks.from-blocks whole r),
     )
 
 -- ------------------------------------------------------------------ the whole check

@@ -1,16 +1,16 @@
 -- The tests of one part are its rules: it passes by a judgement, or it fails by its first test.
-use Prim.Native.Nat.{ℕ, _≤_, _<_}
-use mathlib.Core.Path.{_≡_, refl, sym, ap, ap₂, _∙_, subst, subst⁻¹}
+use Prim.Native.Nat.{ℕ}
+use mathlib.Core.Path.{_≡_, refl, sym, ap, ap₂, _∙_, subst}
 use mathlib.Core.Logic.{_⊎_, inl, inr}
-use mathlib.Core.Bool.{Bool, true, false, not, _&&_, _||_, false≢true, true≢false, and-false}
+use mathlib.Core.Bool.{Bool, true, false, _&&_, _||_, true≢false, and-false}
 use mathlib.Core.List.{List, [], _∷_, _++_}
 use native.Mathlib.Omega.{arith}
 use lib.Dec.{eqb, ltb}
 use lib.ListN.{length}
-use borrow.Author.Tests.{eqb-true, eqb-false, eq-eqb, ltb-true, ltb-false, le-ltb, lt-ltb}
+use borrow.Author.Tests.{eqb-true, ltb-true, ltb-false, le-ltb, lt-ltb}
 use Rattle.answers.specs.declared.Refusal.{Refusal}
 use Rattle.answers.specs.Refusals.{refusal}
-use Rattle.answers.specs.Checked.{Checked, ok, bad, _>>=_, _>>_, need}
+use Rattle.answers.specs.Checked.{Checked, ok, bad, need}
 use Rattle.spellings.proofs.BytesLaws.{by-test}
 use Rattle.grammar.specs.Sorts.{Signature, gives, unit, term}
 use Rattle.grammar.specs.SortTests.{fits}
@@ -18,14 +18,16 @@ use Rattle.grammar.specs.Table.{Template, Templates, variable, outsideVar, outs
 use Rattle.grammar.specs.Table.{local, call}
 use Rattle.grammar.specs.Table.{Mode, add, extend, update}
 use Rattle.grammar.specs.Written.{WrittenResult, template, WrittenDefinition}
-use Rattle.decoding.specs.Within.{TemplatesWithin, ide-within, ItemWithin, terminal-within, call-within, ResultWithin, template-within}
+use Rattle.decoding.specs.Within.{ide-within, ItemWithin, terminal-within, call-within, ResultWithin, template-within}
 use Rattle.judgements.specs.Scopes.{Env, Scope}
 use Rattle.judgements.specs.CheckSorts.{isDefined, signatureOf, sameSignature, isAsBefore, isUnused, consistent, isClosed, areClosed, sortOf, isSorted, fill}
 use Rattle.judgements.specs.CheckSorts.{checkItem}
-use Rattle.judgements.specs.Judgements.{Newest, Undeclared, Fits, Sorted, Fill, ItemSorted, by-keyword, by-ide, by-number, by-local, by-call}
+use Rattle.judgements.specs.Judgements.{Newest, Undeclared, Fits, Sorted, ItemSorted, by-keyword, by-ide, by-number, by-local, by-call}
 use Rattle.judgements.proofs.Environments.{defined-here, defined-later, defined-newest, newest-defined, newest-signature, undefined-absent, absent-undefined}
 use Rattle.judgements.proofs.Environments.{same-signature, signature-same}
 use Rattle.judgements.proofs.TemplateSorts.{both, pair, fits-rule, rule-fits, sorted-rule, rule-sorted, fill-rule, rule-fill}
+use Rattle.texts.specs.Reading.{TextRead}
+use Rattle.elaboration.specs.Contexts.{Before}
 use Rattle.elaboration.specs.CheckSequence.{checkResult, checkRoot}
 use Rattle.elaboration.specs.Elaboration.{ResultSorted, by-template}
 use Rattle.causes.specs.Missorted.{Undefined, no-variable, no-name, no-label, in-argument, SomeUndefined, this-one, a-later-one}
@@ -142,28 +144,30 @@ module _ (G : Scope) (L : List ℕ) (at : ℕ) where
       true≢false (sym (pair (isSorted t L) (fits (sortOf t L) B) k (cc (is, rule-fits f))) ∙ e)
 
   -- a result passes by a judgement, or fails
-  pub result-view : (B : ℕ) {r : WrittenResult} → ResultWithin r → Outcome at (result G L B r) (ResultSorted G L B r) (checkResult G L B at r)
-  result-view B (template-within {t} w) =
+  pub result-view : (P : Before) (B used : ℕ) {r : WrittenResult} → ResultWithin r
+      → Outcome at (result G P L B used r) (ResultSorted G P L B used r) (checkResult G P L B used at r)
+  result-view P B used (template-within {t} w) =
       by-test (isClosed t G (length L))
       (λ c. by-test (isSorted t L && fits (sortOf t L) B)
       (λ s.
       let (k, f) = both (isSorted t L) (fits (sortOf t L) B) s in
-      passing t (by-template (sorted-rule G L t w c k) (fits-rule (sortOf t L) B f)) (rw (c, s) refl))
+      passing (record { template = t; used = used }) (by-template (sorted-rule G L t w c k) (fits-rule (sortOf t L) B f)) (rw (c, s) refl))
       (λ s. failing (rules.unsorted-result (closed-result t c) (unfit B t s)) (rw (c, s) refl)))
       (λ c. failing (rules.undefined-result (open-rule G (length L) t c)) (rw c refl))
 
   -- a result with a sort that fits passes
-  pub result-passes : {B : ℕ} {r : WrittenResult} {made : Template} → ResultSorted G L B r made → checkResult G L B at r ≡ ok made
+  pub result-passes : {P : Before} {B used : ℕ} {r : WrittenResult} {made : TextRead} → ResultSorted G P L B used r made
+      → checkResult G P L B used at r ≡ ok made
   result-passes (by-template {t = t} s f) =
       let (closed, sorted, is) = rule-sorted G L t s in rw (closed, sorted, is, rule-fits f) refl
 
   -- a result that fails is refused
-  pub result-fails : {B : ℕ} {result : WrittenResult} {r : Refusal} → ResultWithin result → Fails at (rules.result G L B result) r
-      → checkResult G L B at result ≡ bad r
-  result-fails {B} (template-within {t} w) h = by (result-view B (template-within w)) h
+  pub result-fails : {P : Before} {B used : ℕ} {result : WrittenResult} {r : Refusal} → ResultWithin result → Fails at (rules.result G P L B used result) r
+      → checkResult G P L B used at result ≡ bad r
+  result-fails {P} {B} {used} (template-within {t} w) h = by (result-view P B used (template-within w)) h
     where
-      by : {r : Refusal} → Outcome at (result G L B (template t)) (ResultSorted G L B (template t)) (checkResult G L B at (template t))
-          → Fails at (result G L B (template t)) r → checkResult G L B at (template t) ≡ bad r
+      by : {r : Refusal} → Outcome at (result G P L B used (template t)) (ResultSorted G P L B used (template t)) (checkResult G P L B used at (template t))
+          → Fails at (result G P L B used (template t)) r → checkResult G P L B used at (template t) ≡ bad r
       by (passing u (by-template s f) e) (rules.undefined-result v) = absurd (closed-result t (rule-sorted G L t s .0) v)
       by (passing u (by-template {A = A} s f) e) (rules.unsorted-result d v) = absurd (v A s f)
       by (failing (rules.undefined-result v) e) (rules.undefined-result u) = e

@@ -1,12 +1,11 @@
 -- The check of sorts refuses exactly as the rules say: it stops at a part that is reached and fails.
 use Prim.Native.Nat.{ℕ, _+_}
-use mathlib.Core.Path.{_≡_, refl, sym, ap, _∙_, subst, subst⁻¹}
+use mathlib.Core.Path.{_≡_, refl, sym, _∙_, subst}
 use mathlib.Core.Logic.{_↔_}
-use mathlib.Core.List.{List, [], _∷_, _++_}
+use mathlib.Core.List.{List, [], _∷_}
 use native.Mathlib.Omega.{arith}
-use lib.ListN.{length}
 use Rattle.answers.specs.declared.Refusal.{Refusal}
-use Rattle.answers.specs.Checked.{Checked, ok, bad, _>>=_, _>>_}
+use Rattle.answers.specs.Checked.{Checked, bad}
 use Rattle.grammar.specs.Table.{Item, Alternative, Definition}
 use Rattle.grammar.specs.Written.{WrittenAlternative, WrittenDefinition, Written}
 use Rattle.grammar.specs.Values.{Field, field, headValue}
@@ -17,10 +16,10 @@ use Rattle.judgements.specs.Scopes.{Env, Scope}
 use Rattle.judgements.specs.CheckSorts.{collect, checkItems}
 use Rattle.judgements.specs.Judgements.{Numbered, Defines}
 use Rattle.judgements.proofs.SizeLaws.{bytesOf, one-field, no-bytes, items-bytes, alternatives-bytes, definitions-bytes, front-size}
-use Rattle.elaboration.specs.CheckSequence.{Before, checkResult, checkAlternative, checkBodies, checkBlocks, checkRoot, checkSorts}
+use Rattle.elaboration.specs.Contexts.{Before, atFirst, scopeAfter}
+use Rattle.elaboration.specs.CheckSequence.{noneYet, checkResult, checkAlternative, checkBodies, checkBlocks, checkRoot, checkSorts}
 use Rattle.elaboration.specs.Elaboration.{Bodies, Ok}
-use Rattle.elaboration.proofs.SequenceSorts.{atFirst}
-use Rattle.causes.specs.Missorted.{Part, head, result, root, Fails, At, Next, Derived, placeBehind, headPlace, bodyPlace, within, Missorted}
+use Rattle.causes.specs.Missorted.{Part, head, result, root, Fails, At, Next, Derived, placeBehind, headPlace, bodyPlace, Missorted}
 use Rattle.causes.specs.Missorted as rules
 use Rattle.causes.proofs.PartTests.{outcome, item-view, item-fails, result-view, result-fails, head-view, head-fails, root-view, root-fails}
 use Rattle.causes.proofs.Walking.{no-refusal, first-or-next, then-is, this-of, Stop, stops, stopped, passes, passed}
@@ -29,12 +28,6 @@ use Rattle.causes.proofs.SortWalks.{items, alternatives, bodies, heads,
 -- ------------------------------------------------------------------ the whole table
 
 module _ (t : Written) where
-  abbrev K : ℕ
-  K = length (t .keywords)
-
-  abbrev N : ℕ
-  N = length (t .outsides)
-
   -- where the blocks begin
   abbrev first : ℕ
   first = spellingsSize (t .keywords) + spellingsSize (t .outsides)
@@ -73,14 +66,18 @@ module _ (t : Written) where
       → place ≡ at → Missorted t r
   missorted {r′ = r′} {p = p} reached f e q = subst (Missorted t) (cc) (rules.fails reached (subst (λ k. Fails k p r′) q f))
 
-  module _ {r : Refusal} (block : Stop (blocks K N) atFirst first (t .blocks) r) where
+  module _ {r : Refusal} (block : Stop blocks (atFirst t) first (t .blocks) r) where
+    -- what stands before the block
+    abbrev P : Before
+    P = block .state
+
     abbrev E : Env
-    E = block .state .env
+    E = P .env
 
     -- the blocks before it are derived
-    derived : Derived t (block .here .before) E
+    derived : Derived t (block .here .before) P
     unfolding blocks
-    derived = (block .before .0, block .before .1)
+    derived = block .before
 
     by-head : Stop (heads E) [] (block .place + 3) (block .here .this) r → Missorted t r
     unfolding heads blocks
@@ -91,14 +88,18 @@ module _ (t : Written) where
 
     -- in a body of the block, whose heads give `own`
     module _ (own : Env) (defines : Defines E [] (block .here .this) own)
-        (body : Stop (bodies (within t (own ++ E))) [] (block .place + 3) (block .here .this) r) where
+        (body : Stop (bodies (scopeAfter P own) P) (noneYet (P .used)) (block .place + 3) (block .here .this) r) where
       abbrev G : Scope
-      G = within t (own ++ E)
+      G = scopeAfter P own
 
       abbrev d : WrittenDefinition
       d = body .here .this
 
-      module _ (choice : Stop (alternatives G (d .signature)) [] (body .place + fieldSize (headValue d)) (d .alternatives) r) where
+      -- the rows that the texts before the definition used
+      abbrev before : ℕ
+      before = body .state .used
+
+      module _ (choice : Stop (alternatives G P (d .signature)) (noneYet before) (body .place + fieldSize (headValue d)) (d .alternatives) r) where
         abbrev a : WrittenAlternative
         a = choice .here .this
 
@@ -116,7 +117,7 @@ module _ (t : Written) where
               choice .place-is,
             )
 
-        reached : {L : List ℕ} {is : List Item} {p : Part} → Numbered G params is L → Next G L (d .signature .result) a is p
+        reached : {L : List ℕ} {is : List Item} {p : Part} → Numbered G params is L → Next G P L (d .signature .result) (choice .state .used) a is p
             → rules.Reaches t (bodyPlace t (block .here) (body .here) (choice .here) is) p
         unfolding alternatives bodies blocks
         reached = rules.in-body (block .here) (body .here) (choice .here) derived defines (body .before .1) (choice .before .1)
@@ -130,26 +131,27 @@ module _ (t : Written) where
             (omega (arith, stop .place-is, place (stop .here .before))))
 
         by-result : AlternativeWithin a → (L : List ℕ) → Numbered G params (a .items) L
-            → checkResult G L (d .signature .result) (choice .place + 3 + itemsSize (a .items)) (a .result) ≡ bad r → Missorted t r
+            → checkResult G P L (d .signature .result) (choice .state .used) (choice .place + 3 + itemsSize (a .items)) (a .result) ≡ bad r → Missorted t r
         by-result w L n h =
-            outcome (result-view G L (choice .place + 3 + itemsSize (a .items)) (d .signature .result) (w .result))
+            outcome (result-view G L (choice .place + 3 + itemsSize (a .items)) P (d .signature .result) (choice .state .used) (w .result))
             (λ u s q. no-refusal (sym q ∙ h))
             (λ r′ f q. missorted (reached n rules.the-result) f (sym q ∙ h) (place (a .items)))
 
-        by-alternative : AlternativeWithin a → checkAlternative G (d .signature) (choice .place) a ≡ bad r → Missorted t r
+        by-alternative : AlternativeWithin a → checkAlternative G P (d .signature) (choice .state .used) (choice .place) a ≡ bad r → Missorted t r
         unfolding checkAlternative items
         by-alternative w h =
             let from : ℕ = choice .place + 3 + itemsSize (a .items) in
             first-or-next (checkItems G params (choice .place + 3) (a .items)) _ h
             (λ h. by-item w (stops (items G) (a .items) params (choice .place + 3) (w .items) h))
-            (λ L p h. first-or-next (checkResult G L (d .signature .result) from (a .result)) _ h
+            (λ L p h. first-or-next (checkResult G P L (d .signature .result) (choice .state .used) from (a .result)) _ h
             (λ h. by-result w L (passes (items G) (a .items) params L (choice .place + 3) (w .items) p) h)
             (λ u q h. no-refusal h))
 
       by-body : DefinitionWithin d → Missorted t r
       unfolding bodies alternatives
       by-body w =
-          let choice = stops (alternatives G (d .signature)) (d .alternatives) [] (body .place + fieldSize (headValue d)) (w .alternatives) (body .refused) in
+          let choice =
+          stops (alternatives G P (d .signature)) (d .alternatives) (noneYet before) (body .place + fieldSize (headValue d)) (w .alternatives) (body .refused) in
           by-alternative choice (this-of (choice .here) (w .alternatives)) (choice .refused)
 
     by-block : Each DefinitionWithin (block .here .this) → Missorted t r
@@ -157,9 +159,9 @@ module _ (t : Written) where
     by-block w =
         first-or-next (collect E [] (block .place + 3) (block .here .this)) _ (block .refused)
         (λ h. by-head (stops (heads E) (block .here .this) [] (block .place + 3) w h))
-        (λ own p h. first-or-next (checkBodies (within t (own ++ E)) [] (block .place + 3) (block .here .this)) _ h
+        (λ own p h. first-or-next (checkBodies (scopeAfter P own) P (noneYet (P .used)) (block .place + 3) (block .here .this)) _ h
         (λ h.
-        let body = stops (bodies (within t (own ++ E))) (block .here .this) [] (block .place + 3) w h in
+        let body = stops (bodies (scopeAfter P own) P) (block .here .this) (noneYet (P .used)) (block .place + 3) w h in
         by-body own (passes (heads E) (block .here .this) [] own (block .place + 3) w p) body (this-of (body .here) w))
         (λ u q h. no-refusal h))
 
@@ -173,45 +175,32 @@ module _ (t : Written) where
   pub sorts-rule : {r : Refusal} → Within t → checkSorts t ≡ bad r → Missorted t r
   unfolding checkSorts blocks
   sorts-rule {r} w e =
-      first-or-next {C = Missorted t r} (checkBlocks K N atFirst first (t .blocks)) _ e
-      (λ h. let block = stops (blocks K N) (t .blocks) atFirst first (w .blocks) h in by-block block (this-of (block .here) (w .blocks)))
+      first-or-next {C = Missorted t r} (checkBlocks (atFirst t) first (t .blocks)) _ e
+      (λ h. let block = stops blocks (t .blocks) (atFirst t) first (w .blocks) h in by-block block (this-of (block .here) (w .blocks)))
       (λ P p h. first-or-next (checkRoot (P .env) root-at (t .root)) _ (sym (then-is (checkRoot (P .env) root-at (t .root)) _) ∙ h)
       (λ h. outcome (root-view (P .env) root-at (t .root)) (λ u d q. no-refusal (sym q ∙ h))
-      (λ r′ f q.
-      let (hs, s, is) = passes (blocks K N) (t .blocks) atFirst P first (w .blocks) p in
-      missorted (rules.at-root (hs, s)) f (sym q ∙ h) (sym root-place)))
+      (λ r′ f q. missorted (rules.at-root (passes blocks (t .blocks) (atFirst t) P first (w .blocks) p)) f (sym q ∙ h) (sym root-place)))
       (λ u q h. no-refusal h))
 
   -- ------------------------------------------------------------------ from the rules to the check
 
-  -- what stands behind some blocks
-  abbrev standing : Env → List (List Definition) → Before
-  standing E bs = record { env = E; blocks = bs }
-
-  in-block : {r : Refusal} {E : Env} (b : At (t .blocks)) (s : Derived t (b .before) E)
-      → checkBlock K N (standing E (s .0)) (first + blocksSize (b .before)) (b .this) ≡ bad r
-      → checkSorts t ≡ bad r
+  in-block : {r : Refusal} {P : Before} (b : At (t .blocks)) → Derived t (b .before) P
+      → checkBlock P (first + blocksSize (b .before)) (b .this) ≡ bad r → checkSorts t ≡ bad r
   unfolding checkSorts blocks
-  in-block {E = E} b s h =
-      let stop : Stop (blocks K N) atFirst first (t .blocks) _
-      = record {
-        here = b;
-        state = standing E (s .0);
-        before = (s .0, s .1, refl);
-        place = first + blocksSize (b .before);
-        place-is = refl;
-        refused = h;
-      } in
-      rw (stopped (blocks K N) stop) refl
+  in-block {P = P} b s h =
+      let stop : Stop blocks (atFirst t) first (t .blocks) _
+      = record { here = b; state = P; before = s; place = first + blocksSize (b .before); place-is = refl; refused = h } in
+      rw (stopped blocks stop) refl
 
-  at-root : {r : Refusal} {E : Env} → Derived t (t .blocks) E → checkRoot E root-at (t .root) ≡ bad r → checkSorts t ≡ bad r
+  at-root : {r : Refusal} {P : Before} → Derived t (t .blocks) P → checkRoot (P .env) root-at (t .root) ≡ bad r → checkSorts t ≡ bad r
   unfolding checkSorts blocks
-  at-root {E = E} s h = rw (passed (blocks K N) (t .blocks) atFirst (standing E (s .0)) first (s .0, s .1, refl), h) refl
+  at-root {P = P} s h = rw (passed blocks (t .blocks) (atFirst t) P first s, h) refl
 
-  at-head : {r : Refusal} {E own : Env} (b : At (t .blocks)) (d : At (b .this)) → Derived t (b .before) E → Defines E [] (d .before) own
-      → Fails (headPlace t b d) (head E own (d .this)) r → checkSorts t ≡ bad r
+  at-head : {r : Refusal} {P : Before} {own : Env} (b : At (t .blocks)) (d : At (b .this)) → Derived t (b .before) P → Defines (P .env) [] (d .before) own
+      → Fails (headPlace t b d) (head (P .env) own (d .this)) r → checkSorts t ≡ bad r
   unfolding heads
-  at-head {r} {E} {own} b d s k f =
+  at-head {r} {P} {own} b d s k f =
+      let E : Env = P .env in
       let place : ℕ = first + blocksSize (b .before) in
       let stop : Stop (heads E) [] (place + 3) (b .this) r
       = record {
@@ -224,40 +213,47 @@ module _ (t : Written) where
       } in
       in-block b s (rw (stopped (heads E) stop) refl)
 
-  in-body : {r : Refusal} {E own : Env} {es : List Definition} {others : List Alternative} (b : At (t .blocks)) (d : At (b .this))
-      (a : At (d .this .alternatives))
-      → Derived t (b .before) E
-      → Defines E [] (b .this) own
-      → Ok (within t (own ++ E)) (d .before) es
-      → Bodies (within t (own ++ E)) (d .this .signature) (a .before) others
-      → checkAlternative (within t (own ++ E)) (d .this .signature)
+  in-body : {r : Refusal} {P : Before} {own : Env} {es : List Definition} {others : List Alternative} {next used : ℕ} (b : At (t .blocks))
+      (d : At (b .this)) (a : At (d .this .alternatives))
+      → Derived t (b .before) P
+      → Defines (P .env) [] (b .this) own
+      → Ok (scopeAfter P own) P (P .used) (d .before) es next
+      → Bodies (scopeAfter P own) P (d .this .signature) next (a .before) others used
+      → checkAlternative (scopeAfter P own) P (d .this .signature) used
       (first + blocksSize (b .before) + 3 + definitionsSize (d .before) + fieldSize (headValue (d .this)) + alternativesSize (a .before)) (a .this)
       ≡ bad r
       → checkSorts t ≡ bad r
   unfolding heads bodies alternatives
-  in-body {r} {E} {own} {es} {others} b d a s k o c h =
-      let G : Scope = within t (own ++ E) in
+  in-body {r} {P} {own} {es} {others} {next} {used} b d a s k o c h =
+      let G : Scope = scopeAfter P own in
       let place : ℕ = first + blocksSize (b .before) + 3 in
       let behind : ℕ = place + definitionsSize (d .before) + fieldSize (headValue (d .this)) in
-      let choice : Stop (alternatives G (d .this .signature)) [] behind (d .this .alternatives) r
-      = record { here = a; state = others; before = (others, c, refl); place = _; place-is = refl; refused = h } in
-      let body : Stop (bodies G) [] place (b .this) r
+      let choice : Stop (alternatives G P (d .this .signature)) (noneYet next) behind (d .this .alternatives) r
+      = record {
+        here = a;
+        state = record { value = others; used = used };
+        before = (others, c, refl);
+        place = _;
+        place-is = refl;
+        refused = h;
+      } in
+      let body : Stop (bodies G P) (noneYet (P .used)) place (b .this) r
       = record {
         here = d;
-        state = es;
+        state = record { value = es; used = next };
         before = (es, o, refl);
         place = place + definitionsSize (d .before);
         place-is = refl;
-        refused = stopped (alternatives G (d .this .signature)) choice;
+        refused = stopped (alternatives G P (d .this .signature)) choice;
       } in
-      in-block b s (rw (passed (heads E) (b .this) [] own place k, stopped (bodies G) body) refl)
+      in-block b s (rw (passed (heads (P .env)) (b .this) [] own place k, stopped (bodies G P) body) refl)
 
   -- A table that is refused by the rules is refused by the check of sorts.
   pub rule-sorts : {r : Refusal} → Within t → Missorted t r → checkSorts t ≡ bad r
   unfolding checkAlternative items
   rule-sorts w (rules.fails (rules.at-head b d s k) f) = at-head b d s k f
-  rule-sorts {r} w (rules.fails (rules.in-body {E} {own} {L} b d a s k o c n (rules.next-item i)) f) =
-      let G : Scope = within t (own ++ E) in
+  rule-sorts {r} w (rules.fails (rules.in-body {P} {own} {L} b d a s k o c n (rules.next-item i)) f) =
+      let G : Scope = scopeAfter P own in
       let fine = this-of a (this-of d (this-of b (w .blocks)) .alternatives) in
       let stop : Stop (items G) (d .this .signature .params) _ (a .this .items) r
       = record {
@@ -269,17 +265,17 @@ module _ (t : Written) where
         refused = item-fails G L (bodyPlace t b d a (i .before)) (this-of i (fine .items)) f;
       } in
       in-body b d a s k o c (rw (stopped (items G) stop) refl)
-  rule-sorts {r} w (rules.fails (rules.in-body {E} {own} {L} b d a s k o c n rules.the-result) f) =
-      let G : Scope = within t (own ++ E) in
+  rule-sorts {r} w (rules.fails (rules.in-body {P} {own} {L} {used = used} b d a s k o c n rules.the-result) f) =
+      let G : Scope = scopeAfter P own in
       let fine = this-of a (this-of d (this-of b (w .blocks)) .alternatives) in
       let place = body-place (b .before) (d .before) (d .this) (a .before) (a .this .items) in
       in-body b d a s k o c
       (rw (
         passed (items G) (a .this .items) (d .this .signature .params) L _ n,
-        result-fails G L _ (fine .result) (subst (λ at. Fails at (result G L (d .this .signature .result) (a .this .result)) r) place f),
+        result-fails G L _ (fine .result) (subst (λ at. Fails at (result G P L (d .this .signature .result) used (a .this .result)) r) place f),
       ) refl)
-  rule-sorts {r} w (rules.fails (rules.at-root {E} s) f) =
-      at-root s (root-fails E root-at (subst (λ at. Fails at (root E (t .root)) r) root-place f))
+  rule-sorts {r} w (rules.fails (rules.at-root {P} s) f) =
+      at-root s (root-fails (P .env) root-at (subst (λ at. Fails at (root (P .env) (t .root)) r) root-place f))
 
   -- The check of sorts refuses exactly as the rules do.
   pub missorted-exactly : Within t → (r : Refusal) → (checkSorts t ≡ bad r) ↔ Missorted t r

@@ -15,7 +15,8 @@ use Rattle.grammar.specs.Written.{WrittenResult, template, WrittenAlternative, 
 use Rattle.grammar.specs.Values.{Field, field, headValue}
 use Rattle.grammar.specs.Encode.{fieldBytes, spellingsThen, itemsThen, alternativesThen, definitionsThen, blocksThen}
 use Rattle.judgements.specs.Scopes.{Env, Scope}
-use Rattle.judgements.specs.Judgements.{Newest, Undeclared, Fits, Sorted, ItemSorted, Numbered, Defines, scope}
+use Rattle.judgements.specs.Judgements.{Newest, Undeclared, Fits, Sorted, ItemSorted, Numbered, Defines}
+use Rattle.elaboration.specs.Contexts.{Before, atFirst, scopeAfter}
 use Rattle.elaboration.specs.Elaboration.{Bodies, Ok, Sequence}
 
 -- ------------------------------------------------------------------ 9: what is not defined
@@ -42,11 +43,12 @@ pub data UndefinedItem (G : Scope) (n : ℕ) : Item → Type 0 where
 -- ------------------------------------------------------------------ one part
 
 -- What is tested: the head of a definition, where E has the signatures of earlier blocks and `own` those before it in its block; an item or, where the
--- sort B is asked, a result, in a scope G where L has the sorts of the variables numbered already; the root.
+-- sort B is asked, a result, in a scope G where L has the sorts of the variables numbered already; the root. A result is elaborated under P, what stands
+-- before its block, where the texts before it used so many rows.
 pub data Part : Type 0 where
   head : (E own : Env) → WrittenDefinition → Part
   item : (G : Scope) (L : List ℕ) → Item → Part
-  result : (G : Scope) (L : List ℕ) (B : ℕ) → WrittenResult → Part
+  result : (G : Scope) (P : Before) (L : List ℕ) (B used : ℕ) → WrittenResult → Part
   root : (E : Env) → ℕ → Part
 
 -- the refusal of a part at a place, by the first test that it fails
@@ -73,13 +75,13 @@ pub data Fails (at : ℕ) : Part → Refusal → Type 0 where
       → ¬ UndefinedItem G (length L) i
       → ((A : ℕ) → ¬ ItemSorted G L i A)
       → Fails at (item G L i) (refusal 11 at 0 0)
-  undefined-result : {G : Scope} {L : List ℕ} {B : ℕ} {t : Template}
+  undefined-result : {G : Scope} {P : Before} {L : List ℕ} {B used : ℕ} {t : Template}
       → Undefined (G .outsides) (length L) t
-      → Fails at (result G L B (template t)) (refusal 9 at 0 0)
-  unsorted-result : {G : Scope} {L : List ℕ} {B : ℕ} {t : Template}
+      → Fails at (result G P L B used (template t)) (refusal 9 at 0 0)
+  unsorted-result : {G : Scope} {P : Before} {L : List ℕ} {B used : ℕ} {t : Template}
       → ¬ Undefined (G .outsides) (length L) t
       → ((A : ℕ) → Sorted (G .outsides) L t A → ¬ Fits A B)
-      → Fails at (result G L B (template t)) (refusal 11 at 0 0)
+      → Fails at (result G P L B used (template t)) (refusal 11 at 0 0)
   -- "root with parameters or not Term"
   undefined-root : {E : Env} {n : ℕ} → Undeclared E n → Fails at (root E n) (refusal 9 at 0 0)
   unfit-root : {E : Env} {n : ℕ} {S : Signature} → Newest E n S → ¬ (S ≡ gives [] term) → Fails at (root E n) (refusal 11 at 0 0)
@@ -94,18 +96,14 @@ pub record At {A : Type 0} (xs : List A) : Type 0 where
   pub whole : xs ≡ before ++ (this ∷ behind)
 
 -- what is tested after some items of an alternative: the next item; behind all of them the result, where the sort B is asked
-pub data Next (G : Scope) (L : List ℕ) (B : ℕ) (a : WrittenAlternative) : List Item → Part → Type 0 where
-  next-item : (i : At (a .items)) → Next G L B a (i .before) (item G L (i .this))
-  the-result : Next G L B a (a .items) (result G L B (a .result))
+pub data Next (G : Scope) (P : Before) (L : List ℕ) (B used : ℕ) (a : WrittenAlternative) : List Item → Part → Type 0 where
+  next-item : (i : At (a .items)) → Next G P L B used a (i .before) (item G L (i .this))
+  the-result : Next G P L B used a (a .items) (result G P L B used (a .result))
 
 module _ (t : Written) where
-  -- where keywords and outside names are those of the table
-  abbrev pub within : Env → Scope
-  within E = scope (length (t .keywords)) (length (t .outsides)) E
-
-  -- blocks from the first on are derived, and give E
-  abbrev pub Derived : List (List WrittenDefinition) → Env → Type 0
-  Derived bs E = (hs : List (List Definition)) × Sequence (length (t .keywords)) (length (t .outsides)) [] bs E hs
+  -- blocks from the first on are derived, and P stands behind them
+  abbrev pub Derived : List (List WrittenDefinition) → Before → Type 0
+  Derived = Sequence (atFirst t)
 
   -- the place behind the keywords, the outside names, some blocks, and some fields of the next
   abbrev pub placeBehind : List (List WrittenDefinition) → List Field → ℕ
@@ -123,20 +121,20 @@ module _ (t : Written) where
   -- The place of a part that is reached. All blocks before its own are derived. For a head, so are the heads before it in its block; for what stands in a
   -- body, all heads of its block, the bodies and the alternatives before its own, and the items before it. For the root, all blocks.
   pub data Reaches : ℕ → Part → Type 0 where
-    at-head : {E own : Env} (b : At (t .blocks)) (d : At (b .this))
-        → Derived (b .before) E
-        → Defines E [] (d .before) own
-        → Reaches (headPlace b d) (head E own (d .this))
-    in-body : {E own : Env} {L : List ℕ} {is : List Item} {p : Part} {es : List Definition} {others : List Alternative} (b : At (t .blocks)) (d : At (b .this))
-        (a : At (d .this .alternatives))
-        → Derived (b .before) E
-        → Defines E [] (b .this) own
-        → Ok (within (own ++ E)) (d .before) es
-        → Bodies (within (own ++ E)) (d .this .signature) (a .before) others
-        → Numbered (within (own ++ E)) (d .this .signature .params) is L
-        → Next (within (own ++ E)) L (d .this .signature .result) (a .this) is p
+    at-head : {P : Before} {own : Env} (b : At (t .blocks)) (d : At (b .this))
+        → Derived (b .before) P
+        → Defines (P .env) [] (d .before) own
+        → Reaches (headPlace b d) (head (P .env) own (d .this))
+    in-body : {P : Before} {own : Env} {L : List ℕ} {is : List Item} {p : Part} {es : List Definition} {others : List Alternative} {next used : ℕ}
+        (b : At (t .blocks)) (d : At (b .this)) (a : At (d .this .alternatives))
+        → Derived (b .before) P
+        → Defines (P .env) [] (b .this) own
+        → Ok (scopeAfter P own) P (P .used) (d .before) es next
+        → Bodies (scopeAfter P own) P (d .this .signature) next (a .before) others used
+        → Numbered (scopeAfter P own) (d .this .signature .params) is L
+        → Next (scopeAfter P own) P L (d .this .signature .result) used (a .this) is p
         → Reaches (bodyPlace b d a is) p
-    at-root : {E : Env} → Derived (t .blocks) E → Reaches (placeBehind (t .blocks) []) (root E (t .root))
+    at-root : {P : Before} → Derived (t .blocks) P → Reaches (placeBehind (t .blocks) []) (root (P .env) (t .root))
 
   pub data Missorted : Refusal → Type 0 where
     fails : {at : ℕ} {p : Part} {r : Refusal} → Reaches at p → Fails at p r → Missorted r

@@ -1,60 +1,96 @@
 -- What an elaborated table has of the table as written: the same heads, the same items, and of each result its template.
 use Prim.Native.Nat.{ℕ}
-use mathlib.Core.Path.{_≡_, refl}
-use mathlib.Core.List.{List, map}
+use mathlib.Core.Path.{_≡_, refl, sym, ap, _∙_}
+use mathlib.Core.List.{List, [], _∷_, _++_, map, append-nil, append-assoc}
 use lib.ListN.{length}
 use Rattle.grammar.specs.Sorts.{Signature}
-use Rattle.grammar.specs.Table.{Template, Item, Alternative, Definition, Table}
+use Rattle.grammar.specs.Table.{Item, Alternative, Definition, Table}
 use Rattle.grammar.specs.Written.{WrittenResult, WrittenAlternative, WrittenDefinition, Written}
 use Rattle.grammar.specs.Templated.{templateOf, withTemplate, withTemplates, templated}
 use Rattle.decoding.specs.Within.{TemplateWithin, ResultWithin, template-within}
+use Rattle.productions.specs.Normal.{Production, definedAll, normalizedFrom, normalized}
 use Rattle.judgements.specs.Scopes.{Env, Scope}
 use Rattle.judgements.specs.Judgements.{Numbered, no-item, one-more, Body, by-result, by-binding, Defines, no-definition, by-add, by-extend, by-update}
-use Rattle.elaboration.specs.Elaboration.{ResultSorted, by-template, Bodies, no-alternative, by-choice, Ok, ok-empty, ok-definition, Sequence}
-use Rattle.elaboration.specs.Elaboration.{no-grammar, by-grammar, Elaborates}
+use Rattle.texts.specs.Reading.{TextRead}
+use Rattle.elaboration.specs.Contexts.{Before}
+use Rattle.elaboration.specs.Elaboration.{ResultSorted, by-template, Bodies, no-alternative, by-choice, Ok, ok-empty, ok-definition}
+use Rattle.elaboration.specs.Elaboration.{Sequence, no-grammar, by-grammar, Elaborates}
 
-module _ {G : Scope} where
+module _ {G : Scope} {P : Before} where
   -- An alternative with the template of its result has the sort that was asked.
-  pub body-sorted : {L L′ : List ℕ} {is : List Item} {B : ℕ} {result : WrittenResult} {made : Template} → Numbered G L is L′
-      → ResultSorted G L′ B result made → Body G L is made B
+  pub body-sorted : {L L′ : List ℕ} {is : List Item} {B used : ℕ} {result : WrittenResult} {made : TextRead} → Numbered G L is L′
+      → ResultSorted G P L′ B used result made → Body G L is (made .template) B
   body-sorted no-item (by-template s f) = by-result s f
   body-sorted (one-more i n) r = by-binding i (body-sorted n r)
 
   -- The template of a result within the ranges is within them.
-  pub made-within : {L : List ℕ} {B : ℕ} {result : WrittenResult} {made : Template} → ResultSorted G L B result made → ResultWithin result
-      → TemplateWithin made
+  pub made-within : {L : List ℕ} {B used : ℕ} {result : WrittenResult} {made : TextRead} → ResultSorted G P L B used result made → ResultWithin result
+      → TemplateWithin (made .template)
   made-within (by-template s f) (template-within w) = w
 
   -- Elaborated definitions have the heads of those written,
-  pub same-heads : {E own own′ : Env} {ds : List WrittenDefinition} {es : List Definition} → Ok G ds es → Defines E own ds own′ → Defines E own es own′
+  pub same-heads : {E own own′ : Env} {ds : List WrittenDefinition} {es : List Definition} {used used′ : ℕ} → Ok G P used ds es used′
+      → Defines E own ds own′ → Defines E own es own′
   same-heads ok-empty no-definition = no-definition
   same-heads (ok-definition b o) (by-add m a c k) = by-add m a c (same-heads o k)
   same-heads (ok-definition b o) (by-extend m a c k) = by-extend m a c (same-heads o k)
   same-heads (ok-definition b o) (by-update m a c k) = by-update m a c (same-heads o k)
 
-  result-made : {L : List ℕ} {B : ℕ} {result : WrittenResult} {made : Template} → ResultSorted G L B result made → made ≡ templateOf result
-  result-made (by-template s f) = refl
-
   -- and as many alternatives.
-  pub as-many : {S : Signature} {choices : List WrittenAlternative} {others : List Alternative} → Bodies G S choices others
+  pub as-many : {S : Signature} {choices : List WrittenAlternative} {others : List Alternative} {used used′ : ℕ} → Bodies G P S used choices others used′
       → length others ≡ length choices
   as-many no-alternative = refl
   as-many (by-choice n r bs) = cc (as-many bs)
 
-  bodies-made : {S : Signature} {choices : List WrittenAlternative} {others : List Alternative} → Bodies G S choices others
+  result-made : {L : List ℕ} {B used : ℕ} {result : WrittenResult} {made : TextRead} → ResultSorted G P L B used result made
+      → made .template ≡ templateOf result
+  result-made (by-template s f) = refl
+
+  bodies-made : {S : Signature} {choices : List WrittenAlternative} {others : List Alternative} {used used′ : ℕ} → Bodies G P S used choices others used′
       → others ≡ map withTemplate choices
   bodies-made no-alternative = refl
   bodies-made (by-choice n r bs) = cc (result-made r, bodies-made bs)
 
-  block-made : {ds : List WrittenDefinition} {es : List Definition} → Ok G ds es → es ≡ map withTemplates ds
+  block-made : {ds : List WrittenDefinition} {es : List Definition} {used used′ : ℕ} → Ok G P used ds es used′ → es ≡ map withTemplates ds
   block-made ok-empty = refl
   block-made (ok-definition b o) = cc (bodies-made b, block-made o)
 
 -- Blocks are elaborated to those with their templates.
-pub blocks-made : {K N : ℕ} {E E′ : Env} {gs : List (List WrittenDefinition)} {hs : List (List Definition)} → Sequence K N E gs E′ hs → hs ≡ templated gs
-blocks-made no-grammar = refl
-blocks-made (by-grammar d o s) = cc (block-made o, blocks-made s)
+pub blocks-made : {P P′ : Before} {gs : List (List WrittenDefinition)} → Sequence P gs P′ → P′ .blocks ≡ P .blocks ++ templated gs
+blocks-made (no-grammar {P = P}) = sym (append-nil (P .blocks))
+blocks-made (by-grammar {P = P} {h = h} {gs = gs} d o s) =
+    blocks-made s ∙ append-assoc (P .blocks) (h ∷ []) (templated gs) ∙ ap (λ b. P .blocks ++ (b ∷ templated gs)) (block-made o)
 
 -- The blocks of an elaborated table are those written, with their templates.
 pub elaborated-blocks : {table : Written} {made : Table} → Elaborates table made → made .blocks ≡ templated (table .blocks)
-elaborated-blocks e = blocks-made (e .sequence)
+elaborated-blocks e = e .same-blocks ∙ blocks-made (e .sequence)
+
+-- ------------------------------------------------------------------ what stands before
+
+-- Blocks whose heads are derived one after the other, from E on.
+pub data Headed : Env → List (List Definition) → Type 0 where
+  headed-none : {E : Env} → Headed E []
+  headed-more : {E own : Env} {h : List Definition} {hs : List (List Definition)} → Defines E [] h own → Headed (own ++ E) hs → Headed E (h ∷ hs)
+
+-- What a sequence lays behind the blocks before has derived heads.
+pub heads-derived : {P P′ : Before} {gs : List (List WrittenDefinition)} → Sequence P gs P′
+    → (hs : List (List Definition)) × Headed (P .env) hs × (P′ .blocks ≡ P .blocks ++ hs)
+heads-derived (no-grammar {P = P}) = ([], headed-none, sym (append-nil (P .blocks)))
+heads-derived (by-grammar {P = P} {h = h} d o s) =
+    let (hs, k, e) = heads-derived s in (h ∷ hs, headed-more (same-heads o d) k, e ∙ append-assoc (P .blocks) (h ∷ []) hs)
+
+-- The spellings stay.
+pub same-spellings : {P P′ : Before} {gs : List (List WrittenDefinition)} → Sequence P gs P′
+    → (P′ .keywords ≡ P .keywords) × (P′ .outsides ≡ P .outsides)
+same-spellings no-grammar = (refl, refl)
+same-spellings (by-grammar d o s) = same-spellings s
+
+normal-behind : (g : List Production) (blocks : List (List Definition)) (h : List Definition)
+    → normalizedFrom g (blocks ++ (h ∷ [])) ≡ definedAll (normalizedFrom g blocks) h
+unfolding normalizedFrom
+normal-behind g [] h = refl
+normal-behind g (b ∷ blocks) h = normal-behind (definedAll g b) blocks h
+
+-- The productions of one block more are those before, with what it defines.
+pub normalized-behind : (blocks : List (List Definition)) (h : List Definition) → normalized (blocks ++ (h ∷ [])) ≡ definedAll (normalized blocks) h
+normalized-behind = normal-behind []

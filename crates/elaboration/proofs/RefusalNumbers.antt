@@ -16,7 +16,9 @@ use Rattle.judgements.specs.Sizes.{fieldSize, alternativeSize, definitionSize, 
 use Rattle.judgements.specs.CheckSorts.{isDefined, signatureOf, isUnused, isAsBefore, isClosed, areClosed, isSorted, sortOf, fill, consistent, collect}
 use Rattle.judgements.specs.CheckSorts.{checkItem, checkItems}
 use Rattle.judgements.specs.Scopes.{Env, Scope, entryOf}
-use Rattle.elaboration.specs.CheckSequence.{Before, checkResult, checkAlternative, checkAlternatives, checkBodies, checkBlocks, checkRoot, checkSorts}
+use Rattle.elaboration.specs.Contexts.{Before, atFirst, behindBlock, scopeAfter}
+use Rattle.elaboration.specs.CheckSequence.{Elaborated, noneYet, andThen, checkResult, checkAlternative, checkAlternatives, checkBodies, checkBlocks}
+use Rattle.elaboration.specs.CheckSequence.{checkRoot, checkSorts}
 
 -- one of the four numbers; b and c are 0
 abbrev pub IsSortRefusal : Refusal → Type 0
@@ -87,29 +89,32 @@ module _ (scope : Scope) where
   items-sort L at [] = none
   items-sort L at (i ∷ is) = bind _ _ (item-sort L at i) (λ s. items-sort (L ++ (s ∷ [])) (at + fieldSize (itemValue i)) is)
 
-  result-sort : (L : List ℕ) (B at : ℕ) (result : WrittenResult) → Sort (checkResult scope L B at result)
-  result-sort L B at (template t) = after _ (ok t) (needs-sort (isClosed t scope (length L)) (isSorted t L && fits (sortOf t L) B) at) none
+  module _ (before : Before) where
+    result-sort : (L : List ℕ) (B used at : ℕ) (result : WrittenResult) → Sort (checkResult scope before L B used at result)
+    result-sort L B used at (template t) = after _ (ok _) (needs-sort (isClosed t scope (length L)) (isSorted t L && fits (sortOf t L) B) at) none
 
-  alternatives-sort : (S : Signature) (done : List Alternative) (at : ℕ) (choices : List WrittenAlternative) → Sort (checkAlternatives scope S done at choices)
-  unfolding checkAlternatives checkAlternative
-  alternatives-sort S done at [] = none
-  alternatives-sort S done at (a ∷ rest) =
-      bind _ _
-      (bind _ _ (items-sort (S .params) _ (a .items)) (λ L. bind _ _ (result-sort L (S .result) _ (a .result)) (λ t. none)))
-      (λ b. alternatives-sort S (done ++ (b ∷ [])) (at + alternativeSize a) rest)
+    alternatives-sort : (S : Signature) (done : Elaborated (List Alternative)) (at : ℕ) (choices : List WrittenAlternative)
+        → Sort (checkAlternatives scope before S done at choices)
+    unfolding checkAlternatives checkAlternative
+    alternatives-sort S done at [] = none
+    alternatives-sort S done at (a ∷ rest) =
+        bind _ _
+        (bind _ _ (items-sort (S .params) _ (a .items)) (λ L. bind _ _ (result-sort L (S .result) (done .used) _ (a .result)) (λ t. none)))
+        (λ b. alternatives-sort S (andThen done (b .value) (b .used)) (at + alternativeSize a) rest)
 
-  bodies-sort : (done : List Definition) (at : ℕ) (ds : List WrittenDefinition) → Sort (checkBodies scope done at ds)
-  unfolding checkBodies
-  bodies-sort done at [] = none
-  bodies-sort done at (d ∷ ds) =
-      bind _ _ (alternatives-sort (d .signature) [] _ (d .alternatives)) (λ choices. bodies-sort _ (at + definitionSize d) ds)
+    bodies-sort : (done : Elaborated (List Definition)) (at : ℕ) (ds : List WrittenDefinition) → Sort (checkBodies scope before done at ds)
+    unfolding checkBodies
+    bodies-sort done at [] = none
+    bodies-sort done at (d ∷ ds) =
+        bind _ _ (alternatives-sort (d .signature) (noneYet (done .used)) _ (d .alternatives)) (λ e. bodies-sort _ (at + definitionSize d) ds)
 
-blocks-sort : (keywords outsides : ℕ) (before : Before) (at : ℕ) (gs : List (List WrittenDefinition)) → Sort (checkBlocks keywords outsides before at gs)
+blocks-sort : (before : Before) (at : ℕ) (gs : List (List WrittenDefinition)) → Sort (checkBlocks before at gs)
 unfolding checkBlocks
-blocks-sort keywords outsides before at [] = none
-blocks-sort keywords outsides before at (g ∷ gs) =
+blocks-sort before at [] = none
+blocks-sort before at (g ∷ gs) =
     bind _ _ (collect-sort (before .env) [] _ g)
-    (λ own. bind _ _ (bodies-sort _ [] _ g) (λ ds. blocks-sort keywords outsides _ (at + 3 + definitionsSize g) gs))
+    (λ own. bind _ _ (bodies-sort (scopeAfter before own) before (noneYet (before .used)) _ g)
+    (λ e. blocks-sort (behindBlock before own (e .value) (e .used)) (at + 3 + definitionsSize g) gs))
 
 root-sort : (E : Env) (at root : ℕ) → Sort (checkRoot E at root)
 unfolding checkRoot
@@ -120,4 +125,4 @@ root-sort E at root =
 pub table-sort : (table : Written) (refusal : Refusal) → checkSorts table ≡ bad refusal → IsSortRefusal refusal
 unfolding checkSorts
 table-sort table refusal e =
-    refused (subst Sort e (bind _ _ (blocks-sort _ _ _ _ (table .blocks)) (λ before. after _ _ (root-sort (before .env) _ (table .root)) none)))
+    refused (subst Sort e (bind _ _ (blocks-sort (atFirst table) _ (table .blocks)) (λ before. after _ _ (root-sort (before .env) _ (table .root)) none)))

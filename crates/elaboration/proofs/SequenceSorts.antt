@@ -19,51 +19,38 @@ use Rattle.judgements.proofs.Accepting.{Accepts, needs-passed, needs-passes, bi
 use Rattle.judgements.proofs.Environments.{defined-newest, newest-defined, newest-signature}
 use Rattle.judgements.proofs.TemplateSorts.{both, pair}
 use Rattle.judgements.proofs.HeadSorts.{collect-rule, rule-collect}
-use Rattle.elaboration.specs.CheckSequence.{Before, checkBodies, checkBlocks, checkRoot, checkSorts}
+use Rattle.elaboration.specs.Contexts.{Before, atFirst, behindBlock, scopeAfter}
+use Rattle.elaboration.specs.CheckSequence.{noneYet, checkBodies, checkBlocks, checkRoot, checkSorts}
 use Rattle.elaboration.specs.Elaboration.{Sequence, no-grammar, by-grammar, Elaborates}
 use Rattle.elaboration.proofs.ResultSorts.{ok-rule, rule-ok}
 
 -- ------------------------------------------------------------------ ⊢ gseq ⇒ E
 
--- nothing stands before the first block
-abbrev pub atFirst : Before
-atFirst = record { env = []; blocks = [] }
-
--- what stands behind a block that gives the signatures `own` and was checked as `ds`
-abbrev pub behindBlock : Before → Env → List Definition → Before
-behindBlock before own ds = record { env = own ++ before .env; blocks = before .blocks ++ (ds ∷ []) }
-
-module _ (keywords outsides : ℕ) (P : Before → Type 0) where
-  -- what stands behind some blocks
-  abbrev Behind : List (List Definition) → Env → Type 0
-  Behind blocks E = P (record { env = E; blocks = blocks })
-
+module _ (P : Before → Type 0) where
   sequence-rule :
       (before : Before) (at : ℕ) (gs : List (List WrittenDefinition)) → Each (Each DefinitionWithin) gs
-      → Accepts (checkBlocks keywords outsides before at gs) P
-      → (E : Env) × (hs : List (List Definition)) × Sequence keywords outsides (before .env) gs E hs × Behind (before .blocks ++ hs) E
+      → Accepts (checkBlocks before at gs) P → (last : Before) × Sequence before gs last × P last
   unfolding checkBlocks
-  sequence-rule before at [] each-none h = (before .env, [], no-grammar, rw (append-nil (before .blocks)) h)
+  sequence-rule before at [] each-none h = (before, no-grammar, h)
   sequence-rule before at (g ∷ gs) (each-more w ws) h =
       let (own, d, p) = collect-rule (before .env) _ [] (at + 3) g (bind-passed P (collect (before .env) [] (at + 3) g) _ h) in
-      let G : Scope = scope keywords outsides (own ++ before .env) in
-      let (block, o, q) = ok-rule G _ [] (at + 3) g w (bind-passed P (checkBodies G [] (at + 3) g) _ p) in
-      let (E, hs, s, r) = sequence-rule (behindBlock before own block) (at + 3 + definitionsSize g) gs ws q in
-      (E, block ∷ hs, by-grammar d o s, subst (λ blocks. Behind blocks E) (append-assoc (before .blocks) (block ∷ []) hs) r)
+      let G : Scope = scopeAfter before own in
+      let (block, used, o, q) = ok-rule G before _ (noneYet (before .used)) (at + 3) g w
+      (bind-passed P (checkBodies G before (noneYet (before .used)) (at + 3) g) _ p) in
+      let (last, s, r) = sequence-rule (behindBlock before own block used) (at + 3 + definitionsSize g) gs ws q in
+      (last, by-grammar d o s, r)
 
   rule-sequence :
-      {E : Env} (before : Before) (at : ℕ) {gs : List (List WrittenDefinition)} {hs : List (List Definition)}
-      → Sequence keywords outsides (before .env) gs E hs → Behind (before .blocks ++ hs) E → Accepts (checkBlocks keywords outsides before at gs) P
+      (before : Before) (at : ℕ) {last : Before} {gs : List (List WrittenDefinition)} → Sequence before gs last → P last
+      → Accepts (checkBlocks before at gs) P
   unfolding checkBlocks
-  rule-sequence before at no-grammar p = subst (λ blocks. Behind blocks (before .env)) (append-nil (before .blocks)) p
-  rule-sequence {E} before at (by-grammar {own = own} {g = g} {h = block} {hs = hs} d o s) p =
-      let G : Scope = scope keywords outsides (own ++ before .env) in
+  rule-sequence before at no-grammar p = p
+  rule-sequence before at (by-grammar {own = own} {g = g} {h = block} {used = used} d o s) p =
+      let G : Scope = scopeAfter before own in
       bind-passes P (collect (before .env) [] (at + 3) g) _
       (rule-collect (before .env) _ (at + 3) d
-      (bind-passes P (checkBodies G [] (at + 3) g) _
-      (rule-ok G _ [] (at + 3) o
-      (rule-sequence (behindBlock before own block) (at + 3 + definitionsSize g) s
-      (subst⁻¹ (λ blocks. Behind blocks E) (append-assoc (before .blocks) (block ∷ []) hs) p)))))
+      (bind-passes P (checkBodies G before (noneYet (before .used)) (at + 3) g) _
+      (rule-ok G before _ (noneYet (before .used)) (at + 3) o (rule-sequence (behindBlock before own block used) (at + 3 + definitionsSize g) s p))))
 
 -- ------------------------------------------------------------------ the root
 
@@ -119,15 +106,15 @@ module _ (P : Table → Type 0) (table : Written) where
   pub table-rule : Within table → Accepts (checkSorts table) P → (made : Table) × Elaborates table made × P made
   unfolding checkSorts
   table-rule w h =
-      let (E, hs, s, q) = sequence-rule (length (table .keywords)) (length (table .outsides)) _ atFirst _ (table .blocks) (w .blocks)
-      (bind-passed P (checkBlocks _ _ atFirst _ (table .blocks)) _ h) in
-      let (r, p) = root-rule _ E root-place (table .root) (then-passed P (checkRoot E root-place (table .root)) _ q) in (
-        record { keywords = table .keywords; outsides = table .outsides; blocks = hs; root = table .root },
+      let (last, s, q) = sequence-rule _ (atFirst table) _ (table .blocks) (w .blocks) (bind-passed P (checkBlocks (atFirst table) _ (table .blocks)) _ h) in
+      let (r, p) = root-rule _ (last .env) root-place (table .root) (then-passed P (checkRoot (last .env) root-place (table .root)) _ q) in (
+        record { keywords = table .keywords; outsides = table .outsides; blocks = last .blocks; root = table .root },
         record {
-          env = E;
+          last = last;
           sequence = s;
           same-keywords = refl;
           same-outsides = refl;
+          same-blocks = refl;
           same-root = refl;
           signature = r .signature;
           defined = r .defined;
@@ -141,11 +128,11 @@ module _ (P : Table → Type 0) (table : Written) where
   pub rule-table : {made : Table} → Elaborates table made → P made → Accepts (checkSorts table) P
   unfolding checkSorts
   rule-table {made} e p =
-      let whole : made ≡ record { keywords = table .keywords; outsides = table .outsides; blocks = made .blocks; root = table .root }
-      = rw (← (e .same-keywords), ← (e .same-outsides), ← (e .same-root)) refl in
-      bind-passes P (checkBlocks (length (table .keywords)) (length (table .outsides)) atFirst _ (table .blocks)) _
-      (rule-sequence _ _ _ atFirst _ (e .sequence)
-      (then-passes P (checkRoot (e .env) root-place (table .root)) _
-      (rule-root _ (e .env) root-place (table .root)
+      let whole : made ≡ record { keywords = table .keywords; outsides = table .outsides; blocks = e .last .blocks; root = table .root }
+      = rw (← (e .same-keywords), ← (e .same-outsides), ← (e .same-blocks), ← (e .same-root)) refl in
+      bind-passes P (checkBlocks (atFirst table) _ (table .blocks)) _
+      (rule-sequence _ (atFirst table) _ (e .sequence)
+      (then-passes P (checkRoot (e .last .env) root-place (table .root)) _
+      (rule-root _ (e .last .env) root-place (table .root)
       (record { signature = e .signature; defined = rw (e .same-root) at (e .defined); without = e .without; of-term = e .of-term })
       (subst P whole p))))

@@ -7,48 +7,62 @@ use lib.{Dec.eqb, ListN.length}
 use Rattle.answers.specs.Checked.{Checked, ok, _>>=_, _>>_, need}
 use Rattle.grammar.specs.Sorts.{Signature, term}
 use Rattle.grammar.specs.SortTests.{fits}
-use Rattle.grammar.specs.Table.{Template, Alternative, Definition, Table}
+use Rattle.grammar.specs.Table.{Alternative, Definition, Table}
 use Rattle.grammar.specs.Written.{WrittenResult, template, WrittenAlternative, WrittenDefinition, Written, withAlternatives}
 use Rattle.grammar.specs.Values.{headValue}
 use Rattle.judgements.specs.Sizes.{fieldSize, spellingsSize, itemsSize, alternativeSize, definitionSize, definitionsSize, blocksSize}
 use Rattle.judgements.specs.Scopes.{Env, Scope}
 use Rattle.judgements.specs.CheckSorts.{isDefined, signatureOf, collect, isClosed, sortOf, isSorted, checkItems}
+use Rattle.texts.specs.Reading.{TextRead}
+use Rattle.elaboration.specs.Contexts.{Before, atFirst, behindBlock, scopeAfter}
 
 -- ------------------------------------------------------------------ E; L ⊢ r : B ⇝ t, refusals 9 and 11
 
--- a result where the sort B is asked; `done` has what was checked before
-abbrev pub checkResult : Scope → List ℕ → ℕ → ℕ → WrittenResult → Checked Template
-checkResult G L B at (template t) = need (isClosed t G (length L)) 9 at >> need (isSorted t L && fits (sortOf t L) B) 11 at >> ok t
+-- what some part is elaborated to, with the rows that all texts up to its end made
+pub record Elaborated (A : Type 0) : Type 0 where
+  pub value : A
+  pub used : ℕ
 
-unfoldable pub checkAlternative : Scope → Signature → ℕ → WrittenAlternative → Checked Alternative
-checkAlternative G S at a =
+-- nothing yet, and one more
+abbrev pub noneYet : {A : Type 0} → ℕ → Elaborated (List A)
+noneYet used = record { value = []; used = used }
+
+abbrev pub andThen : {A : Type 0} → Elaborated (List A) → A → ℕ → Elaborated (List A)
+andThen done x used = record { value = done .value ++ (x ∷ []); used = used }
+
+-- a result where the sort B is asked
+abbrev pub checkResult : Scope → Before → List ℕ → ℕ → ℕ → ℕ → WrittenResult → Checked TextRead
+checkResult G P L B used at (template t) =
+    need (isClosed t G (length L)) 9 at >> need (isSorted t L && fits (sortOf t L) B) 11 at >> ok (record { template = t; used = used })
+
+unfoldable pub checkAlternative : Scope → Before → Signature → ℕ → ℕ → WrittenAlternative → Checked (Elaborated Alternative)
+checkAlternative G P S used at a =
     checkItems G (S .params) (at + 3) (a .items)
-    >>= λ L. checkResult G L (S .result) (at + 3 + itemsSize (a .items)) (a .result) >>= λ t. ok (record { items = a .items; result = t })
+    >>= λ L. checkResult G P L (S .result) used (at + 3 + itemsSize (a .items)) (a .result)
+    >>= λ r. ok (record { value = record { items = a .items; result = r .template }; used = r .used })
 
-unfoldable pub checkAlternatives : Scope → Signature → List Alternative → ℕ → List WrittenAlternative → Checked (List Alternative)
-checkAlternatives G S done at [] = ok done
-checkAlternatives G S done at (a ∷ rest) = checkAlternative G S at a >>= λ b. checkAlternatives G S (done ++ (b ∷ [])) (at + alternativeSize a) rest
+-- `done` has what was checked before
+unfoldable pub checkAlternatives :
+    Scope → Before → Signature → Elaborated (List Alternative) → ℕ → List WrittenAlternative → Checked (Elaborated (List Alternative))
+checkAlternatives G P S done at [] = ok done
+checkAlternatives G P S done at (a ∷ rest) =
+    checkAlternative G P S (done .used) at a >>= λ b. checkAlternatives G P S (andThen done (b .value) (b .used)) (at + alternativeSize a) rest
 
 -- ------------------------------------------------------------------ E ⊢ g ok, and ⊢ gseq ⇒ E
 
-unfoldable pub checkBodies : Scope → List Definition → ℕ → List WrittenDefinition → Checked (List Definition)
-checkBodies G done at [] = ok done
-checkBodies G done at (d ∷ ds) =
-    checkAlternatives G (d .signature) [] (at + fieldSize (headValue d)) (d .alternatives)
-    >>= λ choices. checkBodies G (done ++ (withAlternatives d choices ∷ [])) (at + definitionSize d) ds
+unfoldable pub checkBodies : Scope → Before → Elaborated (List Definition) → ℕ → List WrittenDefinition → Checked (Elaborated (List Definition))
+checkBodies G P done at [] = ok done
+checkBodies G P done at (d ∷ ds) =
+    checkAlternatives G P (d .signature) (noneYet (done .used)) (at + fieldSize (headValue d)) (d .alternatives)
+    >>= λ e. checkBodies G P (andThen done (withAlternatives d (e .value)) (e .used)) (at + definitionSize d) ds
 
--- what stands before a block: the environment that the blocks before it give, and these blocks with a template for each result, as they were checked
-pub record Before : Type 0 where
-  pub env : Env
-  pub blocks : List (List Definition)
-
--- what stands behind the blocks; K and N are the counts of keywords and outside names
-unfoldable pub checkBlocks : ℕ → ℕ → Before → ℕ → List (List WrittenDefinition) → Checked Before
-checkBlocks K N P at [] = ok P
-checkBlocks K N P at (b ∷ bs) =
+-- what stands behind the blocks
+unfoldable pub checkBlocks : Before → ℕ → List (List WrittenDefinition) → Checked Before
+checkBlocks P at [] = ok P
+checkBlocks P at (b ∷ bs) =
     collect (P .env) [] (at + 3) b
-    >>= λ own. checkBodies (record { keywords = K; outsides = N; env = own ++ P .env }) [] (at + 3) b
-    >>= λ ds. checkBlocks K N (record { env = own ++ P .env; blocks = P .blocks ++ (ds ∷ []) }) (at + 3 + definitionsSize b) bs
+    >>= λ own. checkBodies (scopeAfter P own) P (noneYet (P .used)) (at + 3) b
+    >>= λ e. checkBlocks (behindBlock P own (e .value) (e .used)) (at + 3 + definitionsSize b) bs
 
 -- the root is defined, has no parameters and gives a Term
 unfoldable pub checkRoot : Env → ℕ → ℕ → Checked (Unit {0})
@@ -59,6 +73,6 @@ checkRoot E at n =
 unfoldable pub checkSorts : Written → Checked Table
 checkSorts t =
     let first : ℕ = spellingsSize (t .keywords) + spellingsSize (t .outsides) in
-    checkBlocks (length (t .keywords)) (length (t .outsides)) (record { env = []; blocks = [] }) first (t .blocks)
+    checkBlocks (atFirst t) first (t .blocks)
     >>= λ P. checkRoot (P .env) (first + blocksSize (t .blocks)) (t .root)
     >> ok (record { keywords = t .keywords; outsides = t .outsides; blocks = P .blocks; root = t .root })

@@ -4,7 +4,6 @@ use mathlib.Core.Path.{_≡_, sym, ap, subst, _∙_}
 use mathlib.Core.List.{List, [], _++_}
 use native.Mathlib.Omega.{arith}
 use lib.ListN.{length, take}
-use Rattle.grammar.specs.Table.{Definition}
 use Rattle.grammar.specs.Written.{WrittenDefinition, Written}
 use Rattle.grammar.specs.Fields.{fieldsOf}
 use Rattle.grammar.specs.Encode.{fieldBytes, encode}
@@ -15,11 +14,10 @@ use Rattle.productions.specs.Normal.{normalized}
 use Rattle.productions.specs.Index.{normalizedBy}
 use Rattle.productions.proofs.NormalizedByFields.{normalized-before}
 use Rattle.judgements.specs.Sizes.{spellingsSize, blocksSize}
-use Rattle.judgements.specs.Scopes.{Env}
 use Rattle.judgements.proofs.SizeLaws.{no-bytes, front-size}
-use Rattle.elaboration.specs.CheckSequence.{Before, checkBlocks}
+use Rattle.elaboration.specs.Contexts.{Before, atFirst}
+use Rattle.elaboration.specs.CheckSequence.{checkBlocks}
 use Rattle.elaboration.specs.Elaboration.{Sequence}
-use Rattle.elaboration.proofs.SequenceSorts.{atFirst}
 use Rattle.elaboration.proofs.BlocksBefore.{carried}
 use Rattle.elaboration.proofs.Elaborated.{blocks-made}
 
@@ -27,24 +25,20 @@ use Rattle.elaboration.proofs.Elaborated.{blocks-made}
 -- the table's bytes up to that place have.
 pub record CarriedBefore (table : Written) (behind : List (List WrittenDefinition)) (at : ℕ) (P : Before) : Type 0 where
   -- the check of all blocks is that of these, with what is carried
-  pub goes-on : checkBlocks (length (table .keywords)) (length (table .outsides)) atFirst (spellingsSize (table .keywords) + spellingsSize (table .outsides))
-      (table .blocks)
-      ≡ checkBlocks (length (table .keywords)) (length (table .outsides)) P at behind
+  pub goes-on : checkBlocks (atFirst table) (spellingsSize (table .keywords) + spellingsSize (table .outsides)) (table .blocks) ≡ checkBlocks P at behind
   -- the productions of the bytes before are those of the blocks that are carried
   pub productions : normalizedBy (fieldsOf (take at (encode table))) 0 [] ≡ normalized (P .blocks)
 
 -- Behind blocks that are derived the check carries what they give, and what they are elaborated to.
 pub carried-before : (table : Written) → Within table → (before behind : List (List WrittenDefinition)) → table .blocks ≡ before ++ behind
-    → {E : Env} {made : List (List Definition)} → Sequence (length (table .keywords)) (length (table .outsides)) [] before E made
-    → CarriedBefore table behind (spellingsSize (table .keywords) + spellingsSize (table .outsides) + blocksSize before) (record { env = E; blocks = made })
+    → {P : Before} → Sequence (atFirst table) before P
+    → CarriedBefore table behind (spellingsSize (table .keywords) + spellingsSize (table .outsides) + blocksSize before) P
 carried-before table w before behind whole s =
     let first : ℕ = spellingsSize (table .keywords) + spellingsSize (table .outsides) in
     let place : length (fieldBytes (frontFields table before)) ≡ first + blocksSize before
     = omega (arith, front-size (table .keywords) (table .outsides) before [], no-bytes) in
     let fine = each-split before (subst (Each (Each DefinitionWithin)) whole (w .blocks)) .0 in
     record {
-      goes-on =
-          ap (checkBlocks (length (table .keywords)) (length (table .outsides)) atFirst first) whole
-          ∙ carried (length (table .keywords)) (length (table .outsides)) behind atFirst first s;
+      goes-on = ap (checkBlocks (atFirst table) first) whole ∙ carried behind (atFirst table) first s;
       productions = rw (← place) (normalized-before table before behind whole fine ∙ ap normalized (sym (blocks-made s)));
     }

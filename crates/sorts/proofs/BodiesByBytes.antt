@@ -20,6 +20,8 @@ use Rattle.decoding.specs.Within.{ItemWithin, terminal-within, local-within, ca
 use Rattle.decoding.proofs.Templates.{read-templates, read-template}
 use Rattle.judgements.specs.CheckSorts.{isDefined, signatureOf, isClosed, areClosed, isSorted, sortOf, fill, checkItem}
 use Rattle.judgements.specs.Scopes.{Scope}
+use Rattle.texts.specs.Reading.{TextRead}
+use Rattle.elaboration.specs.Contexts.{Before}
 use Rattle.elaboration.specs.CheckSequence.{checkResult, checkRoot}
 use Rattle.bodies.specs.declared.Known.{Known}
 use Rattle.bodies.specs.declared.ItemSort.{ItemSort}
@@ -65,7 +67,7 @@ call-by at sort true true false = refl
 call-by at sort true false filled = refl
 call-by at sort false closed filled = refl
 
-result-by : (at : ℕ) (made : Template) (closed filled : Bool)
+result-by : (at : ℕ) (made : TextRead) (closed filled : Bool)
     → verdictOf at (faultBy closed filled) ≡ verdict (need closed 9 at >> need filled 11 at >> ok made)
 result-by at made true true = refl
 result-by at made true false = refl
@@ -116,11 +118,11 @@ module _ (bs : List ℕ) (scope : Scope) (heads : List ℕ) (knows : (nontermina
 
     -- a template's bytes are checked as the result that it is
     pub result-agrees :
-        (S : Signature) {t : Template} → signatureAt bs head ≡ bytesOf S → TemplateWithin t
+        (before : Before) (used : ℕ) (S : Signature) {t : Template} → signatureAt bs head ≡ bytesOf S → TemplateWithin t
         → verdictOf at (resultAt bs (knownOf scope head (length L)) room (templateThen t []))
-        ≡ verdict (checkResult scope L (S .result) at (template t))
+        ≡ verdict (checkResult scope before L (S .result) used at (template t))
     unfolding resultAt templatesFault areClosed fill
-    result-agrees S {t} e w =
+    result-agrees before used S {t} e w =
         let B : ℕ = S .result in
         let one = read-template w in
         cc (
@@ -128,7 +130,7 @@ module _ (bs : List ℕ) (scope : Scope) (heads : List ℕ) (knows : (nontermina
           and-true (isClosed t scope (length L)),
           fill-bytes L (templateThen t []) (more t none) (B ∷ []) one,
           and-true (isSorted t L && fits (sortOf t L) B),
-          result-by at t (isClosed t scope (length L)) (isSorted t L && fits (sortOf t L) B),
+          result-by at (record { template = t; used = used }) (isClosed t scope (length L)) (isSorted t L && fits (sortOf t L) B),
         )
 
   -- ------------------------------------------------------------------ the root

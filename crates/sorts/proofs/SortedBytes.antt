@@ -14,7 +14,7 @@ use Rattle.answers.specs.declared.Verdict.{Verdict}
 use Rattle.answers.specs.declared.Verdict.the-variants.{Passed, Refused}
 use Rattle.answers.specs.Checked.{Checked, ok, bad, _>>=_, _>>_, verdict}
 use Rattle.grammar.specs.Sorts.{Signature}
-use Rattle.grammar.specs.Table.{Template, Item, Alternative, Definition, Table}
+use Rattle.grammar.specs.Table.{Item, Alternative, Definition, Table}
 use Rattle.grammar.specs.Written.{WrittenResult, template, resultField, WrittenAlternative, WrittenDefinition, Written, withAlternatives}
 use Rattle.grammar.specs.Values.{Field, field, itemValue, headValue}
 use Rattle.grammar.specs.Fields.{RawFields, fieldsOf}
@@ -28,8 +28,10 @@ use Rattle.judgements.specs.Sizes.{fieldSize, spellingsSize, itemsSize, alterna
 use Rattle.judgements.specs.CheckSorts.{isDefined, collect, checkItem, checkItems}
 use Rattle.judgements.specs.Scopes.{Env, Scope}
 use Rattle.judgements.specs.Judgements.{scope}
-use Rattle.elaboration.specs.CheckSequence.{checkResult, checkAlternative, checkAlternatives, checkBodies, checkBlocks, checkRoot, checkSorts, Before}
-use Rattle.elaboration.proofs.SequenceSorts.{atFirst, behindBlock}
+use Rattle.texts.specs.Reading.{TextRead}
+use Rattle.elaboration.specs.CheckSequence.{Elaborated, noneYet, andThen, checkResult, checkAlternative, checkAlternatives, checkBodies, checkBlocks}
+use Rattle.elaboration.specs.CheckSequence.{checkRoot, checkSorts}
+use Rattle.elaboration.specs.Contexts.{Before, atFirst, behindBlock, scopeAfter}
 use Rattle.bodies.specs.declared.Known.{Known}
 use Rattle.bodies.specs.declared.ItemSort.{ItemSort}
 use Rattle.bodies.specs.declared.ItemSort.the-variants.{As, Unsorted}
@@ -111,7 +113,7 @@ carries-parameters params room e h =
 
 -- ------------------------------------------------------------------ bodies
 
-module _ (bs : List ℕ) (given-scope : Scope) (heads : List ℕ)
+module _ (bs : List ℕ) (given-scope : Scope) (before : Before) (heads : List ℕ)
     (knows : (nonterminal : ℕ) → nonterminal < 64 → Knows bs (given-scope .env) heads nonterminal) where
   abbrev walk : List Field → ℕ → ℕ → ℕ → List ℕ → Finding
   walk fields at head count room = sortsFrom (spread at fields) bs (knownOf given-scope head count) heads room
@@ -146,14 +148,14 @@ module _ (bs : List ℕ) (given-scope : Scope) (heads : List ℕ)
   -- a result is checked, then what is behind it
   result-sorted :
       {result : WrittenResult} → ResultWithin result → (follow : List Field) (head at : ℕ) {L room : List ℕ} → Carries L room
-      → (S : Signature) → signatureAt bs head ≡ bytesOf S → (last : Template → Finding)
-      → ((made : Template) → walk follow (at + fieldSize (resultField result .value)) head (length L) room ≡ last made)
-      → walk (resultField result ∷ follow) at head (length L) room ≡ after (checkResult given-scope L (S .result) at result) last
+      → (S : Signature) → signatureAt bs head ≡ bytesOf S → (used : ℕ) (last : TextRead → Finding)
+      → ((made : TextRead) → walk follow (at + fieldSize (resultField result .value)) head (length L) room ≡ last made)
+      → walk (resultField result ∷ follow) at head (length L) room ≡ after (checkResult given-scope before L (S .result) used at result) last
   unfolding spread sortsFrom stepAt
-  result-sorted (template-within {t} w) follow head at {L} {room} c S signed last f =
-      rw (result-agrees bs given-scope heads knows head at c S signed w)
-      (verdict-goes (checkResult given-scope L (S .result) at (template t)) _ heads room _
-      ∙ after-same (checkResult given-scope L (S .result) at (template t)) _ _ f)
+  result-sorted (template-within {t} w) follow head at {L} {room} c S signed used last f =
+      rw (result-agrees bs given-scope heads knows head at c before used S signed w)
+      (verdict-goes (checkResult given-scope before L (S .result) used at (template t)) _ heads room _
+      ∙ after-same (checkResult given-scope before L (S .result) used at (template t)) _ _ f)
 
   -- whatever head and variables are known behind the fields, they give the same
   abbrev Goes : List Field → ℕ → Finding → Type 0
@@ -165,33 +167,37 @@ module _ (bs : List ℕ) (given-scope : Scope) (heads : List ℕ)
 
   module _ (head : ℕ) (S : Signature) (signed : signatureAt bs head ≡ bytesOf S) (few : length (S .params) ≤ 4) where
     alternatives-sorted : {rest : List WrittenAlternative} → Each AlternativeWithin rest → (follow : List Field) (at to : ℕ) → at + alternativesSize rest ≡ to
-        → (last : List Alternative → Finding) → ((choices : List Alternative) → GoesAt head follow to (last choices))
-        → (done : List Alternative) → GoesAt head (alternativesThen rest follow) at (after (checkAlternatives given-scope S done at rest) last)
+        → (last : Elaborated (List Alternative) → Finding) → ((choices : Elaborated (List Alternative)) → GoesAt head follow to (last choices))
+        → (done : Elaborated (List Alternative))
+        → GoesAt head (alternativesThen rest follow) at (after (checkAlternatives given-scope before S done at rest) last)
     unfolding spread alternativesThen alternativesSize alternativeSize sortsFrom stepAt checkAlternatives checkAlternative
     alternatives-sorted each-none follow at to z last f done count room r = let e : at ≡ to = omega arith in rw e (f done count room r)
     alternatives-sorted (each-more {x = a} {xs = rest} w ws) follow at to z last f done count room r =
         let result : ℕ = at + 3 + itemsSize (a .items) in
         let behind : ℕ = at + alternativeSize a in
         let params : List ℕ = S .params in
-        let whole : Template → Alternative = λ t. record { items = a .items; result = t } in
-        let others : Alternative → Finding = λ b. after (checkAlternatives given-scope S (done ++ (b ∷ [])) behind rest) last in
+        let whole : TextRead → Elaborated Alternative = λ t. record { value = record { items = a .items; result = t .template }; used = t .used } in
+        let others : Elaborated Alternative → Finding
+        = λ b. after (checkAlternatives given-scope before S (andThen done (b .value) (b .used)) behind rest) last in
         let many : length (bytesOf S) - 1 ≡ length params = omega arith in
         rw (signed, many)
         (items-sorted (w .items) (resultField (a .result) ∷ alternativesThen rest follow) head (at + 3) result refl params
         (params ++ drop (length params) room) (carries-parameters params room r few) (omega (arith, w .itemCount))
-        (λ L. after (checkResult given-scope L (S .result) result (a .result) >>= λ t. ok (whole t)) others)
+        (λ L. after (checkResult given-scope before L (S .result) (done .used) result (a .result) >>= λ t. ok (whole t)) others)
         (λ L′ room′ c.
         let place : result + fieldSize (resultField (a .result) .value) ≡ behind = omega arith in
-        result-sorted (w .result) (alternativesThen rest follow) head result c S signed (λ t. others (whole t))
-        (λ t. rw place (alternatives-sorted ws follow behind to (omega arith) last f (done ++ (whole t ∷ [])) (length L′) room′ (c .size)))
-        ∙ after-bind (checkResult given-scope L′ (S .result) result (a .result)) (λ t. ok (whole t)) others))
+        result-sorted (w .result) (alternativesThen rest follow) head result c S signed (done .used) (λ t. others (whole t))
+        (λ t. rw place
+        (alternatives-sorted ws follow behind to (omega arith) last f (andThen done (whole t .value) (t .used)) (length L′) room′ (c .size)))
+        ∙ after-bind (checkResult given-scope before L′ (S .result) (done .used) result (a .result)) (λ t. ok (whole t)) others))
         ∙ after-bind (checkItems given-scope params (at + 3) (a .items)) _ others
-        ∙ after-bind (checkAlternative given-scope S at a) (λ b. checkAlternatives given-scope S (done ++ (b ∷ [])) behind rest) last
+        ∙ after-bind (checkAlternative given-scope before S (done .used) at a)
+        (λ b. checkAlternatives given-scope before S (andThen done (b .value) (b .used)) behind rest) last
 
   definitions-sorted : {ds : List WrittenDefinition} → Each DefinitionWithin ds → (follow : List Field) (at to : ℕ) → at + definitionsSize ds ≡ to
-      → Placed bs (spread at (definitionsThen ds follow)) → (last : List Definition → Finding)
-      → (Placed bs (spread to follow) → (ds : List Definition) → Goes follow to (last ds))
-      → (done : List Definition) → Goes (definitionsThen ds follow) at (after (checkBodies given-scope done at ds) last)
+      → Placed bs (spread at (definitionsThen ds follow)) → (last : Elaborated (List Definition) → Finding)
+      → (Placed bs (spread to follow) → (ds : Elaborated (List Definition)) → Goes follow to (last ds))
+      → (done : Elaborated (List Definition)) → Goes (definitionsThen ds follow) at (after (checkBodies given-scope before done at ds) last)
   unfolding spread definitionsThen definitionsSize definitionSize sortsFrom stepAt counting checkBodies
   definitions-sorted each-none follow at to z p last f done head count room r =
       let e : at ≡ to = omega arith in
@@ -200,14 +206,16 @@ module _ (bs : List ℕ) (given-scope : Scope) (heads : List ℕ)
       let first : ℕ = at + fieldSize (headValue d) in
       let behind : ℕ = at + definitionSize d in
       let rest : List Field = definitionsThen ds follow in
-      let more : List Alternative → List Definition = λ choices. done ++ (withAlternatives d choices ∷ []) in
+      let none : Elaborated (List Alternative) = noneYet (done .used) in
+      let more : Elaborated (List Alternative) → Elaborated (List Definition) = λ e. andThen done (withAlternatives d (e .value)) (e .used) in
       alternatives-sorted at (d .signature) (head-signature bs at d w (p .0)) (omega (arith, w .paramCount)) (w .alternatives) rest first behind (omega arith)
-      (λ choices. after (checkBodies given-scope (more choices) behind ds) last)
+      (λ choices. after (checkBodies given-scope before (more choices) behind ds) last)
       (λ choices count′ room′ r′. definitions-sorted ws follow behind to (omega arith)
       (over-alternatives (Placed bs) (λ tag part at v fs q. q .1) (d .alternatives) rest first behind (omega arith) (p .1)) last f (more choices) at count′
       room′ r′)
-      [] count room r
-      ∙ after-bind (checkAlternatives given-scope (d .signature) [] first (d .alternatives)) (λ choices. checkBodies given-scope (more choices) behind ds) last
+      none count room r
+      ∙ after-bind (checkAlternatives given-scope before (d .signature) none first (d .alternatives))
+      (λ choices. checkBodies given-scope before (more choices) behind ds) last
 
 -- ------------------------------------------------------------------ blocks
 
@@ -220,7 +228,7 @@ record Shows (bs : List ℕ) (E : Env) (heads : List ℕ) (at : ℕ) : Type 0 wh
   -- none lies behind the offset
   pub below : Below heads at
 
-module _ (bs : List ℕ) (keywords outsides root : ℕ) (low : root < 64) (whole : List (List Definition) → Table) where
+module _ (bs : List ℕ) (root : ℕ) (low : root < 64) (whole : List (List Definition) → Table) where
   -- the field behind the blocks ends the last of them
   abbrev rootField : List Field
   rootField = field 8 (root ∷ []) ∷ []
@@ -248,16 +256,16 @@ module _ (bs : List ℕ) (keywords outsides root : ℕ) (low : root < 64) (whole
 
   -- what the blocks and the root give
   abbrev checkRest : Before → ℕ → List (List WrittenDefinition) → Checked Table
-  checkRest P at blocks = checkBlocks keywords outsides P at blocks >>= rootAfter (at + blocksSize blocks)
+  checkRest P at blocks = checkBlocks P at blocks >>= rootAfter (at + blocksSize blocks)
 
   blocks-sorted : {blocks : List (List WrittenDefinition)} → Each (Each DefinitionWithin) blocks → (P : Before) (heads : List ℕ) (at : ℕ)
       → Shows bs (P .env) heads at → Placed bs (spread at (blocksThen blocks rootField)) → (head count : ℕ) (room : List ℕ) → length room ≡ 16
-      → sortsFrom (spread at (blocksThen blocks rootField)) bs (knownOf (scope keywords outsides (P .env)) head count) heads room
+      → sortsFrom (spread at (blocksThen blocks rootField)) bs (knownOf (scopeAfter P []) head count) heads room
       ≡ found (checkRest P at blocks)
   unfolding spread blocksThen sortsFrom stepAt checkBlocks blocksSize isDefined
   blocks-sorted each-none P heads at s p head count room r =
       rw (add-zero at)
-      (ap Judged (root-agrees bs (scope keywords outsides (P .env)) heads (s .knows) at root low) ∙ value-given (checkRoot (P .env) at root) (whole (P .blocks)))
+      (ap Judged (root-agrees bs (scopeAfter P []) heads (s .knows) at root low) ∙ value-given (checkRoot (P .env) at root) (whole (P .blocks)))
   blocks-sorted (each-more {x = b} {xs = blocks} w ws) P heads at s p head count room r =
       let E : Env = P .env in
       let behind : ℕ = at + 3 + definitionsSize b in
@@ -271,17 +279,18 @@ module _ (bs : List ℕ) (keywords outsides root : ℕ) (low : root < 64) (whole
         before = λ n l.
             subst (λ h. KnowsHead bs E h n) (sym (before-in-front bs heads at n (le-leb (getD heads n 0) at (s .below n)))) (s .knows n l);
       } in
-      let bodies : Env → Checked (List Definition) = λ own. checkBodies (scope keywords outsides (own ++ E)) [] (at + 3) b in
-      let rest : Env → List Definition → Checked Before = λ own ds. checkBlocks keywords outsides (behindBlock P own ds) behind blocks in
+      let next : Env → Elaborated (List Definition) → Before = λ own ds. behindBlock P own (ds .value) (ds .used) in
+      let bodies : Env → Checked (Elaborated (List Definition)) = λ own. checkBodies (scopeAfter P own) P (noneYet (P .used)) (at + 3) b in
+      let rest : Env → Elaborated (List Definition) → Checked Before = λ own ds. checkBlocks (next own ds) behind blocks in
       block-goes E at behind _ room (spread (at + 3) (definitionsThen b follow)) (collect E [] (at + 3) b)
       (collectFrom (spread (at + 3) (definitionsThen b follow)) bs at heads)
       (collect-agrees bs E at follow (collect-ends blocks at) w (at + 3) behind refl [] heads (p .1) (omega arith) before (λ n. omega (arith, s .below n)))
-      (λ own. after (bodies own) (λ ds. found (checkRest (behindBlock P own ds) behind blocks)))
+      (λ own. after (bodies own) (λ ds. found (checkRest (next own ds) behind blocks)))
       (λ own heads′ c l.
-      definitions-sorted bs (scope keywords outsides (own ++ E)) heads′ (c .knows) w follow (at + 3) behind refl (p .1)
-      (λ ds. found (checkRest (behindBlock P own ds) behind blocks))
-      (λ q ds. blocks-sorted ws (behindBlock P own ds) heads′ behind (record { size = c .size; knows = c .knows; below = l }) q)
-      [] head count room r)
+      definitions-sorted bs (scopeAfter P own) P heads′ (c .knows) w follow (at + 3) behind refl (p .1)
+      (λ ds. found (checkRest (next own ds) behind blocks))
+      (λ q ds. blocks-sorted ws (next own ds) heads′ behind (record { size = c .size; knows = c .knows; below = l }) q)
+      (noneYet (P .used)) head count room r)
       ∙ rest-goes (collect E [] (at + 3) b) bodies rest (rootAfter (behind + blocksSize blocks))
       ∙ rw place refl
 
@@ -351,7 +360,7 @@ table-sorted table w =
     (keywords-sorted bs heads room names ks 0 second (zero-add second) [] 0 0 0 0
     ∙ outsides-sorted bs heads room blocks os second first refl [] (0 + length ks) 0 0 0
     ∙ rw (zero-add (length ks), zero-add (length os))
-    (blocks-sorted bs (length ks) (length os) (table .root) (omega (arith, w .root)) whole (w .blocks) atFirst heads first
+    (blocks-sorted bs (table .root) (omega (arith, w .root)) whole (w .blocks) (atFirst table) heads first
     (nothing-shown bs first)
     (placed-spellings bs 2 os blocks second first refl (placed-spellings bs 1 ks names 0 second (zero-add second) placed)) 0 0 room
     (length-replicate {A = ℕ} 16 0)))

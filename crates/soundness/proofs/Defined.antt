@@ -1,6 +1,6 @@
 -- A nonterminal that a well sorted table declares has a production: a call never meets an undefined one, 001's other way to `wrong`.
 use Prim.Native.Nat.{ℕ, _≤_, _<_}
-use mathlib.Core.Path.{_≡_, refl, sym}
+use mathlib.Core.Path.{_≡_, refl, sym, ap, subst⁻¹}
 use mathlib.Core.Bool.{Bool, true, false, true≢false}
 use mathlib.Core.List.{List, [], _∷_, _++_}
 use native.Mathlib.Omega.{arith}
@@ -16,8 +16,9 @@ use Rattle.judgements.specs.Judgements.{Newest, newest-first, newest-later, Ite
 use Rattle.judgements.specs.CheckSorts.{isDefined}
 use Rattle.judgements.proofs.Environments.{newest-defined}
 use Rattle.elaboration.specs.Elaboration.{Bodies, Ok, ok-empty, ok-definition, Sequence, no-grammar, by-grammar, Elaborates, scopeOf}
-use Rattle.elaboration.proofs.Elaborated.{as-many}
-use Rattle.productions.specs.Normal.{Production, productionsOf, without, kept, defined, definedAll, normalizedFrom, normalized}
+use Rattle.elaboration.specs.Contexts.{Before}
+use Rattle.elaboration.proofs.Elaborated.{as-many, normalized-behind}
+use Rattle.productions.specs.Normal.{Production, productionsOf, without, kept, defined, definedAll, normalized}
 use Rattle.firsts.specs.Rules.{Of}
 
 in-front : {g : List Production} (more : List Production) {p : Production} → Among g p → Among (g ++ more) p
@@ -70,24 +71,24 @@ definition-produced definition some low h n S (newest-later k w) =
     (f .0, record { member = in-front _ (in-kept (definition .mode) (definition .nonterminal) apart (f .1 .member)); owned = f .1 .owned; small = f .1 .small })
 
 -- one that is elaborated has an alternative if the one written has
-elaborated-produced : {G : Scope} {E : Env} {g : List Production} (d : WrittenDefinition) {choices : List Alternative}
-    → Bodies G (d .signature) (d .alternatives) choices → DefinitionWithin d → Produced E g → Produced (entryOf d ∷ E) (defined g (withAlternatives d choices))
+elaborated-produced : {G : Scope} {P : Before} {E : Env} {g : List Production} (d : WrittenDefinition) {choices : List Alternative} {used used′ : ℕ}
+    → Bodies G P (d .signature) used (d .alternatives) choices used′ → DefinitionWithin d → Produced E g → Produced (entryOf d ∷ E) (defined g (withAlternatives d choices))
 elaborated-produced d {choices} b z h =
     definition-produced (withAlternatives d choices) (omega (arith, as-many b, z .alternativeCount)) (omega (arith, z .nonterminal)) h
 
-defines-produced : {G : Scope} {E own own′ : Env} {ds : List WrittenDefinition} {es : List Definition} {g : List Production} → Defines E own ds own′
-    → Ok G ds es → Each DefinitionWithin ds → Produced (own ++ E) g → Produced (own′ ++ E) (definedAll g es)
+defines-produced : {G : Scope} {P : Before} {E own own′ : Env} {ds : List WrittenDefinition} {es : List Definition} {g : List Production} {used used′ : ℕ}
+    → Defines E own ds own′ → Ok G P used ds es used′ → Each DefinitionWithin ds → Produced (own ++ E) g → Produced (own′ ++ E) (definedAll g es)
 unfolding definedAll
 defines-produced no-definition ok-empty each-none h = h
 defines-produced (by-add {d = d} e a c k) (ok-definition b o) (each-more z zs) h = defines-produced k o zs (elaborated-produced d b z h)
 defines-produced (by-extend {d = d} e a c k) (ok-definition b o) (each-more z zs) h = defines-produced k o zs (elaborated-produced d b z h)
 defines-produced (by-update {d = d} e a c k) (ok-definition b o) (each-more z zs) h = defines-produced k o zs (elaborated-produced d b z h)
 
-sequence-produced : {keywords outsides : ℕ} {E E′ : Env} {g : List Production} {gs : List (List WrittenDefinition)} {hs : List (List Definition)}
-    → Sequence keywords outsides E gs E′ hs → Each (Each DefinitionWithin) gs → Produced E g → Produced E′ (normalizedFrom g hs)
-unfolding normalizedFrom
+sequence-produced : {P P′ : Before} {gs : List (List WrittenDefinition)} → Sequence P gs P′ → Each (Each DefinitionWithin) gs
+    → Produced (P .env) (normalized (P .blocks)) → Produced (P′ .env) (normalized (P′ .blocks))
 sequence-produced no-grammar each-none h = h
-sequence-produced (by-grammar d o s) (each-more z zs) h = sequence-produced s zs (defines-produced d o z h)
+sequence-produced (by-grammar {P = P} {own = own} {h = block} d o s) (each-more z zs) h =
+    sequence-produced s zs (subst⁻¹ (Produced (own ++ P .env)) (normalized-behind (P .blocks) block) (defines-produced d o z h))
 
 none-newest : {nonterminal : ℕ} {S : Signature} → Newest [] nonterminal S → ⊥
 unfolding isDefined
@@ -96,7 +97,8 @@ none-newest k = true≢false (sym (newest-defined k))
 -- A call that is well sorted in a table within the counts is of a nonterminal that has a production.
 pub called-is-defined : {table : Written} {made : Table} → Within table → (elaborates : Elaborates table made) {L : List ℕ} {nonterminal A : ℕ}
     {ts : Templates} → ItemSorted (scopeOf elaborates) L (call nonterminal ts) A → (p : Production) × Of (normalized (made .blocks)) nonterminal p
-called-is-defined z elaborates (by-call {S = S} k f) = sequence-produced (elaborates .sequence) (z .blocks) nothing _ S k
+called-is-defined z elaborates (by-call {S = S} k f) =
+    subst⁻¹ (Produced (elaborates .last .env)) (ap normalized (elaborates .same-blocks)) (sequence-produced (elaborates .sequence) (z .blocks) nothing) _ S k
   where
-    nothing : Produced [] []
+    nothing : Produced [] (normalized [])
     nothing n S k = absurd (none-newest k)

@@ -83,11 +83,11 @@ module _ (table : Table) (passing : Passing table) where
 
   -- The productions of a normalized table are well sorted (001, section 4.2), each by the signature of its nonterminal.
   pub productions-sorted : {n : ℕ} {p : Production} → Of (grammarOf table) n p
-      → (S : Signature) × Newest (passing .meets .elaborates .env) n S
+      → (S : Signature) × Newest (passing .meets .elaborates .last .env) n S
       × Body (scopeOf (passing .meets .elaborates)) (S .params) (p .items) (p .result) (S .result)
   productions-sorted {n} {p} o =
       let fit = table-fits (passing .within) (passing .meets .elaborates) .each p (o .member) in
-      let newest : Newest (passing .meets .elaborates .env) n (fit .signature) = rw (← (o .owned)) (fit .newest) in
+      let newest : Newest (passing .meets .elaborates .last .env) n (fit .signature) = rw (← (o .owned)) (fit .newest) in
       (fit .signature, newest, fit .body)
 
   -- Whatever a call of the root derives is a term (001, Corollary 1).

@@ -1,8 +1,8 @@
 -- Normalizing preserves typing (001, section 4.2): the productions of a well sorted table have the sorts of its last environment.
 use Prim.Native.Nat.{ℕ}
-use mathlib.Core.Path.{_≡_, sym, _∙_}
+use mathlib.Core.Path.{_≡_, sym, ap₂, _∙_, subst, subst⁻¹}
 use mathlib.Core.Bool.{Bool, true, false, true≢false}
-use mathlib.Core.List.{List, _∷_, _++_}
+use mathlib.Core.List.{List, [], _∷_, _++_}
 use lib.Dec.{eqb}
 use lib.ListN.{length}
 use borrow.Author.Tests.{eqb-true, eqb-false}
@@ -17,7 +17,8 @@ use Rattle.judgements.specs.Judgements.{by-local, by-call, Body, by-result, by-
 use Rattle.judgements.proofs.Environments.{newest-defined, newest-signature, absent-undefined}
 use Rattle.elaboration.specs.Elaboration.{Bodies, no-alternative, by-choice, Ok, ok-empty, ok-definition, Sequence, no-grammar, by-grammar, Elaborates}
 use Rattle.elaboration.specs.Elaboration.{scopeOf}
-use Rattle.elaboration.proofs.Elaborated.{body-sorted, made-within}
+use Rattle.elaboration.specs.Contexts.{Before, scopeAfter}
+use Rattle.elaboration.proofs.Elaborated.{body-sorted, made-within, same-spellings, normalized-behind}
 use Rattle.productions.specs.Normal.{Production, productionsOf, without, kept, definedAll, normalizedFrom, normalized}
 use Rattle.soundness.proofs.Typing.{Fit, FitAll}
 
@@ -124,9 +125,9 @@ module _ (keywords outsides : ℕ) where
       })
       (fits-more m hs)
 
-  module _ {E : Env} where
-    alternatives-fit : {nonterminal : ℕ} {S : Signature} {rest : List WrittenAlternative} {others : List Alternative} → Newest E nonterminal S
-        → Bodies (scope keywords outsides E) S rest others → Each AlternativeWithin rest
+  module _ {E : Env} {P : Before} where
+    alternatives-fit : {nonterminal : ℕ} {S : Signature} {rest : List WrittenAlternative} {others : List Alternative} {used used′ : ℕ}
+        → Newest E nonterminal S → Bodies (scope keywords outsides E) P S used rest others used′ → Each AlternativeWithin rest
         → Each (Fit (scope keywords outsides E)) (productionsOf nonterminal others)
     unfolding productionsOf
     alternatives-fit w no-alternative each-none = each-none
@@ -135,26 +136,36 @@ module _ (keywords outsides : ℕ) where
         (record { signature = S; newest = w; body = body-sorted n r; items = a .items; itemCount = a .itemCount; result = made-within r (a .result) })
         (alternatives-fit w bs more)
 
-    definitions-fit : {g : List Production} {ds : List WrittenDefinition} {es : List Definition} → Each (Fit (scope keywords outsides E)) g
-        → Each (λ d. Newest E (d .nonterminal) (d .signature)) ds
-        → Ok (scope keywords outsides E) ds es → Each DefinitionWithin ds
+    definitions-fit : {g : List Production} {ds : List WrittenDefinition} {es : List Definition} {used used′ : ℕ}
+        → Each (Fit (scope keywords outsides E)) g → Each (λ d. Newest E (d .nonterminal) (d .signature)) ds
+        → Ok (scope keywords outsides E) P used ds es used′ → Each DefinitionWithin ds
         → Each (Fit (scope keywords outsides E)) (definedAll g es)
     unfolding definedAll
     definitions-fit h each-none ok-empty each-none = h
     definitions-fit h (each-more {x = d} w ws) (ok-definition b o) (each-more z zs) =
         definitions-fit (each-append (each-kept (d .mode) (d .nonterminal) h) (alternatives-fit w b (z .alternatives))) ws o zs
 
-  sequence-fits : {E E′ : Env} {g : List Production} {gs : List (List WrittenDefinition)} {hs : List (List Definition)}
-      → Sequence keywords outsides E gs E′ hs → Each (Each DefinitionWithin) gs → Each (Fit (scope keywords outsides E)) g
-      → Each (Fit (scope keywords outsides E′)) (normalizedFrom g hs)
-  unfolding normalizedFrom
-  sequence-fits no-grammar each-none h = h
-  sequence-fits (by-grammar d o s) (each-more z zs) h = sequence-fits s zs (definitions-fit (fits-more (defines-more d) h) (defines-all d) o z)
+-- what the productions of the blocks before fit, behind a sequence
+sequence-fits : {P P′ : Before} {gs : List (List WrittenDefinition)} → Sequence P gs P′ → Each (Each DefinitionWithin) gs
+    → Each (Fit (scopeAfter P [])) (normalized (P .blocks)) → Each (Fit (scopeAfter P′ [])) (normalized (P′ .blocks))
+sequence-fits no-grammar each-none h = h
+sequence-fits (by-grammar {P = P} {own = own} {h = block} d o s) (each-more z zs) h =
+    let K : ℕ = length (P .keywords) in
+    let N : ℕ = length (P .outsides) in
+    sequence-fits s zs
+    (subst⁻¹ (Each (Fit (scopeAfter P own))) (normalized-behind (P .blocks) block)
+    (definitions-fit K N (fits-more K N (defines-more d) h) (defines-all d) o z))
 
 -- each production of an elaborated table fits its scope
 pub each-fits : {table : Written} {made : Table} → Within table → (elaborates : Elaborates table made) → (p : Production)
     → Among (normalized (made .blocks)) p → Fit (scopeOf elaborates) p
-each-fits z elaborates p m = each-at (sequence-fits _ _ (elaborates .sequence) (z .blocks) each-none) m
+unfolding normalizedFrom
+each-fits {table} z elaborates p m =
+    let last : Before = elaborates .last in
+    let (ks, os) = same-spellings (elaborates .sequence) in
+    let all = sequence-fits (elaborates .sequence) (z .blocks) each-none in
+    let fit : Fit (scopeAfter last []) p = each-at all (subst (λ bs. Among (normalized bs) p) (elaborates .same-blocks) m) in
+    subst (λ G. Fit G p) (ap₂ (λ K N. scope (length K) (length N) (last .env)) ks os) fit
 
 -- the productions of an elaborated table fit it
 abbrev pub table-fits : {table : Written} {made : Table} → Within table → Elaborates table made → FitAll (normalized (made .blocks))

@@ -158,7 +158,7 @@ module _ (write : Term Name → List ℕ) (table formula cells text : List ℕ) 
       never-wrong = expansion.never-wrong (passes .table) (passingOf passes) body matches derives
 
     -- Normalizing preserves typing (001, section 4.2): each production of the normalized grammar has the signature of its nonterminal.
-    pub productions-sorted : {n : ℕ} {p : Production} → Of (syntax .productions) n p → (S : Signature) × Newest (passes .meets .elaborates .env) n S
+    pub productions-sorted : {n : ℕ} {p : Production} → Of (syntax .productions) n p → (S : Signature) × Newest (passes .meets .elaborates .last .env) n S
         × Body (scopeOf (passes .meets .elaborates)) (S .params) (p .items) (p .result) (S .result)
     productions-sorted = expansion.productions-sorted (passes .table) (passingOf passes)
 
