@@ -30,8 +30,7 @@ use Rattle.expansion.proofs.Shows.{Grown, grown-not, grown-trans}
 use Rattle.texts.specs.ReadingRules.{TextTaken}
 use Rattle.texts.proofs.TextChoice.{taken-of, taken-chosen}
 use Rattle.texts.proofs.TextSetting.{Kept}
-use Rattle.texts.proofs.TextRun.{Finished, finished}
-use Rattle.texts.proofs.TextValues.{show-none, show-and, Values, ValueDerives, Returned, TextReader, wholeInput, Lends}
+use Rattle.texts.proofs.TextValues.{Finished, finished, show-none, show-and, Values, ValueDerives, Returned, TextReader, wholeInput, Lends}
 use Rattle.texts.proofs.TextValues.{lends-whole, lends-inner, Shown, shown-later, arguments-built, result-built, choice-picked}
 
 module _ {G : Scope} {g : List Production} {values : Values (G .outsides)} (reader : TextReader G g values) (passed : checkFirsts g ≡ ok tt) where
