@@ -16,6 +16,7 @@ use Rattle.expansion.specs.Costs.{rowsIn, Affords}
 use Rattle.texts.specs.Substitution.{substitute, templateList}
 use Rattle.texts.specs.ReadingRules.{TextDerives}
 use Rattle.texts.proofs.Showing.{ShowsTemplate}
+use Rattle.texts.proofs.TextChoice.{taken-one}
 use Rattle.texts.proofs.TextSetting.{TextSetting, strictInput}
 use Rattle.texts.proofs.TextValues.{Finished}
 use Rattle.texts.proofs.SameCosts.{same-affords}
@@ -30,7 +31,7 @@ module _ {G : Scope} {g : List Production} (setting : TextSetting G g) (passed :
   unfolding substitute templateList
   text-run n S cells newest e room d affords =
       let w = text-derived d in
-      let k = run-done (template-reader setting) passed n S cells newest e refl room (w .rule) (same-affords w affords) in
+      let k = run-done (template-reader setting) (λ m ts p q. taken-one g passed) n S cells newest e refl room (w .rule) (same-affords w affords) in
       record {
         value = k .value;
         state = k .state;

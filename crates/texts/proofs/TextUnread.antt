@@ -34,6 +34,7 @@ use Rattle.texts.specs.Reading.{TextContext, lexiconFor, rowsLeft, hasNu
 use Rattle.texts.specs.Reading.{reading, readingOf, isSmall, TextRead, checkReading}
 use Rattle.texts.specs.ReadingRules.{ReadText}
 use Rattle.texts.specs.Unread.{sizeUnder, SizeDerives, Readable, Unread, unread-26, unread-27, unread-28, unread-9, unread-11}
+use Rattle.texts.proofs.TextChoice.{taken-one}
 use Rattle.texts.proofs.TextAccepted.{TextPlace, done-as, scanned-as}
 use Rattle.texts.proofs.TextComplete.{read-accepted}
 use Rattle.texts.proofs.TextValues.{Any, TextReader}
@@ -121,7 +122,7 @@ module _ {G : Scope} {P : TextContext} {L : List ℕ} {n : ℕ} {S : Signature} 
         → (r : Reading) × (readingBy binders ts ≡ reading r) × (r .isFresh ≡ ltb 1 counter) × (rowsOf (r .template) ≡ size)
     unfolding sizeUnder
     sized-read d affords =
-        let k = run-done reader passed n S cells (place .newest) (place .without) refl room d affords in (
+        let k = run-done reader (λ m us p q. taken-one (P .productions) passed) n S cells (place .newest) (place .without) refl room d affords in (
           record { template = textTemplate (k .state .made) (k .cells) (S .result) (k .value); made = k .state .made; isFresh = ltb 1 (k .state .fresh) },
           ap (readingOf (S .result)) (k .is),
           ap (λ i. ltb 1 i) (k .holds .1),

@@ -1,7 +1,7 @@
 -- What a text's reading may give: values of any kind, what shows them, what reads them and what templates give. The run of a text and Figure 3 are joined once
 -- for all of them (ValueReading, ValueRun).
 use Prim.Native.Nat.{ℕ, _+_, _*_, _≤_, _<_}
-use mathlib.Core.Path.{_≡_, refl, subst, _∙_}
+use mathlib.Core.Path.{_≡_, refl, ap, subst, _∙_}
 use mathlib.Core.Bool.{Bool, true, false}
 use mathlib.Core.List.{List, [], _∷_, _++_}
 use native.Mathlib.Omega.{arith}
@@ -19,14 +19,15 @@ use Rattle.judgements.specs.Judgements.{Newest, Fits, Sorted, Fill, ItemSorted}
 use Rattle.expansion.specs.declared.State.{State}
 use Rattle.expansion.specs.Run.{Result, done, halt, Run}
 use Rattle.expansion.specs.Figure3.{_⊢⟨_∣_⟩_⇒⟨_∣_⟩_}
-use Rattle.expansion.specs.Expansion.{Input, nextToken, tokenTaken, build, buildAll, runItem, choice}
+use Rattle.expansion.specs.Expansion.{Input, Choice, chosen, nextToken, tokenTaken, build, buildAll, runItem, choice}
 use Rattle.expansion.specs.Costs.{rowsOf, rowsOfAll}
 use Rattle.expansion.proofs.CallLaws.{inner, inner-grammar, inner-tokens, inner-rows}
+use Rattle.expansion.proofs.Choosing.{rule}
 use Rattle.expansion.proofs.Endings.{Ends, Made, Full}
 use Rattle.expansion.proofs.Shows.{Grown, grown-not}
 use Rattle.texts.specs.Reading.{readyText}
 use Rattle.texts.specs.ReadingRules.{TextTaken}
-use Rattle.texts.proofs.TextChoice.{TextPicks}
+use Rattle.texts.proofs.TextChoice.{TextPicks, picks, picks-none}
 use Rattle.texts.proofs.TextSorts.{AllSorted}
 use Rattle.texts.proofs.TextSetting.{Kept}
 
@@ -53,6 +54,18 @@ pub finished : {A : Type 0} (P : A → State → List ℕ → Type 0) (H : Refus
     → Finished P result
 finished P H (done a s cells) p h = record { value = a; state = s; cells = cells; is = refl; holds = p }
 finished P H (halt r cells) p h = absurd (h r p)
+
+-- ------------------------------------------------------------------ the production that is taken
+
+-- the tokens take one production of a nonterminal at most
+abbrev pub TakenOnce : List Production → Type 0
+TakenOnce g = (n : ℕ) (s : List Token) (p q : Production) → TextTaken g n s p → TextTaken g n s q → p ≡ q
+
+-- A choice that picks what the tokens take then picks it.
+pub once-chosen : {g : List Production} {n : ℕ} {s : List Token} {p : Production} {given-choice : Choice} → TakenOnce g → TextTaken g n s p
+    → TextPicks g n s given-choice → given-choice ≡ chosen (rule g p)
+once-chosen {g} {n} {s} {p} once t (picks q u e) = e ∙ ap (λ r. chosen (rule g r)) (once n s q p u t)
+once-chosen {p = p} once t (picks-none f e) = absurd (f p t)
 
 -- ------------------------------------------------------------------ numbers that show values
 
