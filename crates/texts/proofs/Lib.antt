@@ -4,6 +4,11 @@ pub mod TextsHang
 pub mod TextChoice
 pub mod TextSorts
 pub mod TextSetting
+pub mod TextValues
+pub mod TextTerminals
+pub mod SameCosts
+pub mod ValueReading
+pub mod ValueRun
 pub mod TextReading
 pub mod TextRun
 pub mod MoreRows
@@ -11,9 +16,6 @@ pub mod TwoRooms
 pub mod TextScan
 pub mod TextAccepted
 pub mod TextComplete
-pub mod TextValues
-pub mod ValueReading
-pub mod ValueRun
 pub mod Sizes
 pub mod SizeReading
 pub mod SizeRules

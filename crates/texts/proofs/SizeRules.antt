@@ -1,6 +1,6 @@
 -- What a derivation over sizes says of its tokens, its counter and words at a Binder, and what a scan says of a text's tokens.
-use Prim.Native.Nat.{ℕ, zero, suc, _+_, _≤_, _<_, max}
-use mathlib.Core.Path.{_≡_, refl, ap, ap₂, _∙_}
+use Prim.Native.Nat.{ℕ, zero, suc, _≤_, _<_}
+use mathlib.Core.Path.{_≡_, refl, ap, _∙_}
 use mathlib.Core.Bool.{Bool, true, false, _||_}
 use mathlib.Core.List.{List, [], _∷_}
 use native.Mathlib.Omega.{arith}
@@ -17,11 +17,11 @@ use Rattle.tokens.specs.Tiling.{Stands, a-keyword, a-keyword-symbol, an-outside
 use Rattle.tokens.specs.Tiling.{Tiled, here, past-separator, past-token}
 use Rattle.productions.specs.Normal.{Production}
 use Rattle.expansion.specs.Figure3.{by-end, by-terminal, by-call}
-use Rattle.expansion.specs.Costs.{rowsOf, rowsOfAll, openIn, callsIn, rowsIn, Affords}
 use Rattle.texts.specs.Reading.{hasNumber}
 use Rattle.texts.specs.Unread.{SizeReads, by-keyword, by-variable, by-word, by-local, SizeDerives}
 use Rattle.texts.proofs.TextScan.{no-number}
-use Rattle.texts.proofs.SizeReading.{TextTokens}
+use Rattle.texts.proofs.SameCosts.{SameCosts, same-end, same-terminal, same-call}
+use Rattle.texts.proofs.TextTerminals.{TextTokens}
 
 -- ------------------------------------------------------------------ numbers and the counter
 
@@ -64,45 +64,12 @@ terminal-wider (by-variable A e f) = by-variable A e f
 terminal-wider (by-word e f) = by-word e (λ z. refl)
 terminal-wider by-local = by-local
 
--- a derivation with words at a Binder that costs as much as one without
-record Wider {g : List Production} {M M′ : List ℕ} {s s′ : List Token} {i i′ : ℕ} {ps : List Item} (d : SizeDerives false g M s i ps s′ i′ M′) : Type 0 where
-  -- the derivation
-  rule : SizeDerives true g M s i ps s′ i′ M′
-  -- as many calls are open
-  same-open : openIn rule ≡ openIn d
-  -- as many are begun
-  same-calls : callsIn rule ≡ callsIn d
-  -- as many rows are made
-  same-rows : rowsIn rule ≡ rowsIn d
-
-derived-wider : {g : List Production} {M M′ : List ℕ} {s s′ : List Token} {i i′ : ℕ} {ps : List Item} (d : SizeDerives false g M s i ps s′ i′ M′) → Wider d
-unfolding openIn callsIn rowsIn
-derived-wider by-end = record { rule = by-end; same-open = refl; same-calls = refl; same-rows = refl }
-derived-wider (by-terminal e d) =
-    let w = derived-wider d in
-    record { rule = by-terminal (terminal-wider e) (w .rule); same-open = w .same-open; same-calls = w .same-calls; same-rows = w .same-rows }
-derived-wider (by-call {ts = ts} {p = p} vs t d v d′) =
-    let w = derived-wider d in
-    let w′ = derived-wider d′ in
-    record {
-      rule = by-call vs t (w .rule) v (w′ .rule);
-      same-open = ap₂ (λ m n. max (m + 1) n) (w .same-open) (w′ .same-open);
-      same-calls = ap₂ (λ m n. m + 1 + n) (w .same-calls) (w′ .same-calls);
-      same-rows = ap₂ (λ m n. rowsOfAll ts + m + rowsOf (p .result) + n) (w .same-rows) (w′ .same-rows);
-    }
-
--- What is derived without a word at a Binder within the limits is so derived where words may stand there.
-pub affords-wider : {g : List Production} {M M′ : List ℕ} {s s′ : List Token} {i i′ rows : ℕ} {ps : List Item} (d : SizeDerives false g M s i ps s′ i′ M′)
-    → Affords rows 0 0 0 d → (e : SizeDerives true g M s i ps s′ i′ M′) × Affords rows 0 0 0 e
-affords-wider d a =
-    let w = derived-wider d in (
-      w .rule,
-      record {
-        few-open = omega (arith, w .same-open, a .few-open);
-        few-calls = omega (arith, w .same-calls, a .few-calls);
-        few-rows = omega (arith, w .same-rows, a .few-rows);
-      },
-    )
+-- What is derived without a word at a Binder is so derived where words may stand there, at the same cost.
+pub derived-wider : {g : List Production} {M M′ : List ℕ} {s s′ : List Token} {i i′ : ℕ} {ps : List Item} (d : SizeDerives false g M s i ps s′ i′ M′)
+    → SameCosts (SizeReads true) d
+derived-wider by-end = same-end
+derived-wider (by-terminal e d) = same-terminal (terminal-wider e) (derived-wider d)
+derived-wider (by-call vs t d v d′) = same-call (derived-wider d) (derived-wider d′)
 
 -- ------------------------------------------------------------------ tokens of a scan
 

@@ -193,7 +193,7 @@ module _ {G : Scope} {P : TextContext} {L : List ℕ} {n : ℕ} {S : Signature} 
       let cells : List ℕ = replicate (rowsLeft P * columns) 0 in
       let room : rowsLeft P * columns ≤ length cells = omega (arith, length-replicate {A = ℕ} (rowsLeft P * columns) 0) in
       let q : Reads setting n (d .value) (d .state) (d .cells) =
-      subst (Ends (Reads setting n) (λ u. Unit {0})) (d .is) (run-reads setting n S cells (place .newest) room) in
+      subst (Ends (Reads setting n) (λ u. Unit {0})) (d .is) (run-reads setting n S cells (place .newest) (place .without) room) in
       let fresh : d .state .fresh ≡ 1 = omega (arith, q .counted, ltb-false 1 (d .state .fresh) (d .fresh-is ∙ not-fresh)) in
       let w =
       text-read setting n S cells (place .newest) (place .without) room names (omega (arith, place .outsides-are, place .few-outsides)) (place .short)

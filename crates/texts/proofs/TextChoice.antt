@@ -252,8 +252,7 @@ module _ (g : List Production) where
     taken-one {other = other} (taken-nullable o h z) (taken-opened k j) = absurd (h other k j)
     taken-one {nonterminal} {s} {p} {other} (taken-nullable o h z) (taken-nullable k j y) = one-production g passed nonterminal p other o k .1 z y
 
-    -- What the tokens take is what a choice picks.
-    pub taken-chosen : {nonterminal : ℕ} {s : List Token} {p : Production} {given-choice : Choice} → TextTaken g nonterminal s p
+    taken-chosen : {nonterminal : ℕ} {s : List Token} {p : Production} {given-choice : Choice} → TextTaken g nonterminal s p
         → TextPicks nonterminal s given-choice → given-choice ≡ chosen (rule g p)
     taken-chosen t (picks q u e) = e ∙ ap (λ r. chosen (rule g r)) (taken-one u t)
     taken-chosen {p = p} t (picks-none f e) = absurd (f p t)

@@ -36,7 +36,7 @@ use Rattle.texts.specs.ReadingRules.{TextReads, by-keyword, by-variable,
 use Rattle.texts.proofs.TextSorts.{AllNamed, text-sorted}
 use Rattle.texts.proofs.TextSetting.{TextSetting}
 use Rattle.texts.proofs.TextReading.{read-standing}
-use Rattle.texts.proofs.TextRun.{Finished, text-run}
+use Rattle.texts.proofs.TextRun.{text-run}
 use Rattle.texts.proofs.TextScan.{tiled-named, text-setting}
 use Rattle.texts.proofs.TextAccepted.{TextPlace}
 
@@ -123,7 +123,7 @@ module _ {G : Scope} {P : TextContext} {L : List ℕ} {n : ℕ} {S : Signature} 
       subst (λ N. AllNamed N L (read .tokens)) (sym (place .outsides-are)) (tiled-named (lexiconFor P L n) few (place .sorts) (read .tiled) none-other) in
       let cells : List ℕ = replicate (rowsLeft P * columns) 0 in
       let room : rowsLeft P * columns ≤ length cells = omega (arith, length-replicate {A = ℕ} (rowsLeft P * columns) 0) in
-      let k = text-run setting passed n S cells (place .newest) room (read .derived) (read .affords) in
+      let k = text-run setting passed n S cells (place .newest) (place .without) room (read .derived) (read .affords) in
       let fresh : ltb 1 (k .state .fresh) ≡ false = le-ltb 1 (k .state .fresh) (omega (arith, k .holds .1)) in
       let same : textTemplate (k .state .made) (k .cells) (S .result) (k .value) ≡ t =
       read-standing setting (k .cells) t (omega (arith, place .outsides-are, place .few-outsides)) (place .short)

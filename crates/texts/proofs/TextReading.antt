@@ -1,82 +1,114 @@
--- A text that is run to its end without a fresh name is derived by the rules, and its cells show the template derived.
-use Prim.Native.Nat.{ℕ, zero, suc, _+_, _-_, _*_, _≤_, _<_, max}
-use mathlib.Core.Path.{_≡_, refl, sym, ap, subst, subst⁻¹, subst₂, _∙_}
-use mathlib.Core.Bool.{Bool, true, false, true≢false, not, _&&_}
-use mathlib.Core.List.{List, [], _∷_, _++_, map}
+-- A text that is run to its end without a fresh name is derived by the rules, and its cells show the template derived: templates as values of a reading.
+use Prim.Native.Nat.{ℕ, zero, suc, _+_, _*_, _≤_, _<_}
+use mathlib.Core.Path.{_≡_, refl, sym, ap, subst, subst⁻¹, _∙_}
+use mathlib.Core.Bool.{true, false, true≢false}
+use mathlib.Core.List.{List, [], _∷_}
 use native.Mathlib.Omega.{arith}
-use native.Mathlib.Numerals.{add-one}
-use lib.Dec.{eqb, ltb}
-use lib.ListN.{length, getD, drop, drop-of-length-le, List·getD-eq-default}
-use lib.Seq.{drop-cons}
-use borrow.Author.Tests.{eqb-true, eqb-false, eq-eqb, ltb-true, ltb-false}
+use lib.Dec.{eqb}
+use lib.ListN.{length, drop}
+use borrow.Author.Tests.{eqb-false, eq-eqb, ne-eqb}
 use Rattle.spellings.proofs.BytesLaws.{by-test}
-use Rattle.answers.specs.declared.Refusal.{Refusal}
-use Rattle.answers.specs.Refusals.{refusal}
-use Rattle.kinds.specs.Kinds.{only, wordKind, numberKind, keywordKind, noKind}
+use Rattle.kinds.specs.Kinds.{wordKind, numberKind, keywordKind, noKind}
 use Rattle.kinds.specs.TextKinds.{variableKind, outsideKind, sortOfKind}
-use Rattle.grammar.specs.Limits.{most}
 use Rattle.grammar.specs.Sorts.{Signature, unit, var, binder, label}
 use Rattle.grammar.specs.SortTests.{fits}
-use Rattle.grammar.specs.Table.{Template, Templates, variable, outsideVar, outsideLabel, none, keyword, ide, number, Item, terminal, local, call}
+use Rattle.grammar.specs.Table.{Template, Templates, variable, outsideVar, outsideLabel, none, more, keyword, ide, number, Item, terminal, local, call}
 use Rattle.terms.specs.Cells.{columns, nameBase, freshName}
 use Rattle.tokens.specs.declared.Token.{Token}
-use Rattle.tokens.specs.Tokens.{endToken}
 use Rattle.tokens.specs.Variables.{variableName}
 use Rattle.productions.specs.Normal.{Production}
 use Rattle.judgements.specs.Scopes.{Scope}
-use Rattle.judgements.specs.Judgements.{Newest, Sorted, Fill, ItemSorted, Body, by-result, by-binding}
+use Rattle.judgements.specs.Judgements.{Newest, Sorted, Fits, Fill, fill-none, fill-more, ItemSorted}
 use Rattle.judgements.specs.Judgements as Judgements
-use Rattle.judgements.proofs.TemplateSorts.{both, either}
 use Rattle.expansion.specs.declared.State.{State}
-use Rattle.expansion.specs.Run.{Result, done, halt, Run, after}
-use Rattle.expansion.specs.Limits.{mostCalls, mostOpen}
-use Rattle.expansion.specs.Figure3.{by-end, by-terminal, by-call}
-use Rattle.expansion.specs.TextTokens.{readValue, isTextKind, isOutsideKind, meetsIde, ideValue}
-use Rattle.expansion.specs.Expansion.{Input, Rule, Choice, unfit, chosen, nextToken, tokenTaken, misfit, takeToken, takeTerminal}
-use Rattle.expansion.specs.Expansion.{build, buildAll, runItem, runItems, choice, callBegun, runCall, initialState, ended, run}
-use Rattle.expansion.specs.Costs.{rowsOf, rowsOfAll, openIn, callsIn, rowsIn, Affords}
+use Rattle.expansion.specs.Run.{Result, done, Run}
+use Rattle.expansion.specs.Figure3.{_⊢⟨_∣_⟩_⇒⟨_∣_⟩_, by-end, by-terminal, by-call}
+use Rattle.expansion.specs.TextTokens.{readValue, isOutsideKind, meetsIde, ideValue}
+use Rattle.expansion.specs.Expansion.{Input, nextToken, tokenTaken, takeTerminal, build, buildAll, runItem, run}
+use Rattle.expansion.specs.Costs.{rowsOf, rowsOfAll, rowsIn, Affords}
 use Rattle.expansion.proofs.AsBefore.{terminal-met, terminal-unmet}
-use Rattle.expansion.proofs.CallLaws.{inner, call-full, call-unfit, call-chosen}
-use Rattle.expansion.proofs.Endings.{Ends, ends-after, ends-map, Made, Full}
-use Rattle.expansion.proofs.Shows.{Grown, grown-not, grown-trans}
+use Rattle.expansion.proofs.Endings.{Ends, ends-map, Made, Full}
 use Rattle.copying.specs.RowTemplates.{unitTemplate, rowTemplate, textTemplate}
 use Rattle.copying.proofs.ValueLaws.{at-unit}
 use Rattle.texts.specs.Substitution.{substitute, substituteAll, templateList}
-use Rattle.texts.specs.Reading.{readyText, asOutside}
 use Rattle.texts.specs.ReadingRules.{TextTaken, TextReads, by-keyword, by-variable, by-global, by-label, TextDerives}
-use Rattle.texts.proofs.Showing.{ShowsTemplate, shows-variable, shows-var, shows-label, ShowTemplates, show-none, all-later}
+use Rattle.texts.proofs.Showing.{ShowsTemplate, shows-variable, shows-var, shows-label, shows-later, ShowTemplates, show-none, show-more}
+use Rattle.texts.proofs.Showing.{build-ends, build-all-ends}
 use Rattle.texts.proofs.ReadBack.{read-back}
-use Rattle.texts.proofs.TextChoice.{takes, taken-of}
 use Rattle.texts.proofs.TextSorts.{Standing, standing-sorted, standing-unit, AllNamed, text-sorted}
-use Rattle.texts.proofs.TextSetting.{TextSetting, Kept, as-many, same-value, kind-before, was-word, no-word, outsideValue, outside-value, variable-value}
-use Rattle.texts.proofs.TextSetting.{all-and, strictInput, Provides, provides-whole, provides-inner, next-is, choice-is, built, built-all}
+use Rattle.texts.proofs.TextSetting.{TextSetting, Kept, outside-token, same-value, outsideValue, outside-value, variable-value, strictInput}
+use Rattle.texts.proofs.TextValues.{Any, Finished, isCall, ShowAll, Values, Returned, Step, token-returned, fresh-returned, TextReader}
+use Rattle.texts.proofs.TextValues as Values
+use Rattle.texts.proofs.TextTerminals.{Meets, meets-variable, meets-outside, meets-rule, variable-met, outside-met, seen-many, seen-kind, seen-outside}
+use Rattle.texts.proofs.TextTerminals.{seen-other, seen-word, seen-picks, here, from-here, first-left, next-is, kind-is, take-ends, kind-taken}
+use Rattle.texts.proofs.TextTerminals.{next-token, allSeen, seen}
+use Rattle.texts.proofs.SameCosts.{SameCosts, same-end, same-terminal, same-call, same-affords}
+use Rattle.texts.proofs.ValueReading.{ReadWhole, run-derived}
 
-abbrev Any : Refusal → Type 0
-Any r = Unit {0}
+-- ------------------------------------------------------------------ templates as values
 
--- ------------------------------------------------------------------ what an ide reads
+-- what a text's terminals read; and a fresh name, which no rule of a text makes
+pub data TemplateReads : List Token → ℕ → Item → List Token → ℕ → Template → Type 0 where
+  as-text : {s s′ : List Token} {i i′ : ℕ} {p : Item} {v : Template} → TextReads s i p s′ i′ v → TemplateReads s i p s′ i′ v
+  as-fresh : {s : List Token} {i : ℕ} → TemplateReads s i local s (i + 1) (outsideLabel (freshName i))
 
-negated : (b : Bool) → not b ≡ true → b ≡ false
-negated true h = absurd (true≢false (sym h))
-negated false h = refl
+-- Neither is a call.
+pub no-call : {s s′ : List Token} {i i′ : ℕ} {p : Item} {v : Template} → TemplateReads s i p s′ i′ v → isCall p ≡ false
+no-call (as-text (by-keyword e)) = refl
+no-call (as-text (by-variable A n e f w)) = refl
+no-call (as-text (by-global e l)) = refl
+no-call (as-text (by-label e l)) = refl
+no-call as-fresh = refl
 
--- a variable that fits, or an outside name that is no Binder
-pub data Meets (kind B : ℕ) : Type 0 where
-  meets-variable : noKind < kind → isOutsideKind kind ≡ false → fits (sortOfKind kind) B ≡ true → Meets kind B
-  meets-outside : kind ≡ outsideKind → (B ≡ binder → ⊥) → Meets kind B
+-- numbers show templates whatever their sorts are
+abbrev AllShown : List ℕ → ℕ → List ℕ → List ℕ → List Template → Type 0
+AllShown cells made L xs M = ShowAll (λ B x t. ShowsTemplate cells made x t) L xs M
 
--- What an ide of a text reads is one of these.
-pub meets-rule : (kind B : ℕ) → meetsIde kind B ≡ true → Meets kind B
-unfolding meetsIde
-meets-rule kind B h =
-    either (isTextKind kind && not (isOutsideKind kind) && fits (sortOfKind kind) B) (isOutsideKind kind && not (eqb B binder)) h
-    (λ e.
-    let k = both (isTextKind kind && not (isOutsideKind kind)) (fits (sortOfKind kind) B) e in
-    let l = both (isTextKind kind) (not (isOutsideKind kind)) (k .0) in
-    meets-variable (ltb-true noKind kind (l .0)) (negated (isOutsideKind kind) (l .1)) (k .1))
-    (λ e.
-    let k = both (isOutsideKind kind) (not (eqb B binder)) e in
-    meets-outside (eqb-true kind outsideKind (k .0)) (eqb-false B binder (negated (eqb B binder) (k .1))))
+without-sorts : {cells : List ℕ} {made : ℕ} {L xs : List ℕ} {M : List Template} → AllShown cells made L xs M → ShowTemplates made cells xs M
+without-sorts Values.show-none = show-none
+without-sorts (Values.show-more h hs) = show-more h (without-sorts hs)
+
+with-sorts : {N : ℕ} {L Bs xs : List ℕ} (M : List Template) {cells : List ℕ} {made : ℕ} (ts : Templates) → Fill N L ts Bs
+    → ShowTemplates made cells xs (templateList (substituteAll M ts)) → AllShown cells made Bs xs (templateList (substituteAll M ts))
+unfolding templateList substitute
+with-sorts M none fill-none show-none = Values.show-none
+with-sorts M (more t ts) (fill-more h f fs) (show-more k ks) = Values.show-more k (with-sorts M ts fs ks)
+
+-- A template that is built is shown,
+pub template-built : {N : ℕ} (input : Input) {L : List ℕ} {A B : ℕ} {M : List Template} (t : Template) {xs : List ℕ} (s : State) (cells : List ℕ)
+    → Sorted N L t A → Fits A B → input .rows * columns ≤ length cells → s .made ≤ input .rows → AllShown cells (s .made) L xs M
+    → Ends (λ x s′ c′. Made (input .rows) (rowsOf t) s cells s′ c′ × ShowsTemplate c′ (s′ .made) x (substitute M t)) (Full (input .rows) (s .made + rowsOf t))
+    (build t input xs s cells)
+template-built input t s cells w f room fit a = build-ends input t s cells w room fit (without-sorts a)
+
+-- and so are templates.
+pub templates-built : {N : ℕ} (input : Input) {L Bs : List ℕ} {M : List Template} (ts : Templates) {xs : List ℕ} (s : State) (cells : List ℕ)
+    → Fill N L ts Bs → input .rows * columns ≤ length cells → s .made ≤ input .rows → AllShown cells (s .made) L xs M
+    → Ends (λ ys s′ c′. Made (input .rows) (rowsOfAll ts) s cells s′ c′ × AllShown c′ (s′ .made) Bs ys (templateList (substituteAll M ts)))
+    (Full (input .rows) (s .made + rowsOfAll ts)) (buildAll ts input xs s cells)
+templates-built input {Bs = Bs} {M = M} ts {xs = xs} s cells w room fit a =
+    ends-map (λ ys s′ c′. Made (input .rows) (rowsOfAll ts) s cells s′ c′ × ShowTemplates (s′ .made) c′ ys (templateList (substituteAll M ts)))
+    (Full (input .rows) (s .made + rowsOfAll ts))
+    (λ ys s′ c′. Made (input .rows) (rowsOfAll ts) s cells s′ c′ × AllShown c′ (s′ .made) Bs ys (templateList (substituteAll M ts)))
+    (Full (input .rows) (s .made + rowsOfAll ts)) (buildAll ts input xs s cells) (build-all-ends input ts s cells w room fit (without-sorts a))
+    (λ ys s′ c′ b. (b .0, with-sorts M ts w (b .1))) (λ r h. h)
+
+-- Templates as values of a reading.
+abbrev pub templateValues : (N : ℕ) → Values N
+templateValues N =
+    record {
+      Value = Template;
+      Shows = λ cells made B x t. ShowsTemplate cells made x t;
+      Reads = TemplateReads;
+      give = substitute;
+      giveAll = λ M ts. templateList (substituteAll M ts);
+      later = shows-later;
+      built = template-built {N = N};
+      built-all = templates-built {N = N};
+      no-call = no-call;
+    }
+
+-- ------------------------------------------------------------------ terminals
 
 at-ide : (P : ℕ → Type 0) (B : ℕ) → var ≤ B → B ≤ label → (B ≡ binder → ⊥) → P var → P label → P B
 at-ide P zero l h n a b = absurd (omega arith)
@@ -85,372 +117,212 @@ at-ide P (suc (suc zero)) l h n a b = absurd (n refl)
 at-ide P (suc (suc (suc zero))) l h n a b = b
 at-ide P (suc (suc (suc (suc B)))) l h n a b = absurd (omega arith)
 
--- ------------------------------------------------------------------ items
-
 module _ {G : Scope} {g : List Production} (setting : TextSetting G g) where
   abbrev tokens : List Token
   tokens = setting .tokens
 
-  abbrev rows : ℕ
-  rows = setting .rows
+  -- the next token
+  abbrev next-here : State → Token
+  next-here s = here tokens s
 
-  -- the tokens that are left, and the first of them
-  abbrev from : State → List Token
-  from s = drop (s .at) tokens
+  -- a terminal read so
+  abbrev Stepped : Item → ℕ → State → List ℕ → ℕ → State → List ℕ → Type 0
+  Stepped item B s cells x s′ cells′ = Step (templateValues (G .outsides)) tokens (setting .rows) item B s cells x s′ cells′
 
-  abbrev here : State → Token
-  here s = getD tokens (s .at) endToken
-
-  from-here : (s : State) → (here s .kind ≡ noKind → ⊥) → from s ≡ here s ∷ drop (s .at + 1) tokens
-  from-here s h =
-      by-test (ltb (s .at) (length tokens))
-      (λ b. let l = ltb-true (s .at) (length tokens) b in rw (add-one (s .at)) (drop-cons tokens (s .at) endToken l))
-      (λ b. absurd (h (ap (λ t. t .kind) (List·getD-eq-default tokens endToken (ltb-false (s .at) (length tokens) b)))))
-
-  -- a derivation with what it costs: no more than so many calls are open at once, and calls and rows are counted on from numbers
-  record Derived (depth : ℕ) (M : List Template) (ts : List Token) (calls made : ℕ) (is : List Item) (ts′ : List Token) (calls′ made′ : ℕ)
-      (M′ : List Template) : Type 0 where
-    -- the derivation
-    rule : TextDerives g M ts 1 is ts′ 1 M′
-    -- its open calls
-    few-open : openIn rule ≤ depth
-    -- its calls
-    all-calls : calls + callsIn rule ≡ calls′
-    -- its rows
-    all-rows : made + rowsIn rule ≡ made′
-
-  -- an item read: its value, and a derivation of the items behind gives one of these, if no fresh name was made
-  record Stepped (depth : ℕ) (item : Item) (M : List Template) (s : State) (cells : List ℕ) (x : ℕ) (s′ : State) (cells′ : List ℕ) : Type 0 where
-    -- its template
-    value : Template
-    -- the number shows it
-    shows : ShowsTemplate cells′ (s′ .made) x value
-    -- fresh names are not given back
-    grows : s .fresh ≤ s′ .fresh
-    -- rows are added only
-    grown : Grown (s .made) cells (s′ .made) cells′
-    -- the room is kept
-    kept : Kept rows s′ cells′
-    -- no more calls are begun than there may be
-    few-calls : s .calls ≤ mostCalls → s′ .calls ≤ mostCalls
-    -- the items behind it go on from here
-    step : s′ .fresh ≡ s .fresh → (is : List Item) (M′ : List Template) (left : List Token) (calls′ made′ : ℕ)
-        → Derived depth (M ++ (value ∷ [])) (from s′) (s′ .calls) (s′ .made) is left calls′ made′ M′
-        → Derived depth M (from s) (s .calls) (s .made) (item ∷ is) left calls′ made′ M′
-
-  taken-as : (depth : ℕ) (item : Item) (M : List Template) (s : State) (cells : List ℕ) (x : ℕ) (value : Template) → (here s .kind ≡ noKind → ⊥)
-      → Kept rows s cells → ShowsTemplate cells (s .made) x value → TextReads (here s ∷ drop (s .at + 1) tokens) 1 item (drop (s .at + 1) tokens) 1 value
-      → Stepped depth item M s cells x (tokenTaken s) cells
-  unfolding openIn callsIn rowsIn
-  taken-as depth item M s cells x value h k w r =
+  -- a token that a rule reads
+  stepped : (item : Item) (B : ℕ) (s : State) (cells : List ℕ) (x : ℕ) (v : Template) → Kept (setting .rows) s cells → ShowsTemplate cells (s .made) x v
+      → (next-here s .kind ≡ noKind → ⊥)
+      → TextReads (next-here s ∷ drop (s .at + 1) tokens) (s .fresh) item (drop (s .at + 1) tokens) (s .fresh) v
+      → Stepped item B s cells x (tokenTaken s) cells
+  stepped item B s cells x v kept w h r =
       record {
-        value = value;
-        shows = w;
-        grows = omega arith;
-        grown = grown-not (s .made) cells;
-        kept = record { room = k .room; fits = k .fits };
-        few-calls = λ l. l;
-        step = λ e is M′ left calls′ made′ d.
-            subst (λ ts. Derived depth M ts (s .calls) (s .made) (item ∷ is) left calls′ made′ M′) (sym (from-here s h))
-            (record { rule = by-terminal r (d .rule); few-open = d .few-open; all-calls = d .all-calls; all-rows = d .all-rows });
+        value = v;
+        rule =
+            as-text (subst (λ ts. TextReads ts (s .fresh) item (drop (s .at + 1) tokens) (s .fresh) v) (sym (from-here tokens s h)) r);
+        returned = token-returned s cells kept w refl refl;
       }
 
-  module _ {lent : Input} (provides : Provides setting lent) where
-    take-ends : (P : ℕ → State → List ℕ → Type 0) (kind : ℕ) (value : ℕ → ℕ) (s : State) (cells : List ℕ)
-        → (asOutside (here s) .kind ≡ kind → P (value (here s .value)) (tokenTaken s) cells) → Ends P Any (takeToken lent kind value s cells)
-    take-ends P kind value s cells f = go (eqb (nextToken lent s .kind) kind) refl
-      where
-        go : (test : Bool) → eqb (nextToken lent s .kind) kind ≡ test
-            → Ends P Any (elim test [ true ↦ done (value (nextToken lent s .value)) (tokenTaken s) cells | false ↦ misfit (only kind) s cells ])
-        go true e =
-            let q : asOutside (here s) .kind ≡ kind = ap (λ t. t .kind) (sym (next-is setting provides s)) ∙ eqb-true (nextToken lent s .kind) kind e in
-            let v : nextToken lent s .value ≡ here s .value = ap (λ t. t .value) (next-is setting provides s) ∙ same-value (here s) in
-            subst (λ y. P (value y) (tokenTaken s) cells) (sym v) (f q)
-        go false e = tt
+  module _ (input : Input) (tokens-are : input .tokens ≡ allSeen false tokens) (s : State) (cells : List ℕ) (kept : Kept (setting .rows) s cells) where
+    -- a variable where an ide is read
+    variable-stepped : (B kind : ℕ) → seen false (next-here s) .kind ≡ kind → noKind < kind → isOutsideKind kind ≡ false
+        → fits (sortOfKind kind) B ≡ true → Stepped (terminal (ide B)) B s cells (next-here s .value) (tokenTaken s) cells
+    variable-stepped B kind e l o f =
+        let q : next-here s .kind ≡ kind = seen-kind false (next-here s) e (eqb-false kind outsideKind o) in
+        let n : next-here s .value ≡ variableName (setting .name (s .at)) = setting .named (s .at) (omega arith) in
+        stepped (terminal (ide B)) B s cells (next-here s .value) (variable (setting .name (s .at))) kept
+        (subst (λ y. ShowsTemplate cells (s .made) y (variable (setting .name (s .at)))) (sym n) shows-variable) (λ z. omega arith)
+        (by-variable (sortOfKind kind) (setting .name (s .at)) (omega arith) n f)
 
-    module _ (depth : ℕ) (M : List Template) (s : State) (cells : List ℕ) (kept : Kept rows s cells) where
-      -- a variable where an ide is read
-      variable-stepped : (B kind : ℕ) → asOutside (here s) .kind ≡ kind → noKind < kind → isOutsideKind kind ≡ false → fits (sortOfKind kind) B ≡ true
-          → Stepped depth (terminal (ide B)) M s cells (here s .value) (tokenTaken s) cells
-      variable-stepped B kind e l o f =
-          let q : here s .kind ≡ kind = kind-before (here s) e (eqb-false kind outsideKind o) in
-          let n : here s .value ≡ variableName (setting .name (s .at)) = setting .named (s .at) (omega arith) in
-          taken-as depth (terminal (ide B)) M s cells (here s .value) (variable (setting .name (s .at))) (λ z. omega arith) kept
-          (subst (λ y. ShowsTemplate cells (s .made) y (variable (setting .name (s .at)))) (sym n) shows-variable)
-          (by-variable (sortOfKind kind) (setting .name (s .at)) (omega arith) n f)
+    -- an outside name
+    outside-stepped : (B : ℕ) → var ≤ B → B ≤ label → (B ≡ binder → ⊥) → next-here s .kind ≡ wordKind
+        → Stepped (terminal (ide B)) B s cells (outsideValue B (next-here s .value)) (tokenTaken s) cells
+    outside-stepped B l h n w =
+        at-ide (λ C. Stepped (terminal (ide C)) C s cells (outsideValue C (next-here s .value)) (tokenTaken s) cells) B l h n
+        (stepped (terminal (ide var)) var s cells (outsideValue var (next-here s .value)) (outsideVar (next-here s .value)) kept shows-var (λ z. omega arith)
+        (by-global w (setting .known (s .at) w)))
+        (stepped (terminal (ide label)) label s cells (next-here s .value) (outsideLabel (next-here s .value)) kept shows-label (λ z. omega arith)
+        (by-label w (setting .known (s .at) w)))
 
-      -- an outside name
-      outside-stepped : (B : ℕ) → var ≤ B → B ≤ label → (B ≡ binder → ⊥) → here s .kind ≡ wordKind
-          → Stepped depth (terminal (ide B)) M s cells (outsideValue B (here s .value)) (tokenTaken s) cells
-      outside-stepped B l h n w =
-          at-ide (λ C. Stepped depth (terminal (ide C)) M s cells (outsideValue C (here s .value)) (tokenTaken s) cells) B l h n
-          (taken-as depth (terminal (ide var)) M s cells (outsideValue var (here s .value)) (outsideVar (here s .value)) (λ z. omega arith) kept shows-var
-          (by-global w (setting .known (s .at) w)))
-          (taken-as depth (terminal (ide label)) M s cells (here s .value) (outsideLabel (here s .value)) (λ z. omega arith) kept shows-label
-          (by-label w (setting .known (s .at) w)))
-
-      ide-ends : (B : ℕ) → var ≤ B → B ≤ label → Ends (Stepped depth (terminal (ide B)) M s cells) Any (takeTerminal lent (ide B) s cells)
-      ide-ends B l h =
-          by-test (meetsIde (nextToken lent s .kind) B)
-          (λ e.
-          subst⁻¹ (Ends (Stepped depth (terminal (ide B)) M s cells) Any) (terminal-met lent (ide B) s cells e)
-          (found (meets-rule (nextToken lent s .kind) B e)))
-          (λ e.
-          subst⁻¹ (Ends (Stepped depth (terminal (ide B)) M s cells) Any) (terminal-unmet lent (ide B) s cells e)
-          (take-ends (Stepped depth (terminal (ide B)) M s cells) wordKind (readValue (ide B)) s cells (λ q. absurd (no-word (here s) q))))
-        where
-          kind-is : nextToken lent s .kind ≡ asOutside (here s) .kind
-          kind-is = ap (λ t. t .kind) (next-is setting provides s)
-
-          value-is : nextToken lent s .value ≡ here s .value
-          value-is = ap (λ t. t .value) (next-is setting provides s) ∙ same-value (here s)
-
-          found : Meets (nextToken lent s .kind) B
-              → Stepped depth (terminal (ide B)) M s cells (ideValue (nextToken lent s .kind) B (nextToken lent s .value)) (tokenTaken s) cells
-          found (meets-variable a o f) =
-              subst (λ y. Stepped depth (terminal (ide B)) M s cells y (tokenTaken s) cells)
-              (sym (variable-value (nextToken lent s .kind) B (nextToken lent s .value) o ∙ value-is))
-              (variable-stepped B (nextToken lent s .kind) (sym kind-is) a o f)
-          found (meets-outside e n) =
-              subst (λ y. Stepped depth (terminal (ide B)) M s cells y (tokenTaken s) cells)
-              (sym (ap (ideValue (nextToken lent s .kind) B) value-is
-              ∙ outside-value (nextToken lent s .kind) B (here s .value) (eq-eqb (nextToken lent s .kind) outsideKind e)))
-              (outside-stepped B l h n (was-word (here s) (setting .small (s .at)) (sym kind-is ∙ e)))
-
-  -- ------------------------------------------------------------------ calls
-
-  -- a call read: its value, and how it is derived, if no fresh name was made
-  record Called (depth n : ℕ) (vs : List Template) (s : State) (cells : List ℕ) (x : ℕ) (s′ : State) (cells′ : List ℕ) : Type 0 where
-    -- its template
-    value : Template
-    -- the number shows it
-    shows : ShowsTemplate cells′ (s′ .made) x value
-    -- fresh names are not given back
-    grows : s .fresh ≤ s′ .fresh
-    -- rows are added only
-    grown : Grown (s .made) cells (s′ .made) cells′
-    -- the room is kept
-    kept : Kept rows s′ cells′
-    -- its production
-    production : Production
-    -- it is taken
-    taken : TextTaken g n (from s) production
-    -- the values of its variables
-    variables : List Template
-    -- the calls that may be open in it
-    below : ℕ
-    -- they are fewer
-    deeper : below < depth
-    -- the rows made with its items
-    middle : ℕ
-    -- its items give them
-    derived : s′ .fresh ≡ s .fresh → Derived below vs (from s) (s .calls + 1) (s .made) (production .items) (from s′) (s′ .calls) middle variables
-    -- behind them its result makes rows
-    made-is : middle + rowsOf (production .result) ≡ s′ .made
-    -- no more calls are begun than there may be
-    few-calls : s′ .calls ≤ mostCalls
-    -- the template is what its result gives
-    given : value ≡ substitute variables (production .result)
-
-  -- what is asked of a callee
-  abbrev Callee : ℕ → (ℕ → List ℕ → Run ℕ) → Type 0
-  Callee depth C =
-      (n : ℕ) (S : Signature) (vs : List Template) (xs : List ℕ) (s : State) (cells : List ℕ) → Newest (G .env) n S → Kept rows s cells
-      → ShowTemplates (s .made) cells xs vs → Ends (Called depth n vs s cells) Any (C n xs s cells)
-
-  module _ (depth : ℕ) (C : ℕ → List ℕ → Run ℕ) (callee : Callee depth C) {lent : Input} (provides : Provides setting lent) where
-    call-item-ends : (n : ℕ) (ts : Templates) (S : Signature) {L : List ℕ} {M : List Template} {xs : List ℕ} (s : State) (cells : List ℕ)
-        → Newest (G .env) n S → Fill (G .outsides) L ts (S .params) → Kept rows s cells → ShowTemplates (s .made) cells xs M
-        → Ends (Stepped depth (call n ts) M s cells) Any (runItem C lent (call n ts) xs s cells)
-    unfolding openIn callsIn rowsIn
-    call-item-ends n ts S {M = M} {xs = xs} s cells newest fill kept a =
-        ends-after (λ ys s₁ c₁. Made rows (rowsOfAll ts) s cells s₁ c₁ × ShowTemplates (s₁ .made) c₁ ys (templateList (substituteAll M ts)))
-        (Full rows (s .made + rowsOfAll ts)) (Stepped depth (call n ts) M s cells) Any (buildAll ts lent xs s cells) (λ vs. C n vs)
-        (built-all setting provides ts s cells fill kept a)
-        (λ ys s₁ c₁ b.
-        ends-map (Called depth n (templateList (substituteAll M ts)) s₁ c₁) Any (Stepped depth (call n ts) M s cells) Any (C n ys s₁ c₁)
-        (callee n S (templateList (substituteAll M ts)) ys s₁ c₁ newest (record { room = rw (b .0 .grown .as-many) (kept .room); fits = b .0 .fits }) (b .1))
-        (λ x s₂ c₂ d.
-        record {
-          value = d .value;
-          shows = d .shows;
-          grows = omega (arith, b .0 .fresh-kept, d .grows);
-          grown = grown-trans (b .0 .grown) (d .grown);
-          kept = d .kept;
-          few-calls = λ l. d .few-calls;
-          step = λ e is M′ left calls′ made′ h.
-              let same : from s₁ ≡ from s = ap (λ at. drop at tokens) (b .0 .at-kept) in
-              let k =
-              subst
-              (λ ts′. Derived (d .below) (templateList (substituteAll M ts)) ts′ (s₁ .calls + 1) (s₁ .made) (d .production .items) (from s₂) (s₂ .calls)
-              (d .middle) (d .variables))
-              same (d .derived (omega (arith, b .0 .fresh-kept, e))) in
-              record {
-                rule = by-call refl (subst (λ ts′. TextTaken g n ts′ (d .production)) same (d .taken)) (k .rule) (d .given) (h .rule);
-                few-open = omega (arith, k .few-open, d .deeper, h .few-open);
-                all-calls = omega (arith, k .all-calls, h .all-calls, b .0 .calls-kept);
-                all-rows = omega (arith, k .all-rows, h .all-rows, d .made-is, b .0 .made-is);
-              };
-        })
-        (λ r t. t))
-        (λ r t. tt)
-
-    -- an item that is sorted
-    item-ends : (item : Item) {L : List ℕ} {A : ℕ} {M : List Template} {xs : List ℕ} (s : State) (cells : List ℕ) → ItemSorted G L item A
-        → Kept rows s cells → ShowTemplates (s .made) cells xs M → Ends (Stepped depth item M s cells) Any (runItem C lent item xs s cells)
-    item-ends (terminal (keyword k)) {M = M} s cells (Judgements.by-keyword l) kept a =
-        take-ends provides (Stepped depth (terminal (keyword k)) M s cells) (keywordKind k) (λ v. 0) s cells
+    ide-ends : (B : ℕ) → var ≤ B → B ≤ label → Ends (Stepped (terminal (ide B)) B s cells) Any (takeTerminal input (ide B) s cells)
+    ide-ends B l h =
+        by-test (meetsIde (nextToken input s .kind) B)
         (λ e.
-        let q : here s .kind ≡ keywordKind k = kind-before (here s) e (λ z. omega (arith, setting .few-keywords)) in
-        taken-as depth (terminal (keyword k)) M s cells 0 unitTemplate (λ z. omega (arith, setting .few-keywords)) kept shows-label (by-keyword q))
-    item-ends (terminal (ide B)) {M = M} s cells (Judgements.by-ide l h) kept a = ide-ends provides depth M s cells kept B l h
-    item-ends (terminal number) {M = M} s cells w kept a =
-        take-ends provides (Stepped depth (terminal number) M s cells) numberKind (λ v. v) s cells
-        (λ e. absurd (setting .no-number (s .at) (kind-before (here s) e (λ z. omega arith))))
-    item-ends local s cells w kept a =
+        subst⁻¹ (Ends (Stepped (terminal (ide B)) B s cells) Any) (terminal-met input (ide B) s cells e) (found (meets-rule (nextToken input s .kind) B e)))
+        (λ e.
+        subst⁻¹ (Ends (Stepped (terminal (ide B)) B s cells) Any) (terminal-unmet input (ide B) s cells e)
+        (take-ends false tokens input tokens-are s (Stepped (terminal (ide B)) B s cells) wordKind (readValue (ide B)) cells
+        (λ q. absurd (true≢false (sym (seen-word false (next-here s) q .1))))))
+      where
+        same-kind : nextToken input s .kind ≡ seen false (next-here s) .kind
+        same-kind = kind-is false tokens input tokens-are s
+
+        value-is : nextToken input s .value ≡ next-here s .value
+        value-is = ap (λ t. t .value) (next-is false tokens input tokens-are s) ∙ same-value (next-here s)
+
+        found : Meets (nextToken input s .kind) B
+            → Stepped (terminal (ide B)) B s cells (ideValue (nextToken input s .kind) B (nextToken input s .value)) (tokenTaken s) cells
+        found (meets-variable a o f) =
+            subst (λ y. Stepped (terminal (ide B)) B s cells y (tokenTaken s) cells)
+            (sym (variable-value (nextToken input s .kind) B (nextToken input s .value) o ∙ value-is))
+            (variable-stepped B (nextToken input s .kind) (sym same-kind) a o f)
+        found (meets-outside e n) =
+            subst (λ y. Stepped (terminal (ide B)) B s cells y (tokenTaken s) cells)
+            (sym (ap (ideValue (nextToken input s .kind) B) value-is
+            ∙ outside-value (nextToken input s .kind) B (next-here s .value) (eq-eqb (nextToken input s .kind) outsideKind e)))
+            (outside-stepped B l h n (seen-outside false (next-here s) (setting .small (s .at)) (sym same-kind ∙ e)))
+
+    -- What a terminal reads to its end, a rule reads; or it is a fresh name.
+    pub template-step-ends : (C : ℕ → List ℕ → Run ℕ) (item : Item) {L : List ℕ} {B : ℕ} → ItemSorted G L item B → isCall item ≡ false → (xs : List ℕ)
+        → Ends (Stepped item B s cells) Any (runItem C input item xs s cells)
+    template-step-ends C (terminal (keyword k)) {B = B} (Judgements.by-keyword l) c xs =
+        take-ends false tokens input tokens-are s (Stepped (terminal (keyword k)) B s cells) (keywordKind k) (λ v. 0) cells
+        (λ e.
+        let q : next-here s .kind ≡ keywordKind k = seen-kind false (next-here s) e (λ z. omega (arith, setting .few-keywords)) in
+        stepped (terminal (keyword k)) B s cells 0 unitTemplate kept shows-label (λ z. omega (arith, setting .few-keywords)) (by-keyword q))
+    template-step-ends C (terminal (ide B)) (Judgements.by-ide l h) c xs = ide-ends B l h
+    template-step-ends C (terminal number) {B = B} w c xs =
+        take-ends false tokens input tokens-are s (Stepped (terminal number) B s cells) numberKind (λ v. v) cells
+        (λ e. absurd (setting .no-number (s .at) (seen-kind false (next-here s) e (λ z. omega arith))))
+    template-step-ends C local w c xs = record { value = _; rule = as-fresh; returned = fresh-returned s cells kept shows-label refl refl }
+    template-step-ends C (call n ts) w c xs = absurd (true≢false c)
+
+    -- ---------------------------------------------------------------- what a rule reads
+
+    -- a token that is taken
+    taken : {B i : ℕ} {t : Token} {ts : List Token} {v : Template} {result : Result ℕ} {x : ℕ} → ShowsTemplate cells (s .made) x v
+        → drop (s .at) tokens ≡ t ∷ ts → s .fresh ≡ i → result ≡ done x (tokenTaken s) cells
+        → Finished (Returned (templateValues (G .outsides)) tokens (setting .rows) B ts i v s 0 0 cells) result
+    taken {x = x} w e f q =
+        record { value = x; state = tokenTaken s; cells = cells; is = q; holds = token-returned s cells kept w (first-left tokens s e .1) f }
+
+    next-kind : {t : Token} {ts : List Token} → drop (s .at) tokens ≡ t ∷ ts → nextToken input s .kind ≡ seen false t .kind
+    next-kind e = ap (λ u. u .kind) (next-token false tokens input tokens-are s e)
+
+    next-value : {t : Token} {ts : List Token} → drop (s .at) tokens ≡ t ∷ ts → nextToken input s .value ≡ t .value
+    next-value {t} e = ap (λ u. u .value) (next-token false tokens input tokens-are s e) ∙ same-value t
+
+    -- an outside name at a sort that is no Binder
+    outside-taken : (B : ℕ) {t : Token} {ts : List Token} → drop (s .at) tokens ≡ t ∷ ts → t .kind ≡ wordKind → eqb B 2 ≡ false
+        → takeTerminal input (ide B) s cells ≡ done (outsideValue B (t .value)) (tokenTaken s) cells
+    outside-taken B {t} e h f =
+        let k : nextToken input s .kind ≡ outsideKind = next-kind e ∙ outside-token t h in
+        terminal-met input (ide B) s cells (ap (λ u. meetsIde u B) k ∙ outside-met B f)
+        ∙ ap (λ x. done x (tokenTaken s) cells)
+        (ap (ideValue (nextToken input s .kind) B) (next-value e)
+        ∙ outside-value (nextToken input s .kind) B (t .value) (eq-eqb (nextToken input s .kind) outsideKind k))
+
+    text-step-done : (C : ℕ → List ℕ → Run ℕ) (item : Item) {B : ℕ} (xs : List ℕ) {ts ts′ : List Token} {i i′ : ℕ} {v : Template}
+        → drop (s .at) tokens ≡ ts → s .fresh ≡ i → TextReads ts i item ts′ i′ v
+        → Finished (Returned (templateValues (G .outsides)) tokens (setting .rows) B ts′ i′ v s 0 0 cells) (runItem C input item xs s cells)
+    text-step-done C (terminal (keyword k)) xs e f (by-keyword {t = t} h) =
+        taken shows-label e f
+        (kind-taken false tokens input tokens-are s cells (keywordKind k) (λ v. 0)
+        (next-kind e ∙ ap (λ u. u .kind) (seen-other false t (λ q. omega arith)) ∙ h))
+    text-step-done C (terminal (ide B)) xs e f (by-variable {t = t} A n h q w) =
+        let small : t .kind < outsideKind = subst (λ u. u .kind < outsideKind) (first-left tokens s e .0) (setting .small (s .at)) in
+        let k : nextToken input s .kind ≡ variableKind A = next-kind e ∙ ap (λ u. u .kind) (seen-other false t (λ z. omega arith)) ∙ h in
+        let o : isOutsideKind (nextToken input s .kind) ≡ false = ne-eqb (nextToken input s .kind) outsideKind (λ z. omega arith) in
+        taken (subst (λ y. ShowsTemplate cells (s .made) y (variable n)) (sym q) shows-variable) e f
+        (terminal-met input (ide B) s cells (ap (λ u. meetsIde u B) k ∙ variable-met A B (omega arith) w)
+        ∙ ap (λ x. done x (tokenTaken s) cells) (variable-value (nextToken input s .kind) B (nextToken input s .value) o ∙ next-value e))
+    text-step-done C (terminal (ide _)) xs e f (by-global h l) = taken shows-var e f (outside-taken var e h refl)
+    text-step-done C (terminal (ide _)) xs e f (by-label h l) = taken shows-label e f (outside-taken label e h refl)
+
+    -- What a rule reads is read to its end, and so is a fresh name.
+    pub template-step-done : (C : ℕ → List ℕ → Run ℕ) (item : Item) {B : ℕ} (xs : List ℕ) {ts ts′ : List Token} {i i′ : ℕ} {v : Template}
+        → drop (s .at) tokens ≡ ts → s .fresh ≡ i → TemplateReads ts i item ts′ i′ v
+        → Finished (Returned (templateValues (G .outsides)) tokens (setting .rows) B ts′ i′ v s 0 0 cells) (runItem C input item xs s cells)
+    template-step-done C item xs e f (as-text r) = text-step-done C item xs e f r
+    template-step-done C local xs e f as-fresh =
         record {
-          value = outsideLabel (freshName (s .fresh));
-          shows = shows-label;
-          grows = omega arith;
-          grown = grown-not (s .made) cells;
-          kept = record { room = kept .room; fits = kept .fits };
-          few-calls = λ l. l;
-          step = λ e is M′ left calls′ made′ d. absurd (omega arith);
+          value = freshName (s .fresh);
+          state = record { at = s .at; fresh = s .fresh + 1; calls = s .calls; made = s .made };
+          cells = cells;
+          is = refl;
+          holds =
+              fresh-returned s cells kept (subst (λ i. ShowsTemplate cells (s .made) (freshName (s .fresh)) (outsideLabel (freshName i))) f shows-label) e
+              (ap (λ m. m + 1) f);
         }
-    item-ends (call n ts) s cells (Judgements.by-call {S = S} newest fill) kept a = call-item-ends n ts S s cells newest fill kept a
 
-    -- where items have ended: the values of all variables, and the template behind the items is sorted
-    record Went (is : List Item) (t : Template) (M : List Template) (s : State) (cells : List ℕ) (ys : List ℕ) (s′ : State) (cells′ : List ℕ) : Type 0 where
-      -- the values
-      variables : List Template
-      -- numbers show them
-      shown : ShowTemplates (s′ .made) cells′ ys variables
-      -- fresh names are not given back
-      grows : s .fresh ≤ s′ .fresh
-      -- rows are added only
-      grown : Grown (s .made) cells (s′ .made) cells′
-      -- the room is kept
-      kept : Kept rows s′ cells′
-      -- the items give the values
-      derived : s′ .fresh ≡ s .fresh → Derived depth M (from s) (s .calls) (s .made) is (from s′) (s′ .calls) (s′ .made) variables
-      -- no more calls are begun than there may be
-      few-calls : s .calls ≤ mostCalls → s′ .calls ≤ mostCalls
-      -- the sorts of the variables
-      sorts : List ℕ
-      -- the sort of the result
-      sort : ℕ
-      -- it has this sort
-      sorted : Sorted (G .outsides) sorts t sort
+  -- The strict run of a text reads templates.
+  abbrev pub template-reader : TextReader G g (templateValues (G .outsides))
+  template-reader =
+      record {
+        all = setting .all;
+        declared = setting .declared;
+        tokens = tokens;
+        read = allSeen false tokens;
+        as-many = seen-many false tokens;
+        rows = setting .rows;
+        picks = λ n l at. seen-picks false g n l tokens at (setting .small at);
+        step-ends = λ C input e item w c xs s cells kept. template-step-ends input e s cells kept C item w c xs;
+        step-done = λ C input e item w xs s cells kept q f r. template-step-done input e s cells kept C item xs q f r;
+      }
 
-    items-ends : (is : List Item) {L : List ℕ} {t : Template} {B : ℕ} {M : List Template} (xs : List ℕ) (s : State) (cells : List ℕ) → Body G L is t B
-        → Kept rows s cells → ShowTemplates (s .made) cells xs M → Ends (Went is t M s cells) Any (runItems C lent is xs s cells)
-    unfolding runItems openIn callsIn rowsIn
-    items-ends [] {L = L} {M = M} xs s cells (by-result {A = A} h f) kept a =
-        record {
-          variables = M;
-          shown = a;
-          grows = omega arith;
-          grown = grown-not (s .made) cells;
-          kept = kept;
-          derived = λ e. record { rule = by-end; few-open = omega arith; all-calls = omega arith; all-rows = omega arith };
-          few-calls = λ l. l;
-          sorts = L;
-          sort = A;
-          sorted = h;
-        }
-    items-ends (i ∷ is) {t = t} {M = M} xs s cells (by-binding h b) kept a =
-        ends-after (Stepped depth i M s cells) Any (Went (i ∷ is) t M s cells) Any (runItem C lent i xs s cells) (λ x. runItems C lent is (xs ++ (x ∷ [])))
-        (item-ends i s cells h kept a)
-        (λ x s₁ c₁ d.
-        ends-map (Went is t (M ++ (d .value ∷ [])) s₁ c₁) Any (Went (i ∷ is) t M s cells) Any (runItems C lent is (xs ++ (x ∷ [])) s₁ c₁)
-        (items-ends is (xs ++ (x ∷ [])) s₁ c₁ b (d .kept) (all-and (all-later (d .grown) a) (d .shows)))
-        (λ ys s₂ c₂ w.
-        record {
-          variables = w .variables;
-          shown = w .shown;
-          grows = omega (arith, d .grows, w .grows);
-          grown = grown-trans (d .grown) (w .grown);
-          kept = w .kept;
-          derived = λ e.
-              let e₁ : s₁ .fresh ≡ s .fresh = omega (arith, d .grows, w .grows, e) in
-              d .step e₁ is (w .variables) (from s₂) (s₂ .calls) (s₂ .made) (w .derived (omega (arith, e, e₁)));
-          few-calls = λ l. w .few-calls (d .few-calls l);
-          sorts = w .sorts;
-          sort = w .sort;
-          sorted = w .sorted;
-        })
-        (λ r z. z))
-        (λ r z. z)
+-- ------------------------------------------------------------------ without a fresh name
 
-    -- the alternative of a call that is chosen
-    chosen-ends : (n : ℕ) (S : Signature) (vs : List Template) (xs : List ℕ) (s : State) (cells : List ℕ)
-        → Newest (G .env) n S → Kept rows s cells → ShowTemplates (s .made) cells xs vs → s .calls < mostCalls → (p : Production) → TextTaken g n (from s) p
-        → Ends (Called (suc depth) n vs s cells) Any (after (runItems C lent (p .items) xs (callBegun s) cells) (λ M. build (p .result) lent M))
-    chosen-ends n S vs xs s cells newest kept a few p taken =
-        ends-after (Went (p .items) (p .result) vs (callBegun s) cells) Any (Called (suc depth) n vs s cells) Any
-        (runItems C lent (p .items) xs (callBegun s) cells) (λ M. build (p .result) lent M)
-        (items-ends (p .items) xs (callBegun s) cells (setting .all .production-sorted n S p newest (taken-of taken))
-        (record { room = kept .room; fits = kept .fits }) a)
-        (λ ys s₁ c₁ w.
-        ends-map
-        (λ x s₂ c₂. Made rows (rowsOf (p .result)) s₁ c₁ s₂ c₂ × ShowsTemplate c₂ (s₂ .made) x (substitute (w .variables) (p .result)))
-        (Full rows (s₁ .made + rowsOf (p .result))) (Called (suc depth) n vs s cells) Any (build (p .result) lent ys s₁ c₁)
-        (built setting provides (p .result) s₁ c₁ (w .sorted) (w .kept) (w .shown))
-        (λ x s₂ c₂ b.
-        record {
-          value = substitute (w .variables) (p .result);
-          shows = b .1;
-          grows = omega (arith, w .grows, b .0 .fresh-kept);
-          grown = grown-trans (w .grown) (b .0 .grown);
-          kept = record { room = rw (b .0 .grown .as-many) (w .kept .room); fits = b .0 .fits };
-          production = p;
-          taken = taken;
-          variables = w .variables;
-          below = depth;
-          deeper = omega arith;
-          middle = s₁ .made;
-          derived = λ e.
-              subst₂ (λ at calls. Derived depth vs (from s) (s .calls + 1) (s .made) (p .items) (drop at tokens) calls (s₁ .made) (w .variables))
-              (sym (b .0 .at-kept)) (sym (b .0 .calls-kept)) (w .derived (omega (arith, e, b .0 .fresh-kept)));
-          made-is = sym (b .0 .made-is);
-          few-calls = omega (arith, w .few-calls (omega arith), b .0 .calls-kept);
-          given = refl;
-        })
-        (λ r z. tt))
-        (λ r z. z)
+-- items in sequence, over templates, fresh names among them
+abbrev TemplateDerives : List Production → List Template → List Token → ℕ → List Item → List Token → ℕ → List Template → Type 0
+TemplateDerives g M s i ps s′ i′ M′ =
+    _⊢⟨_∣_⟩_⇒⟨_∣_⟩_ Template TemplateReads (TextTaken g) (λ N t v. v ≡ substitute N t) (λ N ts vs. vs ≡ templateList (substituteAll N ts)) M s i ps s′ i′ M′
 
-  -- what a call runs of items and a result
-  abbrev RunOf : ℕ → Input → List ℕ → State → List ℕ → List Item → Template → Result ℕ
-  RunOf depth lent xs s cells is t = after (runItems (runCall depth lent) (inner lent s) is xs (callBegun s) cells) (λ M. build t (inner lent s) M)
+template-counts : {s s′ : List Token} {i i′ : ℕ} {p : Item} {v : Template} → TemplateReads s i p s′ i′ v → i ≤ i′
+template-counts (as-text (by-keyword e)) = omega arith
+template-counts (as-text (by-variable A n e f w)) = omega arith
+template-counts (as-text (by-global e l)) = omega arith
+template-counts (as-text (by-label e l)) = omega arith
+template-counts as-fresh = omega arith
 
-  -- a call with so many more open
-  call-ends : (depth : ℕ) {lent : Input} → Provides setting lent → Callee depth (runCall depth lent)
-  unfolding runCall
-  call-ends zero provides n S vs xs s cells newest kept a = tt
-  call-ends (suc depth) {lent} provides n S vs xs s cells newest kept a =
-      go (chosen-ends depth (runCall depth lent) (call-ends depth provides) (provides-inner setting provides s) n S vs xs s cells newest kept a)
-      (ltb (s .calls) mostCalls) refl (choice (lent .grammar) n (nextToken lent s .kind)) refl
-    where
-      go : (s .calls < mostCalls → (p : Production) → TextTaken g n (from s) p
-          → Ends (Called (suc depth) n vs s cells) Any (RunOf depth lent xs s cells (p .items) (p .result)))
-          → (test : Bool) → ltb (s .calls) mostCalls ≡ test → (picked : Choice) → choice (lent .grammar) n (nextToken lent s .kind) ≡ picked
-          → Ends (Called (suc depth) n vs s cells) Any (runCall (suc depth) lent n xs s cells)
-      go f false e picked h = subst⁻¹ (Ends (Called (suc depth) n vs s cells) Any) (call-full depth lent n xs s cells e) tt
-      go f true e unfit h = subst⁻¹ (Ends (Called (suc depth) n vs s cells) Any) (call-unfit depth lent n xs s cells e h) tt
-      go f true e (chosen r) h =
-          let k = takes g n (setting .declared n S newest) tokens (s .at) r (setting .small (s .at)) (sym (choice-is setting provides s n) ∙ h) in
-          subst⁻¹ (Ends (Called (suc depth) n vs s cells) Any) (call-chosen depth lent n xs s cells r e h)
-          (subst₂ (λ is t. Ends (Called (suc depth) n vs s cells) Any (RunOf depth lent xs s cells is t)) (sym (k .same-items)) (sym (k .same-result))
-          (f (ltb-true (s .calls) mostCalls e) (k .production) (k .taken)))
+derived-counts : {g : List Production} {M M′ : List Template} {s s′ : List Token} {i i′ : ℕ} {ps : List Item} → TemplateDerives g M s i ps s′ i′ M′ → i ≤ i′
+derived-counts by-end = omega arith
+derived-counts (by-terminal e d) = omega (arith, template-counts e, derived-counts d)
+derived-counts (by-call vs t d v d′) = omega (arith, derived-counts d, derived-counts d′)
 
-  -- ------------------------------------------------------------------ the whole text
+-- A derivation whose counter stays is one of a text, at the same cost,
+pub derived-text : {g : List Production} {M M′ : List Template} {s s′ : List Token} {i i′ : ℕ} {ps : List Item} (d : TemplateDerives g M s i ps s′ i′ M′)
+    → i′ ≤ i → SameCosts TextReads d
+derived-text by-end l = same-end
+derived-text (by-terminal (as-text r) d) l = same-terminal r (derived-text d (omega (arith, template-counts (as-text r))))
+derived-text (by-terminal as-fresh d) l = absurd (omega (arith, derived-counts d))
+derived-text (by-call vs t d v d′) l =
+    same-call (derived-text d (omega (arith, derived-counts d′))) (derived-text d′ (omega (arith, derived-counts d)))
 
+-- and one of a text is such a derivation.
+pub text-derived : {g : List Production} {M M′ : List Template} {s s′ : List Token} {i i′ : ℕ} {ps : List Item} (d : TextDerives g M s i ps s′ i′ M′)
+    → SameCosts TemplateReads d
+text-derived by-end = same-end
+text-derived (by-terminal r d) = same-terminal (as-text r) (text-derived d)
+text-derived (by-call vs t d v d′) = same-call (text-derived d) (text-derived d′)
+
+-- ------------------------------------------------------------------ the whole text
+
+module _ {G : Scope} {g : List Production} (setting : TextSetting G g) where
   -- A text's template by rules: it is derived from all tokens, within the limits and by as many rows as the run made.
   pub record ReadWithin (n : ℕ) (t : Template) (made : ℕ) : Type 0 where
     -- the derivation
-    pub rule : TextDerives g [] tokens 1 (call n none ∷ []) [] 1 (t ∷ [])
+    pub rule : TextDerives g [] (setting .tokens) 1 (call n none ∷ []) [] 1 (t ∷ [])
     -- it is within the limits
-    pub affords : Affords rows 0 0 0 rule
+    pub affords : Affords (setting .rows) 0 0 0 rule
     -- its rows
     pub all-rows : rowsIn rule ≡ made
 
@@ -461,52 +333,37 @@ module _ {G : Scope} {g : List Production} (setting : TextSetting G g) where
     -- the number shows it
     pub shows : ShowsTemplate cells (s .made) x value
     -- no more rows are made than there are
-    pub few : s .made ≤ rows
+    pub few : s .made ≤ setting .rows
     -- fresh names are counted from 1
     pub counted : 1 ≤ s .fresh
     -- the rules derive it
     pub derived : s .fresh ≡ 1 → ReadWithin n value (s .made)
 
-  ended-ends : (n x : ℕ) (s : State) (cells : List ℕ) (c : List ℕ) → Called mostOpen n [] initialState c x s cells
-      → Ends (Reads n) Any (ended (strictInput setting) x s cells)
-  unfolding templateList substitute openIn callsIn rowsIn rowsOf
-  ended-ends n x s cells c d = go (ltb (s .at) (length (map asOutside tokens))) refl
-    where
-      go : (test : Bool) → ltb (s .at) (length (map asOutside tokens)) ≡ test
-          → Ends (Reads n) Any (elim test [ true ↦ halt (refusal 18 (s .at) 0 0) cells | false ↦ done x s cells ])
-      go true e = tt
-      go false e =
-          let all-read : from s ≡ [] =
-          drop-of-length-le tokens {i = s .at} (omega (arith, as-many tokens, ltb-false (s .at) (length (map asOutside tokens)) e)) in
-          record {
-            value = d .value;
-            shows = d .shows;
-            few = d .kept .fits;
-            counted = d .grows;
-            derived = λ h.
-                let k =
-                subst (λ ts. Derived (d .below) [] tokens 1 0 (d .production .items) ts (s .calls) (d .middle) (d .variables)) all-read (d .derived h) in
-                record {
-                  rule = by-call {M = []} {vs = []} {ts = none} refl (d .taken) (k .rule) (d .given) by-end;
-                  affords =
-                      record {
-                        few-open = omega (arith, k .few-open, d .deeper);
-                        few-calls = omega (arith, k .all-calls, d .few-calls);
-                        few-rows = omega (arith, k .all-rows, d .made-is, d .kept .fits);
-                      };
-                  all-rows = omega (arith, k .all-rows, d .made-is);
-                };
-          }
+  -- a derivation of a text to any counter that is 1
+  read-within : {n made i : ℕ} {t : Template} (d : TextDerives g [] (setting .tokens) 1 (call n none ∷ []) [] i (t ∷ [])) → Affords (setting .rows) 0 0 0 d
+      → rowsIn d ≡ made → i ≡ 1 → ReadWithin n t made
+  read-within {n} {made} {t = t} d a e f =
+      subst⁻¹
+      (λ i. (d : TextDerives g [] (setting .tokens) 1 (call n none ∷ []) [] i (t ∷ [])) → Affords (setting .rows) 0 0 0 d → rowsIn d ≡ made
+      → ReadWithin n t made)
+      f (λ d a e. record { rule = d; affords = a; all-rows = e }) d a e
 
   -- What a run of a text's tokens answers is derived by the rules, and the cells show it.
-  pub run-reads : (n : ℕ) (S : Signature) (cells : List ℕ) → Newest (G .env) n S → rows * columns ≤ length cells
+  pub run-reads : (n : ℕ) (S : Signature) (cells : List ℕ) → Newest (G .env) n S → S .params ≡ [] → setting .rows * columns ≤ length cells
       → Ends (Reads n) Any (run (strictInput setting) n cells)
-  unfolding run
-  run-reads n S cells newest room =
-      ends-after (Called mostOpen n [] initialState cells) Any (Reads n) Any (runCall mostOpen (strictInput setting) n [] initialState cells)
-      (ended (strictInput setting))
-      (call-ends mostOpen (provides-whole setting) n S [] [] initialState cells newest (record { room = room; fits = omega arith }) show-none)
-      (λ x s c d. ended-ends n x s c cells d)
+  unfolding substitute templateList
+  run-reads n S cells newest e room =
+      ends-map (ReadWhole (template-reader setting) n (S .result)) Any (Reads n) Any (run (strictInput setting) n cells)
+      (run-derived (template-reader setting) n S cells newest e refl room)
+      (λ x s c d.
+      record {
+        value = d .value;
+        shows = d .shows;
+        few = d .few;
+        counted = derived-counts (d .rule);
+        derived = λ f.
+            let w = derived-text (d .rule) (omega (arith, f)) in read-within (w .rule) (same-affords w (d .affords)) (w .same-rows ∙ d .all-rows) f;
+      })
       (λ r z. z)
 
   -- What a number shows that stands at a sort is read off the rows, a Unit too.
@@ -516,12 +373,12 @@ module _ {G : Scope} {g : List Production} (setting : TextSetting G g) where
   read-standing {made = made} cells _ few short small shows-label standing-unit = at-unit (λ q. rowTemplate made cells q) unit 0 refl refl refl refl
 
   -- The template that is read off the cells of a text's run is the one that the rules derive from all its tokens, within the limits.
-  pub text-read : {L : List ℕ} (n : ℕ) (S : Signature) (cells : List ℕ) → Newest (G .env) n S → S .params ≡ [] → rows * columns ≤ length cells
-      → AllNamed (G .outsides) L tokens → G .outsides ≤ nameBase → length L ≤ nameBase → rows ≤ nameBase
+  pub text-read : {L : List ℕ} (n : ℕ) (S : Signature) (cells : List ℕ) → Newest (G .env) n S → S .params ≡ [] → setting .rows * columns ≤ length cells
+      → AllNamed (G .outsides) L (setting .tokens) → G .outsides ≤ nameBase → length L ≤ nameBase → setting .rows ≤ nameBase
       → {x : ℕ} {s : State} {cells′ : List ℕ} → run (strictInput setting) n cells ≡ done x s cells′ → s .fresh ≡ 1
       → ReadWithin n (textTemplate (s .made) cells′ (S .result) x) (s .made)
   text-read {L = L} n S cells newest e room names few-names short small {x = x} {s = s} {cells′ = cells′} runs f =
-      let r : Reads n x s cells′ = subst (Ends (Reads n) Any) runs (run-reads n S cells newest room) in
+      let r : Reads n x s cells′ = subst (Ends (Reads n) Any) runs (run-reads n S cells newest e room) in
       let d : ReadWithin n (r .value) (s .made) = r .derived f in
       let q : textTemplate (s .made) cells′ (S .result) x ≡ r .value =
       read-standing cells′ (r .value) few-names short (omega (arith, r .few)) (r .shows) (text-sorted (setting .all) L newest e names (d .rule)) in

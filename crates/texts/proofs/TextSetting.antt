@@ -1,8 +1,8 @@
 -- All that the reading of a text is given but the cells, and its tokens as the strict run reads them: words as outside names.
-use Prim.Native.Nat.{ℕ, zero, suc, _+_, _*_, _≤_, _<_}
-use mathlib.Core.Path.{_≡_, refl, sym, ap, subst, _∙_}
-use mathlib.Core.Bool.{Bool, true, false}
-use mathlib.Core.List.{List, [], _∷_, _++_, map}
+use Prim.Native.Nat.{ℕ, zero, suc, _*_, _≤_, _<_}
+use mathlib.Core.Path.{_≡_, refl, sym, ap, _∙_}
+use mathlib.Core.Bool.{true, false}
+use mathlib.Core.List.{List, [], _∷_, map}
 use native.Mathlib.Omega.{arith}
 use lib.Dec.{eqb}
 use lib.ListN.{length, getD}
@@ -12,23 +12,17 @@ use Rattle.kinds.specs.Kinds.{wordKind, numberKind, noKind}
 use Rattle.kinds.specs.TextKinds.{outsideKind}
 use Rattle.grammar.specs.Limits.{most}
 use Rattle.grammar.specs.Sorts.{Signature, label}
-use Rattle.grammar.specs.Table.{Template, Templates}
 use Rattle.terms.specs.Cells.{columns, outsideName}
 use Rattle.tokens.specs.declared.Token.{Token}
 use Rattle.tokens.specs.Tokens.{endToken}
 use Rattle.tokens.specs.Variables.{variableName}
 use Rattle.productions.specs.Normal.{Production}
 use Rattle.judgements.specs.Scopes.{Scope}
-use Rattle.judgements.specs.Judgements.{Newest, Sorted, Fill}
+use Rattle.judgements.specs.Judgements.{Newest}
 use Rattle.expansion.specs.declared.State.{State}
 use Rattle.expansion.specs.TextTokens.{isOutsideKind, ideValue}
-use Rattle.expansion.specs.Expansion.{Input, nextToken, build, buildAll, choice}
-use Rattle.expansion.specs.Costs.{rowsOf, rowsOfAll}
-use Rattle.expansion.proofs.CallLaws.{inner, inner-grammar, inner-tokens, inner-rows}
-use Rattle.expansion.proofs.Endings.{Ends, Made, Full}
-use Rattle.texts.specs.Substitution.{substitute, substituteAll, templateList}
+use Rattle.expansion.specs.Expansion.{Input}
 use Rattle.texts.specs.Reading.{readyText, asOutside}
-use Rattle.texts.proofs.Showing.{ShowsTemplate, ShowTemplates, show-none, show-more, build-ends, build-all-ends}
 use Rattle.texts.proofs.TextSorts.{AllSorted}
 
 -- ------------------------------------------------------------------ what is given
@@ -123,69 +117,8 @@ pub variable-value : (kind B v : ℕ) → isOutsideKind kind ≡ false → ideVa
 unfolding ideValue
 variable-value kind B v o = rw (o, ideValue) refl
 
--- ------------------------------------------------------------------ what a part of the run reads
+-- ------------------------------------------------------------------ what the run reads
 
--- One value more is shown.
-pub all-and : {made : ℕ} {cells : List ℕ} {xs : List ℕ} {M : List Template} {x : ℕ} {t : Template} → ShowTemplates made cells xs M
-    → ShowsTemplate cells made x t → ShowTemplates made cells (xs ++ (x ∷ [])) (M ++ (t ∷ []))
-all-and show-none k = show-more k show-none
-all-and (show-more h hs) k = show-more h (all-and hs k)
-
-module _ {G : Scope} {g : List Production} (setting : TextSetting G g) where
-  -- the whole run reads this
-  abbrev pub strictInput : Input
-  strictInput = record { grammar = readyText g; tokens = map asOutside (setting .tokens); rows = setting .rows }
-
-  -- What a part of the run reads: this grammar, these tokens and these rows, whatever else it is told.
-  pub record Provides (lent : Input) : Type 0 where
-    -- the grammar
-    pub grammar-is : lent .grammar ≡ readyText g
-    -- the tokens
-    pub tokens-are : lent .tokens ≡ map asOutside (setting .tokens)
-    -- the rows that there are
-    pub rows-are : lent .rows ≡ setting .rows
-
-  -- The whole run reads this,
-  pub provides-whole : Provides strictInput
-  provides-whole = record { grammar-is = refl; tokens-are = refl; rows-are = refl }
-
-  -- and what a call hands on has it, too.
-  pub provides-inner : {lent : Input} → Provides lent → (state : State) → Provides (inner lent state)
-  provides-inner {lent} provides state =
-      record {
-        grammar-is = inner-grammar lent state ∙ provides .grammar-is;
-        tokens-are = inner-tokens lent state ∙ provides .tokens-are;
-        rows-are = inner-rows lent state ∙ provides .rows-are;
-      }
-
-  module _ {lent : Input} (provides : Provides lent) where
-    -- The next token is that of the text, a word as an outside name,
-    pub next-is : (s : State) → nextToken lent s ≡ asOutside (getD (setting .tokens) (s .at) endToken)
-    next-is s = ap (λ ts. getD ts (s .at) endToken) (provides .tokens-are) ∙ next-outside (setting .tokens) (s .at)
-
-    -- and so goes the choice.
-    pub choice-is : (s : State) (nonterminal : ℕ) → choice (lent .grammar) nonterminal (nextToken lent s .kind)
-        ≡ choice (readyText g) nonterminal (asOutside (getD (setting .tokens) (s .at) endToken) .kind)
-    choice-is s nonterminal = rw (provides .grammar-is, next-is s) refl
-
-    -- A template that is built is shown with values for its variables,
-    pub built : {L : List ℕ} {A : ℕ} {M : List Template} (t : Template) {xs : List ℕ} (s : State) (cells : List ℕ) → Sorted (G .outsides) L t A
-        → Kept (setting .rows) s cells → ShowTemplates (s .made) cells xs M
-        → Ends (λ x s′ c′. Made (setting .rows) (rowsOf t) s cells s′ c′ × ShowsTemplate c′ (s′ .made) x (substitute M t))
-        (Full (setting .rows) (s .made + rowsOf t)) (build t lent xs s cells)
-    built {M = M} t {xs = xs} s cells w k a =
-        subst
-        (λ rows. Ends (λ x s′ c′. Made rows (rowsOf t) s cells s′ c′ × ShowsTemplate c′ (s′ .made) x (substitute M t)) (Full rows (s .made + rowsOf t))
-        (build t lent xs s cells))
-        (provides .rows-are) (build-ends lent t s cells w (rw (provides .rows-are) (k .room)) (rw (provides .rows-are) (k .fits)) a)
-
-    -- and so are templates.
-    pub built-all : {L Bs : List ℕ} {M : List Template} (ts : Templates) {xs : List ℕ} (s : State) (cells : List ℕ) → Fill (G .outsides) L ts Bs
-        → Kept (setting .rows) s cells → ShowTemplates (s .made) cells xs M
-        → Ends (λ ys s′ c′. Made (setting .rows) (rowsOfAll ts) s cells s′ c′ × ShowTemplates (s′ .made) c′ ys (templateList (substituteAll M ts)))
-        (Full (setting .rows) (s .made + rowsOfAll ts)) (buildAll ts lent xs s cells)
-    built-all {M = M} ts {xs = xs} s cells w k a =
-        subst
-        (λ rows. Ends (λ ys s′ c′. Made rows (rowsOfAll ts) s cells s′ c′ × ShowTemplates (s′ .made) c′ ys (templateList (substituteAll M ts)))
-        (Full rows (s .made + rowsOfAll ts)) (buildAll ts lent xs s cells))
-        (provides .rows-are) (build-all-ends lent ts s cells w (rw (provides .rows-are) (k .room)) (rw (provides .rows-are) (k .fits)) a)
+-- What the strict run of a text reads.
+abbrev pub strictInput : {G : Scope} {g : List Production} → TextSetting G g → Input
+strictInput {g = g} setting = record { grammar = readyText g; tokens = map asOutside (setting .tokens); rows = setting .rows }

@@ -34,14 +34,17 @@ use Rattle.texts.specs.Reading.{TextContext, lexiconFor, rowsLeft, hasNu
 use Rattle.texts.specs.Reading.{reading, readingOf, isSmall, TextRead, checkReading}
 use Rattle.texts.specs.ReadingRules.{ReadText}
 use Rattle.texts.specs.Unread.{sizeUnder, SizeDerives, Readable, Unread, unread-26, unread-27, unread-28, unread-9, unread-11}
+use Rattle.texts.proofs.TextChoice.{taken-one}
 use Rattle.texts.proofs.TextAccepted.{TextPlace, done-as, scanned-as}
 use Rattle.texts.proofs.TextComplete.{read-accepted}
 use Rattle.texts.proofs.TextValues.{Any, TextReader}
 use Rattle.texts.proofs.ValueReading.{ReadWhole, run-derived}
 use Rattle.texts.proofs.ValueRun.{run-done}
 use Rattle.texts.proofs.Sizes.{size-back}
-use Rattle.texts.proofs.SizeReading.{sizeValues, allSeen, TextTokens, size-reader}
-use Rattle.texts.proofs.SizeRules.{derived-numbers, derived-counts, affords-wider, tiled-tokens}
+use Rattle.texts.proofs.SameCosts.{same-affords}
+use Rattle.texts.proofs.TextTerminals.{allSeen, TextTokens}
+use Rattle.texts.proofs.SizeReading.{sizeValues, size-reader}
+use Rattle.texts.proofs.SizeRules.{derived-numbers, derived-counts, derived-wider, tiled-tokens}
 use Rattle.texts.proofs.UnreadCauses.{answer, Cause, cause-scan, cause-unread, cause-lenient, cause-binder, cause-large, cause-fresh, cause-word}
 use Rattle.texts.proofs.UnreadCauses.{cause-sort, Outcome, passes, refuses, outcome, refused-fresh, refused-word, refused-sort}
 
@@ -119,7 +122,7 @@ module _ {G : Scope} {P : TextContext} {L : List ℕ} {n : ℕ} {S : Signature} 
         → (r : Reading) × (readingBy binders ts ≡ reading r) × (r .isFresh ≡ ltb 1 counter) × (rowsOf (r .template) ≡ size)
     unfolding sizeUnder
     sized-read d affords =
-        let k = run-done reader passed n S cells (place .newest) (place .without) refl room d affords in (
+        let k = run-done reader (λ m us p q. taken-one (P .productions) passed) n S cells (place .newest) (place .without) refl room d affords in (
           record { template = textTemplate (k .state .made) (k .cells) (S .result) (k .value); made = k .state .made; isFresh = ltb 1 (k .state .fresh) },
           ap (readingOf (S .result)) (k .is),
           ap (λ i. ltb 1 i) (k .holds .1),
@@ -238,7 +241,7 @@ module _ {G : Scope} {P : TextContext} {L : List ℕ} {n : ℕ} {S : Signature} 
     -- what is readable without a word at a Binder is so where words may stand there
     readable-wider : Readable P L n bs false → Readable P L n bs true
     readable-wider R =
-        let w = affords-wider (R .derived) (R .affords) in
+        let w = derived-wider (R .derived) in
         record {
           tokens = R .tokens;
           words = R .words;
@@ -246,8 +249,8 @@ module _ {G : Scope} {P : TextContext} {L : List ℕ} {n : ℕ} {S : Signature} 
           few = R .few;
           counter = R .counter;
           size = R .size;
-          derived = w .0;
-          affords = w .1;
+          derived = w .rule;
+          affords = same-affords w (R .affords);
           small = R .small;
         }
 
@@ -261,8 +264,8 @@ module _ {G : Scope} {P : TextContext} {L : List ℕ} {n : ℕ} {S : Signature} 
       large-wider r f e large R =
           let p = first-passes f in
           let s = read-sized false (lexed .tokens) (p .known) r e in
-          let w = affords-wider (s .derived) (s .affords) in
-          let k = sized-read true (lexed .tokens) (p .known) (w .0) (w .1) in
+          let w = derived-wider (s .derived) in
+          let k = sized-read true (lexed .tokens) (p .known) (w .rule) (same-affords w (s .affords)) in
           let j = readable-read true R in
           let same : k .0 ≡ j .read = same-reading (k .1) (j .is-read) in
           let little = leb-true (rowsOf (j .read .template)) largestTerm (j .small) in

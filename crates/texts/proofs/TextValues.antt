@@ -1,9 +1,10 @@
 -- What a text's reading may give: values of any kind, what shows them, what reads them and what templates give. The run of a text and Figure 3 are joined once
 -- for all of them (ValueReading, ValueRun).
 use Prim.Native.Nat.{ℕ, _+_, _*_, _≤_, _<_}
-use mathlib.Core.Path.{_≡_, refl, subst, _∙_}
+use mathlib.Core.Path.{_≡_, refl, ap, subst, _∙_}
 use mathlib.Core.Bool.{Bool, true, false}
 use mathlib.Core.List.{List, [], _∷_, _++_}
+use native.Mathlib.Omega.{arith}
 use lib.ListN.{length, getD, drop}
 use Rattle.answers.specs.declared.Refusal.{Refusal}
 use Rattle.grammar.specs.Limits.{most}
@@ -16,19 +17,55 @@ use Rattle.productions.specs.Normal.{Production}
 use Rattle.judgements.specs.Scopes.{Scope}
 use Rattle.judgements.specs.Judgements.{Newest, Fits, Sorted, Fill, ItemSorted}
 use Rattle.expansion.specs.declared.State.{State}
-use Rattle.expansion.specs.Run.{Run}
+use Rattle.expansion.specs.Run.{Result, done, halt, Run}
 use Rattle.expansion.specs.Figure3.{_⊢⟨_∣_⟩_⇒⟨_∣_⟩_}
-use Rattle.expansion.specs.Expansion.{Input, nextToken, build, buildAll, runItem, choice}
+use Rattle.expansion.specs.Expansion.{Input, Choice, chosen, nextToken, tokenTaken, build, buildAll, runItem, choice}
 use Rattle.expansion.specs.Costs.{rowsOf, rowsOfAll}
 use Rattle.expansion.proofs.CallLaws.{inner, inner-grammar, inner-tokens, inner-rows}
+use Rattle.expansion.proofs.Choosing.{rule}
 use Rattle.expansion.proofs.Endings.{Ends, Made, Full}
-use Rattle.expansion.proofs.Shows.{Grown}
+use Rattle.expansion.proofs.Shows.{Grown, grown-not}
 use Rattle.texts.specs.Reading.{readyText}
 use Rattle.texts.specs.ReadingRules.{TextTaken}
-use Rattle.texts.proofs.TextChoice.{TextPicks}
+use Rattle.texts.proofs.TextChoice.{TextPicks, picks, picks-none}
 use Rattle.texts.proofs.TextSorts.{AllSorted}
 use Rattle.texts.proofs.TextSetting.{Kept}
-use Rattle.texts.proofs.TextRun.{Finished}
+
+-- ------------------------------------------------------------------ how a run ends
+
+abbrev pub Any : Refusal → Type 0
+Any r = Unit {0}
+
+-- A run that is done, and what then holds.
+pub record Finished {A : Type 0} (P : A → State → List ℕ → Type 0) (result : Result A) : Type 0 where
+  -- the value
+  pub value : A
+  -- the state
+  pub state : State
+  -- the cells
+  pub cells : List ℕ
+  -- the run is done with them
+  pub is : result ≡ done value state cells
+  -- what holds of them
+  pub holds : P value state cells
+
+-- A run that cannot be refused is done.
+pub finished : {A : Type 0} (P : A → State → List ℕ → Type 0) (H : Refusal → Type 0) (result : Result A) → Ends P H result → ((r : Refusal) → H r → ⊥)
+    → Finished P result
+finished P H (done a s cells) p h = record { value = a; state = s; cells = cells; is = refl; holds = p }
+finished P H (halt r cells) p h = absurd (h r p)
+
+-- ------------------------------------------------------------------ the production that is taken
+
+-- the tokens take one production of a nonterminal at most
+abbrev pub TakenOnce : List Production → Type 0
+TakenOnce g = (n : ℕ) (s : List Token) (p q : Production) → TextTaken g n s p → TextTaken g n s q → p ≡ q
+
+-- A choice that picks what the tokens take then picks it.
+pub once-chosen : {g : List Production} {n : ℕ} {s : List Token} {p : Production} {given-choice : Choice} → TakenOnce g → TextTaken g n s p
+    → TextPicks g n s given-choice → given-choice ≡ chosen (rule g p)
+once-chosen {g} {n} {s} {p} once t (picks q u e) = e ∙ ap (λ r. chosen (rule g r)) (once n s q p u t)
+once-chosen {p = p} once t (picks-none f e) = absurd (f p t)
 
 -- ------------------------------------------------------------------ numbers that show values
 
@@ -128,8 +165,35 @@ pub record Step {N : ℕ} (values : Values N) (tokens : List Token) (rows : ℕ)
   -- neither a call nor a row is made
   pub returned : Returned values tokens rows B (drop (s′ .at) tokens) (s′ .fresh) value s 0 0 cells x s′ cells′
 
-abbrev pub Any : Refusal → Type 0
-Any r = Unit {0}
+module _ {N : ℕ} {values : Values N} {tokens : List Token} {rows B : ℕ} (s : State) (cells : List ℕ) (kept : Kept rows s cells) {x : ℕ} {v : values .Value}
+    (shows : values .Shows cells (s .made) B x v) where
+  -- A token that is taken makes neither a call nor a row,
+  pub token-returned : {ts : List Token} {i : ℕ} → drop (s .at + 1) tokens ≡ ts → s .fresh ≡ i
+      → Returned values tokens rows B ts i v s 0 0 cells x (tokenTaken s) cells
+  token-returned e f =
+      record {
+        left-is = e;
+        fresh-is = f;
+        calls-is = omega arith;
+        made-is = omega arith;
+        grown = grown-not (s .made) cells;
+        kept = record { room = kept .room; fits = kept .fits };
+        shows = shows;
+      }
+
+  -- nor does a fresh name.
+  pub fresh-returned : {ts : List Token} {i : ℕ} → drop (s .at) tokens ≡ ts → s .fresh + 1 ≡ i
+      → Returned values tokens rows B ts i v s 0 0 cells x (record { at = s .at; fresh = s .fresh + 1; calls = s .calls; made = s .made }) cells
+  fresh-returned e f =
+      record {
+        left-is = e;
+        fresh-is = f;
+        calls-is = omega arith;
+        made-is = omega arith;
+        grown = grown-not (s .made) cells;
+        kept = record { room = kept .room; fits = kept .fits };
+        shows = shows;
+      }
 
 -- A grammar whose productions are sorted, the tokens of a text, and these as a run reads them.
 pub record TextReader (G : Scope) (g : List Production) (values : Values (G .outsides)) : Type 0 where

@@ -42,7 +42,7 @@ module _ {G : Scope} {g : List Production} (setting : TextSetting G g) (rows′ 
       → {x : ℕ} {s : State} {made-cells : List ℕ} → run (strictInput setting) n cells ≡ done x s made-cells → s .fresh ≡ 1
       → ReadAgain n (S .result) x s made-cells cells′
   text-again {L = L} n S cells cells′ newest e room room′ names few-names short small {x = x} {s = s} {made-cells = d} runs f =
-      let r : Reads setting n x s d = subst (Ends (Reads setting n) (λ q. Unit {0})) runs (run-reads setting n S cells newest room) in
+      let r : Reads setting n x s d = subst (Ends (Reads setting n) (λ q. Unit {0})) runs (run-reads setting n S cells newest e room) in
       let w = text-sorted (setting .all) L newest e names (r .derived f .rule) in
       let again : Again (readyText g) (map asOutside (setting .tokens)) (setting .rows) rows′ fewer n cells cells′ room room′ x s d =
       more-rows-done (readyText g) (map asOutside (setting .tokens)) (setting .rows) rows′ fewer n cells cells′ room room′ runs in

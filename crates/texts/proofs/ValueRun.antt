@@ -7,13 +7,11 @@ use native.Mathlib.Omega.{arith}
 use lib.Dec.{ltb}
 use lib.ListN.{length, drop, length-drop}
 use borrow.Author.Tests.{lt-ltb, le-ltb}
-use Rattle.answers.specs.Checked.{ok}
 use Rattle.grammar.specs.Sorts.{Signature}
 use Rattle.grammar.specs.Table.{Template, Templates, none, Item, call}
 use Rattle.terms.specs.Cells.{columns}
 use Rattle.tokens.specs.declared.Token.{Token}
 use Rattle.productions.specs.Normal.{Production}
-use Rattle.clashes.specs.CheckFirsts.{checkFirsts}
 use Rattle.judgements.specs.Scopes.{Scope}
 use Rattle.judgements.specs.Judgements.{Newest, Fits, Sorted, Fill, Body, by-result, by-binding}
 use Rattle.judgements.specs.Judgements as Judgements
@@ -28,13 +26,12 @@ use Rattle.expansion.proofs.Choosing.{rule}
 use Rattle.expansion.proofs.Endings.{Made, Full}
 use Rattle.expansion.proofs.Shows.{Grown, grown-not, grown-trans}
 use Rattle.texts.specs.ReadingRules.{TextTaken}
-use Rattle.texts.proofs.TextChoice.{taken-of, taken-chosen}
+use Rattle.texts.proofs.TextChoice.{taken-of}
 use Rattle.texts.proofs.TextSetting.{Kept}
-use Rattle.texts.proofs.TextRun.{Finished, finished}
-use Rattle.texts.proofs.TextValues.{show-none, show-and, Values, ValueDerives, Returned, TextReader, wholeInput, Lends}
+use Rattle.texts.proofs.TextValues.{Finished, finished, TakenOnce, once-chosen, show-none, show-and, Values, ValueDerives, Returned, TextReader, wholeInput, Lends}
 use Rattle.texts.proofs.TextValues.{lends-whole, lends-inner, Shown, shown-later, arguments-built, result-built, choice-picked}
 
-module _ {G : Scope} {g : List Production} {values : Values (G .outsides)} (reader : TextReader G g values) (passed : checkFirsts g ≡ ok tt) where
+module _ {G : Scope} {g : List Production} {values : Values (G .outsides)} (reader : TextReader G g values) (once : TakenOnce g) where
   abbrev tokens : List Token
   tokens = reader .tokens
 
@@ -78,7 +75,7 @@ module _ {G : Scope} {g : List Production} {values : Values (G .outsides)} (read
       → runCall (suc depth) input n xs s cells
       ≡ after (runItems (runCall depth input) (inner input s) (p .items) xs (callBegun s) cells) (λ M. build (p .result) (inner input s) M)
   call-runs depth n S {input} lends newest xs s cells p l t =
-      call-chosen depth input n xs s cells (rule g p) (lt-ltb (s .calls) mostCalls l) (taken-chosen g passed t (choice-picked reader lends s n S newest))
+      call-chosen depth input n xs s cells (rule g p) (lt-ltb (s .calls) mostCalls l) (once-chosen once t (choice-picked reader lends s n S newest))
 
   -- items that are run, from any numbers that show M
   abbrev Runs : ℕ → List Item → Template → ℕ → List ℕ → List Token → ℕ → List Token → ℕ → List (values .Value) → List (values .Value) → ℕ → ℕ → Type 0
