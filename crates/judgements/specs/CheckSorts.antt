@@ -8,8 +8,9 @@ use Rattle.answers.specs.Checked.{Checked, ok, _>>=_, _>>_, need}
 use Rattle.spellings.specs.Bytes.{same}
 use Rattle.grammar.specs.Sorts.{Signature, gives, unit, var, binder, label, num, constructor}
 use Rattle.grammar.specs.SortTests.{fits}
+use Rattle.grammar.specs.Table as Table
 use Rattle.grammar.specs.Table.{Template, Templates, variable, outsideVar, outsideLabel, make, none, more, keyword, ide, number, Item, terminal, local, call}
-use Rattle.grammar.specs.Table.{Mode, add, extend, update, DefinitionOf}
+use Rattle.grammar.specs.Table.{place, Mode, add, extend, update, DefinitionOf}
 use Rattle.grammar.specs.Written.{WrittenDefinition}
 use Rattle.grammar.specs.Values.{itemValue}
 use Rattle.judgements.specs.Sizes.{fieldSize, definitionSize}
@@ -61,6 +62,7 @@ unfoldable mutual
   isClosed (outsideVar x) G n = ltb x (G .outsides)
   isClosed (outsideLabel x) G n = ltb x (G .outsides)
   isClosed (make c ts) G n = areClosed ts G n
+  isClosed Table.unit G n = true
 
   pub areClosed : Templates → Scope → ℕ → Bool
   areClosed none G n = true
@@ -72,6 +74,7 @@ sortOf (variable i) L = getD L i unit
 sortOf (outsideVar x) L = var
 sortOf (outsideLabel x) L = label
 sortOf (make c ts) L = constructor c .result
+sortOf Table.unit L = unit
 
 -- the arguments of every constructor in a template fit their places
 unfoldable mutual
@@ -80,6 +83,7 @@ unfoldable mutual
   isSorted (outsideVar x) L = true
   isSorted (outsideLabel x) L = true
   isSorted (make c ts) L = fill ts L (constructor c .params)
+  isSorted Table.unit L = true
 
   -- templates fill places one by one: as many, and each sorted and fitting
   pub fill : Templates → List ℕ → List ℕ → Bool
@@ -93,6 +97,7 @@ abbrev pub checkItem : Scope → List ℕ → ℕ → Item → Checked ℕ
 checkItem G L at (terminal (keyword k)) = need (ltb k (G .keywords)) 9 at >> ok unit
 checkItem G L at (terminal (ide s)) = ok s
 checkItem G L at (terminal number) = ok num
+checkItem G L at (terminal (place s)) = ok s
 checkItem G L at local = ok binder
 checkItem G L at (call n ts) =
     need (isDefined (G .env) n && areClosed ts G (length L)) 9 at

@@ -15,8 +15,9 @@ use Rattle.spellings.proofs.BytesLaws.{by-test}
 use borrow.Author.Tests.{leb-true}
 use Rattle.kinds.specs.Kinds.{hasKind, only}
 use Rattle.kinds.proofs.KindsLaws.{has-none, has-join, has-own, only-kind}
-use Rattle.grammar.specs.SortTests.{isIdeSort}
+use Rattle.grammar.specs.SortTests.{isSort, isIdeSort}
 use Rattle.grammar.specs.Table.{keyword, ide, number, Item, terminal, local, call}
+use Rattle.grammar.specs.Table as Table
 use Rattle.grammar.specs.Lookup.{fieldsAt}
 use Rattle.decoding.specs.Within.{Each}
 use Rattle.productions.specs.Normal.{Production}
@@ -27,7 +28,7 @@ use Rattle.productions.proofs.IndexLaws.{placeAt, map-at, place-among, among-pl
 use Rattle.productions.proofs.RoomLaws.{kinds-in, nullable-in, link-in, next-small}
 use Rattle.productions.proofs.RoomPatterns.{patterning-start, patterning-here, patterning-next, patterned-as, patterning-end}
 use Rattle.firsts.specs.FirstSets.{rounds, overAll, isNullable, allNullable, nullables, joined, gather, firstStep, setsOf}
-use Rattle.firsts.specs.Patterns.{onlyIf, patternOf, patternSets, patternsIn}
+use Rattle.firsts.specs.Patterns.{onlyIf, placeBit, patternOf, patternSets, patternsIn}
 use Rattle.firsts.specs.Reach.{kindsReached}
 use Rattle.firsts.specs.Room.{entryAt, productionsIn, tableRoomFor, HoldsFor}
 use Rattle.firsts.specs.Rules.{Nullable}
@@ -57,11 +58,16 @@ ide-fits : (sort : ℕ) (test : Bool) → isIdeSort sort ≡ test → Fits (only
 ide-fits sort false t = omega arith
 ide-fits sort true t = only-fits sort (omega (arith, leb-true sort 3 (and-eq-true-iff (leb 1 sort) (leb sort 3) .0 t .1)))
 
+place-fits : (sort : ℕ) (test : Bool) → isSort sort ≡ test → Fits (onlyIf test (placeBit sort))
+place-fits sort false t = omega arith
+place-fits sort true t = only-fits (placeBit sort) (omega (arith, leb-true sort 6 t))
+
 -- What an item gives by itself fits.
 pub pattern-fits : (item : Item) → Fits (patternOf item)
 pattern-fits (terminal (keyword k)) = omega arith
 pattern-fits (terminal (ide s)) = ide-fits s (isIdeSort s) refl
 pattern-fits (terminal number) = omega arith
+pattern-fits (terminal (Table.place s)) = place-fits s (isSort s) refl
 pattern-fits local = omega arith
 pattern-fits (call n ts) = omega arith
 

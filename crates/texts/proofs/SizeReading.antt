@@ -1,7 +1,7 @@
 -- The run of a text's tokens reads sizes as the rules do: words as outside names at Var and Label only, or as they stand at Binder too.
 use Prim.Native.Nat.{ℕ, zero, suc, _+_, _≤_, _<_}
 use mathlib.Core.Path.{_≡_, refl, sym, ap, subst, subst⁻¹, _∙_}
-use mathlib.Core.Bool.{Bool, true, false, true≢false}
+use mathlib.Core.Bool.{Bool, true, false, true≢false, not, _&&_}
 use mathlib.Core.List.{List, [], _∷_}
 use native.Mathlib.Omega.{arith}
 use lib.Dec.{eqb}
@@ -12,7 +12,7 @@ use Rattle.kinds.specs.Kinds.{wordKind, numberKind, keywordKind, noKind}
 use Rattle.kinds.specs.TextKinds.{variableKind, outsideKind, sortOfKind}
 use Rattle.grammar.specs.Limits.{most}
 use Rattle.grammar.specs.Sorts.{Signature, var, binder, label}
-use Rattle.grammar.specs.Table.{keyword, ide, number, Item, terminal, local, call}
+use Rattle.grammar.specs.Table.{keyword, ide, number, place, Item, terminal, local, call}
 use Rattle.terms.specs.Cells.{freshName}
 use Rattle.tokens.specs.declared.Token.{Token}
 use Rattle.productions.specs.Normal.{Production}
@@ -25,7 +25,9 @@ use Rattle.expansion.specs.TextTokens.{readValue, textValue, meetsIde}
 use Rattle.expansion.specs.Expansion.{Input, nextToken, tokenTaken, takeTerminal, runItem}
 use Rattle.expansion.proofs.AsBefore.{terminal-met, terminal-unmet, terminal-as-before}
 use Rattle.expansion.proofs.Endings.{Ends}
-use Rattle.texts.specs.Unread.{sizeUnder, sizesUnder, SizeReads, by-keyword, by-variable, by-word, by-local}
+use Rattle.copying.specs.RowTemplates.{isVariableName, isRowSort}
+use Rattle.copying.specs.Hanging.{isRowAt}
+use Rattle.texts.specs.Unread.{sizeUnder, sizesUnder, SizeReads, by-keyword, by-variable, by-place, by-word, by-local}
 use Rattle.texts.proofs.TextSorts.{AllSorted}
 use Rattle.texts.proofs.TextSetting.{Kept, outside-token}
 use Rattle.texts.proofs.TextValues.{Any, Finished, isCall, Values, Returned, Step, token-returned, fresh-returned, TextReader}
@@ -40,6 +42,7 @@ use Rattle.texts.proofs.Sizes.{ShowsSize, size-leaf, size-later, size-b
 pub no-call : {binders : Bool} {s s′ : List Token} {i i′ : ℕ} {p : Item} {v : ℕ} → SizeReads binders s i p s′ i′ v → isCall p ≡ false
 no-call (by-keyword e) = refl
 no-call (by-variable A e f) = refl
+no-call (by-place e) = refl
 no-call (by-word e f) = refl
 no-call by-local = refl
 
@@ -67,6 +70,12 @@ ide-leaf (suc zero) l h = size-leaf refl
 ide-leaf (suc (suc zero)) l h = size-leaf refl
 ide-leaf (suc (suc (suc zero))) l h = size-leaf refl
 ide-leaf (suc (suc (suc (suc B)))) l h = absurd (omega arith)
+
+-- nor is a variable, at any sort
+variable-leaf : {cells : List ℕ} {made x : ℕ} (B : ℕ) → isVariableName x ≡ true → ShowsSize cells made B x 0
+variable-leaf {x = x} B e =
+    let q : isRowAt B x ≡ false = by-test (isRowSort B) (λ r. rw (r, e) refl) (λ r. rw r refl) in
+    size-leaf q
 
 module _ (N : ℕ) (binders : Bool) (tokens : List Token) (rows : ℕ) (known : TextTokens tokens) (input : Input)
     (tokens-are : input .tokens ≡ allSeen binders tokens) where
@@ -124,6 +133,13 @@ module _ (N : ℕ) (binders : Bool) (tokens : List Token) (rows : ℕ) (known : 
   size-step-ends few C (terminal number) {B = B} w c xs s cells kept =
       take-ends binders tokens input tokens-are s (Step (sizeValues N binders) tokens rows (terminal number) B s cells) numberKind (λ v. v) cells
       (λ e. absurd (known .no-number (s .at) (seen-kind binders (here tokens s) e (λ z. omega arith))))
+  size-step-ends few C (terminal (place B)) (Judgements.by-place l) c xs s cells kept =
+      take-ends binders tokens input tokens-are s (Step (sizeValues N binders) tokens rows (terminal (place B)) B s cells) (variableKind B) (λ v. v) cells
+      (λ e.
+      let q : here tokens s .kind ≡ variableKind B = seen-kind binders (here tokens s) e (λ z. omega arith) in
+      let same : seen binders (here tokens s) ≡ here tokens s = seen-other binders (here tokens s) (λ z. omega arith) in
+      stepped (terminal (place B)) B s cells (seen binders (here tokens s) .value) kept
+      (variable-leaf B (ap (λ t. isVariableName (t .value)) same ∙ known .named (s .at) (omega arith))) (λ z. omega (arith, q, z)) (by-place q))
   size-step-ends few C local Judgements.by-local c xs s cells kept =
       record { value = 0; rule = by-local; returned = fresh-returned s cells kept (size-leaf refl) refl refl }
   size-step-ends few C (call n ts) w c xs s cells kept = absurd (true≢false c)
@@ -168,6 +184,13 @@ module _ (N : ℕ) (binders : Bool) (tokens : List Token) (rows : ℕ) (known : 
       let small : t .kind < outsideKind = subst (λ u. u .kind < outsideKind) (first-left tokens s e .0) (known .small (s .at)) in
       let k : nextToken input s .kind ≡ variableKind A = next-kind s e ∙ ap (λ u. u .kind) (seen-other binders t (λ z. omega arith)) ∙ q in
       taken B s cells kept (ide-leaf B l h) e f (terminal-met input (ide B) s cells (ap (λ u. meetsIde u B) k ∙ variable-met A B (omega arith) w))
+  size-step-done C (terminal (place B)) (Judgements.by-place l) xs s cells kept e f (by-place {t = t} q) =
+      let same : seen binders t ≡ t = seen-other binders t (λ z. omega arith) in
+      let first = first-left tokens s e .0 in
+      let name : isVariableName (t .value) ≡ true =
+      ap (λ u. isVariableName (u .value)) (sym first) ∙ known .named (s .at) (omega (arith, ap (λ u. u .kind) first)) in
+      taken B s cells kept (variable-leaf B (ap (λ u. isVariableName (u .value)) (next-token binders tokens input tokens-are s e ∙ same) ∙ name)) e f
+      (kind-taken binders tokens input tokens-are s cells (variableKind B) (λ v. v) (next-kind s e ∙ ap (λ u. u .kind) same ∙ q))
   size-step-done C (terminal (ide B)) (Judgements.by-ide l h) xs s cells kept e f (by-word w q) =
       taken B s cells kept (ide-leaf B l h) e f (word-taken B s cells e w q .1)
   size-step-done C local Judgements.by-local xs s cells kept e f by-local =

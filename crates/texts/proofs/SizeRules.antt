@@ -1,24 +1,26 @@
 -- What a derivation over sizes says of its tokens, its counter and words at a Binder, and what a scan says of a text's tokens.
-use Prim.Native.Nat.{ℕ, zero, suc, _≤_, _<_}
+use Prim.Native.Nat.{ℕ, zero, suc, _+_, _*_, _/_, _≤_, _<_}
 use mathlib.Core.Path.{_≡_, refl, ap, _∙_}
 use mathlib.Core.Bool.{Bool, true, false, _||_}
 use mathlib.Core.List.{List, [], _∷_}
 use native.Mathlib.Omega.{arith}
 use lib.ListN.{length, getD}
-use borrow.Author.Tests.{ne-eqb}
+use borrow.Author.Tests.{eq-eqb, ne-eqb}
 use Rattle.spellings.specs.Bytes.{valueOf}
-use Rattle.kinds.specs.Kinds.{numberKind}
+use Rattle.kinds.specs.Kinds.{numberKind, noKind}
 use Rattle.kinds.specs.TextKinds.{outsideKind}
 use Rattle.grammar.specs.Limits.{most}
 use Rattle.grammar.specs.Table.{Lexicon, Item}
+use Rattle.terms.specs.Cells.{nameBase}
 use Rattle.tokens.specs.declared.Token.{Token}
 use Rattle.tokens.specs.Tokens.{endToken}
 use Rattle.tokens.specs.Tiling.{Stands, a-keyword, a-keyword-symbol, an-outside-name, a-word-again, a-new-word, a-number, a-symbol, a-variable}
 use Rattle.tokens.specs.Tiling.{Tiled, here, past-separator, past-token}
 use Rattle.productions.specs.Normal.{Production}
 use Rattle.expansion.specs.Figure3.{by-end, by-terminal, by-call}
+use Rattle.copying.specs.RowTemplates.{isVariableName}
 use Rattle.texts.specs.Reading.{hasNumber}
-use Rattle.texts.specs.Unread.{SizeReads, by-keyword, by-variable, by-word, by-local, SizeDerives}
+use Rattle.texts.specs.Unread.{SizeReads, by-keyword, by-variable, by-place, by-word, by-local, SizeDerives}
 use Rattle.texts.proofs.TextScan.{no-number}
 use Rattle.texts.proofs.SameCosts.{SameCosts, same-end, same-terminal, same-call}
 use Rattle.texts.proofs.TextTerminals.{TextTokens}
@@ -33,6 +35,7 @@ number-past t s h = ap (λ b. b || hasNumber s) (ne-eqb (t .kind) numberKind h)
 terminal-numbers : {binders : Bool} {s s′ : List Token} {i i′ v : ℕ} {p : Item} → SizeReads binders s i p s′ i′ v → hasNumber s ≡ hasNumber s′
 terminal-numbers (by-keyword {t = t} {s = s} e) = number-past t s (λ z. omega (arith, e, z))
 terminal-numbers (by-variable {t = t} {s = s} A e f) = number-past t s (λ z. omega (arith, e, z))
+terminal-numbers (by-place {t = t} {s = s} e) = number-past t s (λ z. omega (arith, e, z))
 terminal-numbers (by-word {t = t} {s = s} e f) = number-past t s (λ z. omega (arith, e, z))
 terminal-numbers by-local = refl
 
@@ -46,6 +49,7 @@ derived-numbers (by-call vs t d v d′) = derived-numbers d ∙ derived-numbers 
 terminal-counts : {binders : Bool} {s s′ : List Token} {i i′ v : ℕ} {p : Item} → SizeReads binders s i p s′ i′ v → i ≤ i′
 terminal-counts (by-keyword e) = omega arith
 terminal-counts (by-variable A e f) = omega arith
+terminal-counts (by-place e) = omega arith
 terminal-counts (by-word e f) = omega arith
 terminal-counts by-local = omega arith
 
@@ -61,6 +65,7 @@ derived-counts (by-call vs t d v d′) = omega (arith, derived-counts d, derived
 terminal-wider : {s s′ : List Token} {i i′ v : ℕ} {p : Item} → SizeReads false s i p s′ i′ v → SizeReads true s i p s′ i′ v
 terminal-wider (by-keyword e) = by-keyword e
 terminal-wider (by-variable A e f) = by-variable A e f
+terminal-wider (by-place e) = by-place e
 terminal-wider (by-word e f) = by-word e (λ z. refl)
 terminal-wider by-local = by-local
 
@@ -74,7 +79,7 @@ derived-wider (by-call vs t d v d′) = same-call (derived-wider d) (derived-wid
 -- ------------------------------------------------------------------ tokens of a scan
 
 module _ (lex : Lexicon) (few-keywords : length (lex .keywords) ≤ most .keywords)
-    (sorts : (n : ℕ) → n < length (lex .variables) → getD (lex .variables) n 0 ≤ 6) where
+    (sorts : (n : ℕ) → n < length (lex .variables) → getD (lex .variables) n 0 ≤ 6) (short : length (lex .variables) ≤ nameBase) where
   stands-small : {at : ℕ} {rest : List ℕ} {met met′ : List (List ℕ)} {t : Token} → Stands lex at rest met t met′ → t .kind < outsideKind
   stands-small (a-keyword w f) = omega (arith, f .there)
   stands-small (a-keyword-symbol y f) = omega (arith, f .there)
@@ -93,7 +98,27 @@ module _ (lex : Lexicon) (few-keywords : length (lex .keywords) ≤ most .keywor
   tiled-small (past-token l h d) zero = stands-small h
   tiled-small (past-token l h d) (suc place) = tiled-small d place
 
+  stands-named : {at : ℕ} {rest : List ℕ} {met met′ : List (List ℕ)} {t : Token} → Stands lex at rest met t met′ → noKind < t .kind
+      → isVariableName (t .value) ≡ true
+  stands-named (a-keyword w f) l = absurd (omega (arith, f .there))
+  stands-named (a-keyword-symbol y f) l = absurd (omega (arith, f .there))
+  stands-named (an-outside-name w n f) l = absurd (omega arith)
+  stands-named (a-word-again w n o f) l = absurd (omega arith)
+  stands-named (a-new-word w n o f) l = absurd (omega arith)
+  stands-named (a-number d) l = absurd (omega arith)
+  stands-named (a-symbol y n) l = absurd (omega arith)
+  stands-named (a-variable {s = s} f) l =
+      let low : valueOf s < nameBase = omega (arith, f .below) in eq-eqb ((4 * nameBase + valueOf s) / nameBase) 4 (omega arith)
+
+  tiled-names : {formula : List ℕ} {at to : ℕ} {met met′ : List (List ℕ)} {ts : List Token} → Tiled lex formula at met ts to met′ → (place : ℕ)
+      → noKind < getD ts place endToken .kind → isVariableName (getD ts place endToken .value) ≡ true
+  tiled-names here zero l = absurd (omega arith)
+  tiled-names here (suc place) l = absurd (omega arith)
+  tiled-names (past-separator m q d) place l = tiled-names d place l
+  tiled-names (past-token m h d) zero l = stands-named h l
+  tiled-names (past-token m h d) (suc place) l = tiled-names d place l
+
   -- The tokens of a text that holds no number.
   pub tiled-tokens : {formula : List ℕ} {ts : List Token} {words : List (List ℕ)} → Tiled lex formula 0 [] ts (length formula) words → hasNumber ts ≡ false
       → TextTokens ts
-  tiled-tokens {ts = ts} d h = record { no-number = no-number lex few-keywords sorts ts h; small = tiled-small d }
+  tiled-tokens {ts = ts} d h = record { no-number = no-number lex few-keywords sorts ts h; small = tiled-small d; named = tiled-names d }

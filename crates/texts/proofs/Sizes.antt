@@ -11,6 +11,7 @@ use lib.Seq.{getD-at}
 use Rattle.spellings.proofs.BytesLaws.{by-test}
 use Rattle.grammar.specs.Sorts.{unit, var, binder, constructor}
 use Rattle.grammar.specs.Table.{Template, Templates, variable, outsideVar, outsideLabel, make, none, more}
+use Rattle.grammar.specs.Table as Table
 use Rattle.grammar.proofs.ReaderLaws.{arity-few}
 use Rattle.terms.specs.Cells.{columns, column, nameBase}
 use Rattle.judgements.specs.Judgements.{Has, has-first, has-later, Fits, fits-equal, fits-binder, Sorted, Fill, fill-none, fill-more}
@@ -179,6 +180,7 @@ module _ (input : Input) where
     size-built (variable i) state cells (Judgements.by-variable h) f room fit a = (nothing-made state cells fit, size-fits f (size-bound a h))
     size-built (outsideVar n) state cells (Judgements.by-global h) f room fit a = (nothing-made state cells fit, size-fits f (size-leaf refl))
     size-built (outsideLabel n) state cells (Judgements.by-label h) f room fit a = (nothing-made state cells fit, size-fits f (size-leaf refl))
+    size-built Table.unit state cells Judgements.by-unit f room fit a = (nothing-made state cells fit, size-fits f (size-leaf refl))
     size-built {B = B} {M = M} (make c ts) {xs = xs} state cells (Judgements.by-constructor lo hi w) f room fit a =
         let n : ℕ = rowsOfAll ts in
         let sizes : List ℕ = sizesUnder M ts in

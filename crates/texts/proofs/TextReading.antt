@@ -10,9 +10,10 @@ use borrow.Author.Tests.{eqb-false, eq-eqb, ne-eqb}
 use Rattle.spellings.proofs.BytesLaws.{by-test}
 use Rattle.kinds.specs.Kinds.{wordKind, numberKind, keywordKind, noKind}
 use Rattle.kinds.specs.TextKinds.{variableKind, outsideKind, sortOfKind}
-use Rattle.grammar.specs.Sorts.{Signature, unit, var, binder, label}
+use Rattle.grammar.specs.Sorts.{Signature, var, binder, label, num}
 use Rattle.grammar.specs.SortTests.{fits}
-use Rattle.grammar.specs.Table.{Template, Templates, variable, outsideVar, outsideLabel, none, more, keyword, ide, number, Item, terminal, local, call}
+use Rattle.grammar.specs.Table.{Template, Templates, variable, outsideVar, outsideLabel, unit, none, more, keyword, ide, number, place, Item, terminal}
+use Rattle.grammar.specs.Table.{local, call}
 use Rattle.terms.specs.Cells.{columns, nameBase, freshName}
 use Rattle.tokens.specs.declared.Token.{Token}
 use Rattle.tokens.specs.Variables.{variableName}
@@ -28,14 +29,13 @@ use Rattle.expansion.specs.Expansion.{Input, nextToken, tokenTaken, takeTermina
 use Rattle.expansion.specs.Costs.{rowsOf, rowsOfAll, rowsIn, Affords}
 use Rattle.expansion.proofs.AsBefore.{terminal-met, terminal-unmet}
 use Rattle.expansion.proofs.Endings.{Ends, ends-map, Made, Full}
-use Rattle.copying.specs.RowTemplates.{unitTemplate, rowTemplate, textTemplate}
-use Rattle.copying.proofs.ValueLaws.{at-unit}
+use Rattle.copying.specs.RowTemplates.{textTemplate}
 use Rattle.texts.specs.Substitution.{substitute, substituteAll, templateList}
-use Rattle.texts.specs.ReadingRules.{TextTaken, TextReads, by-keyword, by-variable, by-global, by-label, TextDerives}
-use Rattle.texts.proofs.Showing.{ShowsTemplate, shows-variable, shows-var, shows-label, shows-later, ShowTemplates, show-none, show-more}
+use Rattle.texts.specs.ReadingRules.{TextTaken, TextReads, by-keyword, by-variable, by-place, by-global, by-label, TextDerives}
+use Rattle.texts.proofs.Showing.{ShowsTemplate, shows-variable, shows-var, shows-label, shows-unit, shows-later, ShowTemplates, show-none, show-more}
 use Rattle.texts.proofs.Showing.{build-ends, build-all-ends}
 use Rattle.texts.proofs.ReadBack.{read-back}
-use Rattle.texts.proofs.TextSorts.{Standing, standing-sorted, standing-unit, AllNamed, text-sorted}
+use Rattle.texts.proofs.TextSorts.{SortedAt, AllNamed, text-sorted}
 use Rattle.texts.proofs.TextSetting.{TextSetting, Kept, outside-token, same-value, outsideValue, outside-value, variable-value, strictInput}
 use Rattle.texts.proofs.TextValues.{Any, Finished, isCall, ShowAll, Values, Returned, Step, token-returned, fresh-returned, TextReader}
 use Rattle.texts.proofs.TextValues as Values
@@ -56,6 +56,7 @@ pub data TemplateReads : List Token → ℕ → Item → List Token → ℕ → 
 pub no-call : {s s′ : List Token} {i i′ : ℕ} {p : Item} {v : Template} → TemplateReads s i p s′ i′ v → isCall p ≡ false
 no-call (as-text (by-keyword e)) = refl
 no-call (as-text (by-variable A n e f w)) = refl
+no-call (as-text (by-place n e f)) = refl
 no-call (as-text (by-global e l)) = refl
 no-call (as-text (by-label e l)) = refl
 no-call as-fresh = refl
@@ -153,6 +154,16 @@ module _ {G : Scope} {g : List Production} (setting : TextSetting G g) where
         (subst (λ y. ShowsTemplate cells (s .made) y (variable (setting .name (s .at)))) (sym n) shows-variable) (λ z. omega arith)
         (by-variable (sortOfKind kind) (setting .name (s .at)) (omega arith) n f)
 
+    -- one where a pattern place of its sort is read
+    place-stepped : (B : ℕ) → B ≤ num → seen false (next-here s) .kind ≡ variableKind B
+        → Stepped (terminal (place B)) B s cells (seen false (next-here s) .value) (tokenTaken s) cells
+    place-stepped B l e =
+        let q : next-here s .kind ≡ variableKind B = seen-kind false (next-here s) e (λ z. omega arith) in
+        let n : next-here s .value ≡ variableName (setting .name (s .at)) = setting .named (s .at) (omega arith) in
+        stepped (terminal (place B)) B s cells (seen false (next-here s) .value) (variable (setting .name (s .at))) kept
+        (subst (λ y. ShowsTemplate cells (s .made) y (variable (setting .name (s .at)))) (sym (same-value (next-here s) ∙ n)) shows-variable)
+        (λ z. omega arith) (by-place (setting .name (s .at)) q n)
+
     -- an outside name
     outside-stepped : (B : ℕ) → var ≤ B → B ≤ label → (B ≡ binder → ⊥) → next-here s .kind ≡ wordKind
         → Stepped (terminal (ide B)) B s cells (outsideValue B (next-here s .value)) (tokenTaken s) cells
@@ -198,11 +209,13 @@ module _ {G : Scope} {g : List Production} (setting : TextSetting G g) where
         take-ends false tokens input tokens-are s (Stepped (terminal (keyword k)) B s cells) (keywordKind k) (λ v. 0) cells
         (λ e.
         let q : next-here s .kind ≡ keywordKind k = seen-kind false (next-here s) e (λ z. omega (arith, setting .few-keywords)) in
-        stepped (terminal (keyword k)) B s cells 0 unitTemplate kept shows-label (λ z. omega (arith, setting .few-keywords)) (by-keyword q))
+        stepped (terminal (keyword k)) B s cells 0 unit kept shows-unit (λ z. omega (arith, setting .few-keywords)) (by-keyword q))
     template-step-ends C (terminal (ide B)) (Judgements.by-ide l h) c xs = ide-ends B l h
     template-step-ends C (terminal number) {B = B} w c xs =
         take-ends false tokens input tokens-are s (Stepped (terminal number) B s cells) numberKind (λ v. v) cells
         (λ e. absurd (setting .no-number (s .at) (seen-kind false (next-here s) e (λ z. omega arith))))
+    template-step-ends C (terminal (place B)) (Judgements.by-place l) c xs =
+        take-ends false tokens input tokens-are s (Stepped (terminal (place B)) B s cells) (variableKind B) (λ v. v) cells (place-stepped B l)
     template-step-ends C local w c xs = record { value = _; rule = as-fresh; returned = fresh-returned s cells kept shows-label refl refl }
     template-step-ends C (call n ts) w c xs = absurd (true≢false c)
 
@@ -235,7 +248,7 @@ module _ {G : Scope} {g : List Production} (setting : TextSetting G g) where
         → drop (s .at) tokens ≡ ts → s .fresh ≡ i → TextReads ts i item ts′ i′ v
         → Finished (Returned (templateValues (G .outsides)) tokens (setting .rows) B ts′ i′ v s 0 0 cells) (runItem C input item xs s cells)
     text-step-done C (terminal (keyword k)) xs e f (by-keyword {t = t} h) =
-        taken shows-label e f
+        taken shows-unit e f
         (kind-taken false tokens input tokens-are s cells (keywordKind k) (λ v. 0)
         (next-kind e ∙ ap (λ u. u .kind) (seen-other false t (λ q. omega arith)) ∙ h))
     text-step-done C (terminal (ide B)) xs e f (by-variable {t = t} A n h q w) =
@@ -245,6 +258,10 @@ module _ {G : Scope} {g : List Production} (setting : TextSetting G g) where
         taken (subst (λ y. ShowsTemplate cells (s .made) y (variable n)) (sym q) shows-variable) e f
         (terminal-met input (ide B) s cells (ap (λ u. meetsIde u B) k ∙ variable-met A B (omega arith) w)
         ∙ ap (λ x. done x (tokenTaken s) cells) (variable-value (nextToken input s .kind) B (nextToken input s .value) o ∙ next-value e))
+    text-step-done C (terminal (place B)) xs e f (by-place {t = t} n h q) =
+        let k : nextToken input s .kind ≡ variableKind B = next-kind e ∙ ap (λ u. u .kind) (seen-other false t (λ z. omega arith)) ∙ h in
+        taken (subst (λ y. ShowsTemplate cells (s .made) y (variable n)) (sym (next-value e ∙ q)) shows-variable) e f
+        (kind-taken false tokens input tokens-are s cells (variableKind B) (λ v. v) k)
     text-step-done C (terminal (ide _)) xs e f (by-global h l) = taken shows-var e f (outside-taken var e h refl)
     text-step-done C (terminal (ide _)) xs e f (by-label h l) = taken shows-label e f (outside-taken label e h refl)
 
@@ -289,6 +306,7 @@ TemplateDerives g M s i ps s′ i′ M′ =
 template-counts : {s s′ : List Token} {i i′ : ℕ} {p : Item} {v : Template} → TemplateReads s i p s′ i′ v → i ≤ i′
 template-counts (as-text (by-keyword e)) = omega arith
 template-counts (as-text (by-variable A n e f w)) = omega arith
+template-counts (as-text (by-place n e f)) = omega arith
 template-counts (as-text (by-global e l)) = omega arith
 template-counts (as-text (by-label e l)) = omega arith
 template-counts as-fresh = omega arith
@@ -366,11 +384,10 @@ module _ {G : Scope} {g : List Production} (setting : TextSetting G g) where
       })
       (λ r z. z)
 
-  -- What a number shows that stands at a sort is read off the rows, a Unit too.
-  pub read-standing : {L : List ℕ} {made x B : ℕ} (cells : List ℕ) (t : Template) → G .outsides ≤ nameBase → length L ≤ nameBase → made ≤ nameBase
-      → ShowsTemplate cells made x t → Standing (G .outsides) L t B → textTemplate made cells B x ≡ t
-  read-standing cells t few short small h (standing-sorted w f) = read-back few short cells t (omega arith) small h w f
-  read-standing {made = made} cells _ few short small shows-label standing-unit = at-unit (λ q. rowTemplate made cells q) unit 0 refl refl refl refl
+  -- What a number shows that has a sort is read off the rows, a Unit too.
+  pub read-sorted : {L : List ℕ} {made x B : ℕ} (cells : List ℕ) (t : Template) → G .outsides ≤ nameBase → length L ≤ nameBase → made ≤ nameBase
+      → ShowsTemplate cells made x t → SortedAt (G .outsides) L t B → textTemplate made cells B x ≡ t
+  read-sorted cells t few short small h (A, w, f) = read-back few short cells t (omega arith) small h w f
 
   -- The template that is read off the cells of a text's run is the one that the rules derive from all its tokens, within the limits.
   pub text-read : {L : List ℕ} (n : ℕ) (S : Signature) (cells : List ℕ) → Newest (G .env) n S → S .params ≡ [] → setting .rows * columns ≤ length cells
@@ -381,5 +398,5 @@ module _ {G : Scope} {g : List Production} (setting : TextSetting G g) where
       let r : Reads n x s cells′ = subst (Ends (Reads n) Any) runs (run-reads n S cells newest e room) in
       let d : ReadWithin n (r .value) (s .made) = r .derived f in
       let q : textTemplate (s .made) cells′ (S .result) x ≡ r .value =
-      read-standing cells′ (r .value) few-names short (omega (arith, r .few)) (r .shows) (text-sorted (setting .all) L newest e names (d .rule)) in
+      read-sorted cells′ (r .value) few-names short (omega (arith, r .few)) (r .shows) (text-sorted (setting .all) L newest e names (d .rule)) in
       subst (λ t. ReadWithin n t (s .made)) (sym q) d

@@ -18,6 +18,7 @@ use Rattle.tokens.specs.declared.Token.{Token}
 use Rattle.tokens.specs.Tokens.{endToken}
 use Rattle.productions.specs.Normal.{Production}
 use Rattle.judgements.proofs.TemplateSorts.{both, either}
+use Rattle.copying.specs.RowTemplates.{isVariableName}
 use Rattle.expansion.specs.declared.State.{State}
 use Rattle.expansion.specs.Run.{done}
 use Rattle.expansion.specs.TextTokens.{isTextKind, isOutsideKind, meetsIde}
@@ -108,12 +109,14 @@ pub seen-word : (binders : Bool) (t : Token) → seen binders t .kind ≡ wordKi
 seen-word true t e = (e, refl)
 seen-word false t e = absurd (no-word t e)
 
--- What is known of a text's tokens: none is a number, and none has the kind of an outside name.
+-- What is known of a text's tokens: none is a number, none has the kind of an outside name, and variables have their names.
 pub record TextTokens (tokens : List Token) : Type 0 where
   -- none is a number
   pub no-number : (at : ℕ) → getD tokens at endToken .kind ≡ numberKind → ⊥
   -- kinds are those of a formula's tokens and of variables
   pub small : (at : ℕ) → getD tokens at endToken .kind < outsideKind
+  -- what is behind kind 64 has the name of a variable
+  pub named : (at : ℕ) → noKind < getD tokens at endToken .kind → isVariableName (getD tokens at endToken .value) ≡ true
 
 -- The choice of the run picks what the tokens take.
 pub seen-picks : (binders : Bool) (g : List Production) (n : ℕ) → n < 64 → (tokens : List Token) (at : ℕ) → getD tokens at endToken .kind < outsideKind

@@ -10,7 +10,7 @@ use Rattle.kinds.specs.Kinds.{wordKind, keywordKind}
 use Rattle.kinds.specs.TextKinds.{variableKind}
 use Rattle.grammar.specs.Sorts.{binder}
 use Rattle.grammar.specs.SortTests.{fits}
-use Rattle.grammar.specs.Table.{Template, Templates, variable, outsideVar, outsideLabel, make, none, more, keyword, ide, Item, terminal, local, call}
+use Rattle.grammar.specs.Table.{Template, Templates, variable, outsideVar, outsideLabel, make, unit, none, more, keyword, ide, place, Item, terminal, local, call}
 use Rattle.terms.specs.Term.{largestTerm}
 use Rattle.tokens.specs.declared.Token.{Token}
 use Rattle.tokens.specs.Tokens.{mostTokens}
@@ -34,12 +34,14 @@ unfoldable mutual
   sizeUnder M (outsideVar n) = 0
   sizeUnder M (outsideLabel n) = 0
   sizeUnder M (make c ts) = total (sizesUnder M ts) + 1
+  sizeUnder M unit = 0
 
   pub sizesUnder : List ℕ → Templates → List ℕ
   sizesUnder M none = []
   sizesUnder M (more t ts) = sizeUnder M t ∷ sizesUnder M ts
 
--- terminals of a text: any word stands at Var and Label, and if `binders` at Binder too; a fresh name moves the counter i. No rule reads a number (26).
+-- terminals of a text: a variable stands at a pattern place of exactly its sort, any word at Var and Label, and if `binders` at Binder too; a fresh name moves
+-- the counter i. No rule reads a number (26).
 pub data SizeReads (binders : Bool) : List Token → ℕ → Item → List Token → ℕ → ℕ → Type 0 where
   by-keyword : {t : Token} {s : List Token} {i k : ℕ}
       → t .kind ≡ keywordKind k
@@ -48,6 +50,9 @@ pub data SizeReads (binders : Bool) : List Token → ℕ → Item → List Token
       → t .kind ≡ variableKind A
       → fits A B ≡ true
       → SizeReads binders (t ∷ s) i (terminal (ide B)) s i 0
+  by-place : {t : Token} {s : List Token} {i B : ℕ}
+      → t .kind ≡ variableKind B
+      → SizeReads binders (t ∷ s) i (terminal (place B)) s i 0
   by-word : {t : Token} {s : List Token} {i B : ℕ}
       → t .kind ≡ wordKind
       → (B ≡ binder → binders ≡ true)
