@@ -16,7 +16,7 @@ use Rattle.judgements.specs.Judgements.{Newest, newest-first, newest-later, Und
 use Rattle.judgements.specs.Judgements.{by-place, by-local, by-call, Body, by-result, by-binding, Defines, no-definition, by-add, by-extend, by-update, scope}
 use Rattle.judgements.specs.Elaboration.{Bodies, no-alternative, by-choice, Ok, ok-empty, ok-definition, Sequence, no-grammar, by-grammar, Elaborates, scopeOf}
 use Rattle.judgements.proofs.Environments.{newest-defined, newest-signature, absent-undefined}
-use Rattle.judgements.proofs.Elaborated.{body-sorted, made-within}
+use Rattle.judgements.proofs.Elaborated.{body-sorted}
 use Rattle.productions.specs.Normal.{Production, productionsOf, without, kept, definedAll, normalizedFrom, normalized}
 use Rattle.soundness.proofs.Typing.{Fit, FitAll}
 
@@ -120,7 +120,6 @@ module _ (keywords outsides : ℕ) where
         body = body-more m (h .body);
         items = h .items;
         itemCount = h .itemCount;
-        result = h .result;
       })
       (fits-more m hs)
 
@@ -132,7 +131,7 @@ module _ (keywords outsides : ℕ) where
     alternatives-fit w no-alternative each-none = each-none
     alternatives-fit {S = S} w (by-choice n r bs) (each-more a more) =
         each-more
-        (record { signature = S; newest = w; body = body-sorted n r; items = a .items; itemCount = a .itemCount; result = made-within r (a .result) })
+        (record { signature = S; newest = w; body = body-sorted n r; items = a .items; itemCount = a .itemCount })
         (alternatives-fit w bs more)
 
     definitions-fit : {g : List Production} {ds : List WrittenDefinition} {es : List Definition} → Each (Fit (scope keywords outsides E)) g
