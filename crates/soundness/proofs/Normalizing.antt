@@ -18,7 +18,7 @@ use Rattle.judgements.proofs.Environments.{newest-defined, newest-signature, ab
 use Rattle.elaboration.specs.Elaboration.{Bodies, no-alternative, by-choice, Ok, ok-empty, ok-definition, Sequence, no-grammar, by-grammar, Elaborates}
 use Rattle.elaboration.specs.Elaboration.{scopeOf}
 use Rattle.elaboration.specs.Contexts.{Before, scopeAfter}
-use Rattle.elaboration.proofs.Elaborated.{body-sorted, made-within, same-spellings, normalized-behind}
+use Rattle.elaboration.proofs.Elaborated.{body-sorted, same-spellings, normalized-behind}
 use Rattle.productions.specs.Normal.{Production, productionsOf, without, kept, definedAll, normalizedFrom, normalized}
 use Rattle.soundness.proofs.Typing.{Fit, FitAll}
 
@@ -122,7 +122,6 @@ module _ (keywords outsides : ℕ) where
         body = body-more m (h .body);
         items = h .items;
         itemCount = h .itemCount;
-        result = h .result;
       })
       (fits-more m hs)
 
@@ -134,7 +133,7 @@ module _ (keywords outsides : ℕ) where
     alternatives-fit w no-alternative each-none = each-none
     alternatives-fit {S = S} w (by-choice n r bs) (each-more a more) =
         each-more
-        (record { signature = S; newest = w; body = body-sorted n r; items = a .items; itemCount = a .itemCount; result = made-within r (a .result) })
+        (record { signature = S; newest = w; body = body-sorted n r; items = a .items; itemCount = a .itemCount })
         (alternatives-fit w bs more)
 
     definitions-fit : {g : List Production} {ds : List WrittenDefinition} {es : List Definition} {used used′ : ℕ}

@@ -1,6 +1,6 @@
 -- An expansion that stops by the rules halts with the same refusal.
 use Prim.Native.Nat.{ℕ, zero, suc, _+_, _*_, _≤_, _<_}
-use mathlib.Core.Path.{_≡_, refl, ap, _∙_}
+use mathlib.Core.Path.{_≡_, refl, sym, ap, _∙_}
 use mathlib.Core.Bool.{Bool, true, false, true≢false}
 use mathlib.Core.List.{List, [], _∷_, _++_}
 use native.Mathlib.Omega.{arith}
@@ -10,8 +10,11 @@ use lib.Count.{ones}
 use borrow.Author.Tests.{lt-ltb, le-ltb}
 use Rattle.answers.specs.declared.Refusal.{Refusal}
 use Rattle.answers.specs.Refusals.{refusal}
+use Rattle.kinds.specs.Kinds.{only}
+use Rattle.kinds.specs.TextKinds.{variableKind}
 use Rattle.grammar.specs.Sorts as Sorts
-use Rattle.grammar.specs.Table.{Template, Templates, make, none, Terminal, kindOf, Item, call}
+use Rattle.grammar.specs.Table.{Template, Templates, make, none, Terminal, kindOf, Item, terminal, call}
+use Rattle.grammar.specs.Table as Table
 use Rattle.decoding.specs.Within.{Each, each-more, ItemWithin, call-within}
 use Rattle.judgements.specs.Judgements.{Fill, Body, by-binding}
 use Rattle.judgements.specs.Judgements as Judgements
@@ -38,9 +41,9 @@ use Rattle.soundness.proofs.Sound.{Kept, kept-made, kept-less}
 use Rattle.soundness.proofs.Complete.{Beyond, items-along, Reached, root-along}
 use Rattle.soundness.proofs.Complete as Complete
 use Rattle.soundness.specs.Stopping.{Left, nextIndex, takes, makes, begins, Fails, no-token, no-row, too-deep, too-many-calls, no-choice, Stops, at-token}
-use Rattle.soundness.specs.Stopping.{at-arguments, at-call, past-item, CallStops, at-start, in-items, at-result, Refuses, stops, left-over}
+use Rattle.soundness.specs.Stopping.{at-place, at-arguments, at-call, past-item, CallStops, at-start, in-items, at-result, Refuses, stops, left-over}
 use Rattle.soundness.proofs.CellsLeft.{left-not, left-trans, Leaves, build-leaves, build-all-leaves, item-leaves, items-leave, call-leaves}
-use Rattle.soundness.proofs.StopLaws.{first-set-one, build-stays, build-all-stays, index-is, take-halts, item-bounded, items-bounded, call-bounded}
+use Rattle.soundness.proofs.StopLaws.{first-set-one, build-stays, build-all-stays, index-is, take-halts, place-halts, item-bounded, items-bounded, call-bounded}
 use Rattle.terms.specs.Cells.{columns}
 
 -- a run halted with this refusal that had made `first` cells and then `total`, and left the others
@@ -395,6 +398,19 @@ module _ {g : List Production} (setting : Setting g) where
             (token-fails inside (runCall d lent) xs s cells w f p);
       }
 
+  place-stops : {opened begun made i total : ℕ} {left : List Token} {M : List Value} (B : ℕ) (is : List Item) {cause : Refusal}
+      → Fails g spell rows tokens opened begun made left (takes (variableKind B)) cause total
+      → Halts opened begun made left i (terminal (Table.place B) ∷ is) M cause total
+  unfolding runItems
+  place-stops {left = left} B is {cause} (no-token f) =
+      record {
+        halts = λ {lent} {within} provides inside d k result S L xs s cells e b ws p h a.
+            halts-after cause (Expansion.takeTerminal within (Table.place B) s cells) (λ x. runItems (runCall d lent) within is (xs ++ (x ∷ [])))
+            (halts-here (p .made)
+            (place-halts setting inside B s cells
+            ∙ ap (λ at. halt (refusal 17 at (only (variableKind B)) (ones (only (variableKind B)))) cells) (sym (index s p))));
+      }
+
   past-halts : {opened begun made i i′ : ℕ} {left left′ : List Token} {item : Item} {is : List Item} {M M′ : List Value} {cause : Refusal} {total : ℕ}
       (derives : Derives g spell M left i (item ∷ []) left′ i′ M′)
       → Affords rows opened begun made derives
@@ -448,6 +464,7 @@ module _ {g : List Production} (setting : Setting g) where
         → Stops g spell rows tokens opened begun made M left i is cause total
         → Halts opened begun made left i is M cause total
     stops-halts (at-token {ps = is} w f) = token-halts is w f
+    stops-halts (at-place {B = B} {ps = is} f) = place-stops B is f
     stops-halts (at-arguments {ps = is} gs f) = arguments-halt is gs f
     stops-halts (at-call {ps = is} gs l e) = call-fails is gs l (enters-calls e)
     stops-halts (past-item D A st) = past-halts D A (stops-halts st)

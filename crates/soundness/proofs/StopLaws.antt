@@ -8,9 +8,10 @@ use lib.Dec.{eqb, ltb}
 use native.Mathlib.Nat.{pow-suc}
 use lib.ListN.{length, getD, drop, length-drop}
 use lib.Count.{ones}
-use borrow.Author.Tests.{eqb-true, ne-eqb}
+use borrow.Author.Tests.{eqb-true, ne-eqb, le-ltb}
 use Rattle.answers.specs.Refusals.{refusal}
 use Rattle.kinds.specs.Kinds.{hasKind, only}
+use Rattle.kinds.specs.TextKinds.{variableKind}
 use Rattle.kinds.proofs.KindsLaws.{same-kinds}
 use Rattle.grammar.specs.Table.{Template, Templates, none, more, Terminal, kindOf, Item, terminal, local, call}
 use Rattle.grammar.specs.Table as Table
@@ -144,6 +145,19 @@ module _ {g : List Production} (setting : Setting g) where
   take-halts provides t state cells l n =
       take-is setting provides t state cells ∙ rw (ne-eqb (nextToken J state .kind) (kindOf t) (λ e. n (next-kind state e l)), takeToken) refl
 
+  -- no token of a formula is taken at a pattern place
+  pub place-halts : {lent : Input} → Provides setting lent → (B : ℕ) (state : State) (cells : List ℕ)
+      → takeTerminal lent (Table.place B) state cells ≡ halt (refusal 17 (state .at) (only (variableKind B)) (ones (only (variableKind B)))) cells
+  place-halts provides B state cells =
+      take-is setting provides (Table.place B) state cells
+      ∙ rw (ne-eqb (nextToken J state .kind) (variableKind B) (λ e. omega (arith, setting .formula (state .at))), takeToken) refl
+
+  -- with no openings, and 0 for their count
+  pub place-refused : {lent : Input} → Provides setting lent → (B : ℕ) (state : State) (cells : List ℕ)
+      → takeTerminal lent (Table.place B) state cells ≡ halt (refusal 17 (state .at) 0 0) cells
+  unfolding only ones
+  place-refused provides B state cells = place-halts provides B state cells ∙ rw (le-ltb (variableKind B) 64 (omega arith), only) refl
+
   -- ------------------------------------------------------------------ the place
 
   -- the run stays within the tokens
@@ -177,7 +191,9 @@ module _ {g : List Production} (setting : Setting g) where
       -- an item does
       pub item-bounded : {item : Item} {A : ℕ} {L : List ℕ} (xs : List ℕ) (state : State) (cells : List ℕ) → ItemSorted (F .scope) L item A → ItemWithin item
           → state .at ≤ length tokens → Bounded (runItem called lent item xs state cells)
-      item-bounded {item = terminal t} xs state cells w z h = take-bounded provides t state cells (sorted-kind F z w)
+      item-bounded {item = terminal t} xs state cells w z h =
+          sorted-kind F w (take-bounded provides t state cells)
+          (λ B e. subst⁻¹ (λ u. Bounded (takeTerminal lent u state cells)) e (subst⁻¹ Bounded (place-halts provides B state cells) tt))
       item-bounded {item = local} xs state cells w z h = h
       item-bounded {item = call n ts} xs state cells w (call-within l ws) h =
           bounded-after (buildAll ts lent xs state cells) (λ vs. called n vs)

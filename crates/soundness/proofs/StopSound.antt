@@ -12,13 +12,13 @@ use Rattle.answers.specs.Refusals.{refusal}
 use Rattle.kinds.specs.Kinds.{only}
 use Rattle.grammar.specs.Sorts.{Signature}
 use Rattle.grammar.specs.Sorts as Sorts
-use Rattle.grammar.specs.Table.{Template, Templates, make, none, Terminal, kindOf, Item, terminal, local, call}
+use Rattle.grammar.specs.Table.{Template, Templates, make, none, Terminal, kindOf, place, Item, terminal, local, call}
 use Rattle.decoding.specs.Within.{Each, each-more, ItemWithin, call-within}
 use Rattle.judgements.specs.Judgements.{Newest, ItemSorted, Body, by-binding}
 use Rattle.judgements.specs.Judgements as Judgements
 use Rattle.tokens.specs.declared.Token.{Token}
 use Rattle.productions.specs.Normal.{Production}
-use Rattle.firsts.specs.Rules.{Reads, reads}
+use Rattle.firsts.specs.Rules.{reads}
 use Rattle.firsts.proofs.FirstsTheorems.{opens-exactly}
 use Rattle.expansion.specs.declared.State.{State}
 use Rattle.expansion.specs.Run.{Result, done, halt, after}
@@ -40,8 +40,8 @@ use Rattle.expansion.proofs.Choosing.{nextKind, Picks, picks, picks-none, rule}
 use Rattle.soundness.proofs.Sound.{token-here, Kept, kept-made, kept-less, Stepped, Derived, item-sound}
 use Rattle.soundness.proofs.Sound.{items-sound, call-sound, Root, root-called, root-derived}
 use Rattle.soundness.proofs.Complete.{items-along, items-after, root-along}
-use Rattle.soundness.specs.Stopping.{Action, nextIndex, makes, Fails, no-token, no-row, too-deep, too-many-calls, no-choice, Stops, at-token}
-use Rattle.soundness.specs.Stopping.{at-arguments, at-call, past-item, CallStops, at-start, in-items, at-result, Refuses, stops, left-over}
+use Rattle.soundness.specs.Stopping.{Action, nextIndex, takes, makes, Fails, no-token, no-row, too-deep, too-many-calls, no-choice, Stops, at-token}
+use Rattle.soundness.specs.Stopping.{at-place, at-arguments, at-call, past-item, CallStops, at-start, in-items, at-result, Refuses, stops, left-over}
 use Rattle.soundness.proofs.StopLaws.{build-stays, build-all-stays, index-is, kind-of-next, item-bounded, items-bounded, call-bounded}
 use Rattle.terms.specs.Cells.{columns}
 
@@ -94,7 +94,9 @@ module _ {g : List Production} (setting : Setting g) where
       → s .at ≤ length tokens → Kept rows k s cells → ShowAll spell (s .made) cells xs vs → Ends Fine (EntersAt o n vs s) (runCall d lent n xs s cells)
 
   take-halts : {lent : Input} → Provides setting lent
-      → (opened : ℕ) (M : List Value) {item : Item} (is : List Item) (t : Terminal) (state : State) (cells : List ℕ) → Reads item (kindOf t)
+      → (opened : ℕ) (M : List Value) {item : Item} (is : List Item) (t : Terminal) (state : State) (cells : List ℕ)
+      → ((cause : Refusal) (total : ℕ) → Fails g spell rows tokens opened (state .calls) (state .made) (rest state) (takes (kindOf t)) cause total
+      → Stops g spell rows tokens opened (state .calls) (state .made) M (rest state) (state .fresh) (item ∷ is) cause total)
       → state .at ≤ length tokens
       → Ends Fine (StopsAt opened M (item ∷ is) state) (takeTerminal lent t state cells)
   take-halts provides opened M {item} is t state cells w l =
@@ -110,7 +112,7 @@ module _ {g : List Production} (setting : Setting g) where
       go true e = tt
       go false e = (
         _,
-        at-token w
+        w _ _
             (fails-here state l
             (no-token (λ n. eqb-false (nextToken J state .kind) (kindOf t) e (kind-of-next setting state n)))),
       )
@@ -140,7 +142,10 @@ module _ {g : List Production} (setting : Setting g) where
         → state .at ≤ length tokens → Kept rows (names-left + 1) state cells → ShowAll spell (state .made) cells xs M
         → Ends Fine (StopsAt opened M (item ∷ is) state) (runItem (runCall depth lent) within item xs state cells)
     item-halts names-left {item = terminal t} {M = M} is state cells w z m b h a =
-        take-halts inside opened M is t state cells (reads (sorted-kind F z w)) b
+        sorted-kind F w (λ l. take-halts inside opened M is t state cells (λ cause total f. at-token (reads l) f) b)
+        (λ B e.
+        subst⁻¹ (λ u. Ends Fine (StopsAt opened M (terminal u ∷ is) state) (takeTerminal within u state cells)) e
+        (take-halts inside opened M is (place B) state cells (λ cause total f. at-place f) b))
     item-halts names-left {item = local} is state cells w z m b h a = tt
     item-halts names-left {item = call _ _} {M = M} {xs = xs} is state cells (Judgements.by-call {n = n} {S = S} {ts = ts} w f) (call-within l ws) m b h a =
         let vs = give-all-exist spell m ts f in

@@ -1,13 +1,13 @@
 -- 001's Theorem 1: what a production of a well sorted grammar derives has the sort of its place.
 use Prim.Native.Nat.{ℕ, zero, suc, _+_, _-_, _≤_, _<_}
-use mathlib.Core.Path.{_≡_, sym, ap, subst, _∙_}
+use mathlib.Core.Path.{_≡_, refl, sym, ap, subst, _∙_}
 use mathlib.Core.List.{List, [], _∷_, _++_}
 use native.Mathlib.Omega.{arith}
 use lib.ListN.{length}
 use Rattle.grammar.specs.Sorts.{Signature, constructorSignatures, constructor}
 use Rattle.grammar.specs.Table.{Template, Templates, none, more, kindOf, Item, terminal}
 use Rattle.grammar.specs.Table as Table
-use Rattle.decoding.specs.Within.{Each, TemplateWithin, keyword-within, ide-within, number-within, ItemWithin, terminal-within, Among}
+use Rattle.decoding.specs.Within.{Each, ItemWithin, Among}
 use Rattle.judgements.specs.CheckSorts.{signatureOf}
 use Rattle.judgements.specs.Scopes.{Scope}
 use Rattle.judgements.specs.Judgements.{Has, has-first, has-later, Newest, Fits, fits-equal, fits-binder, Sorted, Fill, fill-none, fill-more, ItemSorted, Body}
@@ -132,8 +132,6 @@ pub record Fit (scope : Scope) (p : Production) : Type 0 where
   pub items : Each ItemWithin (p .items)
   -- twelve at most
   pub itemCount : length (p .items) ≤ 12
-  -- so is the result
-  pub result : TemplateWithin (p .result)
 
 -- a grammar all of whose productions are
 pub record FitAll (g : List Production) : Type 0 where
@@ -146,12 +144,13 @@ pub record FitAll (g : List Production) : Type 0 where
   -- each production fits it
   pub each : (p : Production) → Among g p → Fit scope p
 
--- a sorted terminal within the ranges reads a kind
-pub sorted-kind : {g : List Production} (fit-all : FitAll g) {L : List ℕ} {t : Table.Terminal} {A : ℕ}
-    → ItemWithin (terminal t) → ItemSorted (fit-all .scope) L (terminal t) A → kindOf t < 64
-sorted-kind fit-all (terminal-within (keyword-within k)) (Judgements.by-keyword l) = omega (arith, l, fit-all .keywordCount)
-sorted-kind fit-all (terminal-within (ide-within k h)) s = omega arith
-sorted-kind fit-all (terminal-within number-within) s = omega arith
+-- a sorted terminal reads a kind, or is a pattern place
+pub sorted-kind : {g : List Production} (fit-all : FitAll g) {L : List ℕ} {t : Table.Terminal} {A : ℕ} {R : Type 0}
+    → ItemSorted (fit-all .scope) L (terminal t) A → (kindOf t < 64 → R) → ((B : ℕ) → t ≡ Table.place B → R) → R
+sorted-kind fit-all (Judgements.by-keyword l) by-kind by-place = by-kind (omega (arith, l, fit-all .keywordCount))
+sorted-kind fit-all (Judgements.by-ide l u) by-kind by-place = by-kind (omega arith)
+sorted-kind fit-all Judgements.by-number by-kind by-place = by-kind (omega arith)
+sorted-kind fit-all (Judgements.by-place {B = B} l) by-kind by-place = by-place B refl
 
 -- what a terminal gives has its sort
 terminal-typed : {g : List Production} {spell : ℕ → List ℕ} {scope : Scope} {L : List ℕ} {s s′ : List Token} {i i′ : ℕ} {p : Item} {value : Value} {A : ℕ}

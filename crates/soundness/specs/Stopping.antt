@@ -9,7 +9,8 @@ use lib.{ListN.length, ListN.getD, Count.ones}
 use Rattle.answers.specs.declared.Refusal.{Refusal}
 use Rattle.answers.specs.Refusals.{refusal}
 use Rattle.kinds.specs.Kinds.{hasKind, only}
-use Rattle.grammar.specs.Table.{Templates, none, Item, call}
+use Rattle.kinds.specs.TextKinds.{variableKind}
+use Rattle.grammar.specs.Table.{Templates, none, place, Item, terminal, call}
 use Rattle.terms.specs.Cells.{columns}
 use Rattle.tokens.specs.declared.Token.{Token}
 use Rattle.productions.specs.Normal.{Production}
@@ -55,13 +56,17 @@ module _ (g : List Production) (spell : ℕ → List ℕ) (rows : ℕ) (tokens :
         → FirstSet g n set
         → Fails o c m s (begins n) (refusal 17 (nextIndex tokens s) set (ones set)) m
 
-  -- the parse of items, and a call of a nonterminal with arguments, stop at a step that fails, with the cells made by then
+  -- the parse of items, and a call of a nonterminal with arguments, stop at a step that fails, with the cells made by then; at a
+  -- pattern place a formula always does, as no token of it is a variable, whose kind is in no set (document 02, C-14)
   mutual
     pub data Stops : ℕ → ℕ → ℕ → List Value → List Token → ℕ → List Item → Refusal → ℕ → Type 0 where
       at-token : {o c m made i k : ℕ} {M : List Value} {s : List Token} {p : Item} {ps : List Item} {r : Refusal}
           → Reads p k
           → Fails o c m s (takes k) r made
           → Stops o c m M s i (p ∷ ps) r made
+      at-place : {o c m made i B : ℕ} {M : List Value} {s : List Token} {ps : List Item} {r : Refusal}
+          → Fails o c m s (takes (variableKind B)) r made
+          → Stops o c m M s i (terminal (place B) ∷ ps) r made
       at-arguments : {o c m made i n : ℕ} {M vs : List Value} {s : List Token} {ts : Templates} {ps : List Item} {r : Refusal}
           → GiveAll spell M ts vs
           → Fails o c m s (makes (rowsOfAll ts)) r made
