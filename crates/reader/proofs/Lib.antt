@@ -2,3 +2,4 @@ pub mod WordLaws
 pub mod JudgeLaws
 pub mod RunLaws
 pub mod AttemptLaws
+pub mod ReadingLaws
