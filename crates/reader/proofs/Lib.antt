@@ -3,3 +3,4 @@ pub mod JudgeLaws
 pub mod RunLaws
 pub mod AttemptLaws
 pub mod ReadingLaws
+pub mod StoreLaws

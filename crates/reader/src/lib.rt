@@ -3,6 +3,7 @@ pub mod attempts;
 pub mod judging;
 pub mod measuring;
 pub mod runs;
+pub mod storing;
 pub mod words;
 
 use crate::attempts::Attempt;

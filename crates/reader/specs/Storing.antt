@@ -1,0 +1,38 @@
+-- How a text that was read is stored behind those before it. These definitions mirror code: nobody needs them to believe `expand`.
+use Prim.Native.Nat.{ℕ, _+_, _*_, _/_, _^_, _<_, _≤_}
+use mathlib.Core.Path.{_≡_}
+use mathlib.Core.List.{List}
+use lib.ListN.{length, getD}
+use Rattle.terms.specs.Cells.{columns}
+
+-- where the pair of the field at an offset stands
+abbrev pub pairAt : ℕ → ℕ
+pairAt at = at / 4 * 2
+
+-- the pair stands before the rows, which are inside; sort and index share a number
+pub record StorablePair (texts cells : List ℕ) (at sort start made : ℕ) : Type 0 where
+  pub before : pairAt at + 1 < start
+  pub inside : start + made * columns ≤ length texts
+  pub short : length texts < 2 ^ 28
+  pub sort-small : sort < 8
+  pub rows-there : made * columns ≤ length cells
+
+-- numbers are moved from the front of the cells to an index, and zeroed; all others stay
+pub record MovesRows (texts : List ℕ) (start : ℕ) (cells : List ℕ) (numbers : ℕ) (texts′ cells′ : List ℕ) : Type 0 where
+  pub long : length texts′ ≡ length texts
+  pub wide : length cells′ ≡ length cells
+  pub moved : (i : ℕ) → i < numbers → getD texts′ (start + i) 0 ≡ getD cells i 0
+  pub kept : (j : ℕ) → j < start → getD texts′ j 0 ≡ getD texts j 0
+  pub zero : (i : ℕ) → i < numbers → getD cells′ i 0 ≡ 0
+  pub left : (j : ℕ) → numbers ≤ j → getD cells′ j 0 ≡ getD cells j 0
+
+-- the pair and the rows are stored; what stands before the rows stays but for the pair
+pub record StoresText (texts cells : List ℕ) (at sort start x made : ℕ) (texts′ cells′ : List ℕ) : Type 0 where
+  pub long : length texts′ ≡ length texts
+  pub wide : length cells′ ≡ length cells
+  pub value : getD texts′ (pairAt at) 0 ≡ x
+  pub word : getD texts′ (pairAt at + 1) 0 ≡ start * 8 + sort
+  pub rows : (i : ℕ) → i < made * columns → getD texts′ (start + i) 0 ≡ getD cells i 0
+  pub kept : (j : ℕ) → j < start → (j ≡ pairAt at → ⊥) → (j ≡ pairAt at + 1 → ⊥) → getD texts′ j 0 ≡ getD texts j 0
+  pub zero : (i : ℕ) → i < made * columns → getD cells′ i 0 ≡ 0
+  pub left : (j : ℕ) → made * columns ≤ j → getD cells′ j 0 ≡ getD cells j 0
