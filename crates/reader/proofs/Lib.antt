@@ -4,3 +4,4 @@ pub mod RunLaws
 pub mod AttemptLaws
 pub mod ReadingLaws
 pub mod StoreLaws
+pub mod SameRows
