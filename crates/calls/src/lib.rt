@@ -19,7 +19,7 @@ use turns::paused;
 use turns::resumed;
 use turns::returned;
 use turns::valued;
-ghost use Rattle.steps.specs.Source.{source};
+ghost use Rattle.steps.specs.Source.{SomeLent, EachLent};
 ghost use Rattle.calls.specs.Calls.{MayGo, Continues};
 
 // How many calls may wait.
@@ -33,13 +33,15 @@ pub fn items(
     frames: &mut [u32],
     memory: &mut [u8; MEMORY],
     table: &[u8],
+    texts: &[u32],
     room: &[u64; ROOM],
     tokens: &[u32],
     from: Resumption,
 ) -> Advance
-    requires { ⌜ MayGo (source (now table)) (now room) (now memory) (now tokens) (now cells) (now stack) (now frames) from ⌝ }
-    ensures { λ r. ⌜ Continues (source (now (table .entry))) (now (tokens .entry)) (now (cells .entry)) (now (frames .entry)) from r (now (cells
-        .exit)) (now (frames .exit)) (now (memory .exit)) ⌝ }
+    requires { ⌜ SomeLent (now table) (now texts) (λ S. MayGo S (now room) (now memory) (now tokens) (now cells) (now stack) (now frames) from) ⌝ }
+    ensures { λ r. ⌜ EachLent (now (table .entry)) (now (texts .entry)) (λ S. MayGo S (now (room .entry)) (now (memory .entry)) (now (tokens .entry)) (now
+        (cells .entry)) (now (stack .entry)) (now (frames .entry)) from) (λ S. Continues S (now (tokens .entry)) (now (cells .entry)) (now (frames .entry))
+        from r (now (cells .exit)) (now (frames .exit)) (now (memory .exit))) ⌝ }
 {
     let rows = rows_of(cells.len());
     let mut vars = [0u32; MOST_VARIABLES];
@@ -50,7 +52,7 @@ pub fn items(
         let step = item_step(cells, stack, &mut args, table, tokens, rows, &vars, c);
         match step {
             ItemStep::Finished => {
-                let outcome = finish(cells, stack, table, rows, &vars, c);
+                let outcome = finish(cells, stack, table, texts, rows, &vars, c);
                 let Outcome::Value(x, t) = outcome else {
                     return Advance::Ended(outcome);
                 };

@@ -15,12 +15,13 @@ use Rattle.spellings.proofs.BytesLaws.{by-test}
 use Rattle.kinds.specs.Kinds.{wordKind, noKind, hasKind}
 use Rattle.kinds.specs.TextKinds.{outsideKind}
 use Rattle.grammar.specs.SortTests.{fits}
-use Rattle.grammar.specs.Table.{Item}
+use Rattle.grammar.specs.Lookup.{fieldsAt}
+use Rattle.grammar.specs.Table.{Template, Item}
 use Rattle.firsts.specs.Patterns.{opensIde, opensPlace}
 use Rattle.grammar.proofs.ReaderLaws.{getD-past}
 use Rattle.decoding.specs.Within.{Each, each-none, each-more, Among, among-first, among-later}
 use Rattle.productions.specs.Normal.{Production}
-use Rattle.productions.specs.Index.{Place, placesOf, productionAt, Whole}
+use Rattle.productions.specs.Index.{itemsOf, Place, placesOf, productionAt, Whole}
 use Rattle.productions.specs.Room.{Entry, noEntry, noPlace, HoldsEntries, placeFrom, isOf, isNullableOf, firstIn, startIn, firstSetIn}
 use Rattle.productions.specs.Room.{firstPlaceIn, nextPlaceIn, nullablePlaceIn, patternsIn}
 use Rattle.productions.proofs.RoomLaws.{first-set-in, first-place-in, nullable-place-in, first-in, start-in, next-place-in, patterns-in}
@@ -30,11 +31,19 @@ use Rattle.firsts.specs.Rules.{Opens}
 use Rattle.firsts.proofs.StepLaws.{length-sets}
 use Rattle.firsts.proofs.FirstsTheorems.{opens-exactly, production-opens-exactly}
 use Rattle.expansion.specs.TextTokens.{isOpened, isPlaced}
-use Rattle.expansion.specs.Expansion.{Rule, ruleOf, Choice, unfit, chosen, firstRule, choice, readyFor}
+use Rattle.expansion.specs.Expansion.{Rule, Grammar, ruleOf, Choice, unfit, chosen, firstRule, choice, readyBy, readyFor}
 use Rattle.expansion.proofs.AsBefore.{opened-as-before, placed-never, opened-variable, placed-variable, opened-outside, placed-outside}
+use Rattle.choices.proofs.SameSets.{nullables-same, sets-same}
 use Rattle.choices.specs.Held.{HeldFor, HoldsSome}
 use Rattle.choices.specs.Chosen.{firstSetsOf, kindsIn, entriesFor, ofWith, opens, places, holdsKind, opensBy, opensSort, firstWith, orElse, chosenPlace}
 use Rattle.choices.specs.Chosen.{chosenStartFor, memorySize, slot, RemembersFor}
+
+-- the production at a place, with the result that is given for its offset, and all of a table
+abbrev pub productionWith : List ℕ → (ℕ → Template) → Place → Production
+productionWith bs results p = record { nonterminal = p .nonterminal; items = itemsOf (fieldsAt bs (p .start)); result = results (p .start) }
+
+abbrev pub productionsWith : List ℕ → (ℕ → Template) → List Production
+productionsWith bs results = map (productionWith bs results) (placesOf bs)
 
 -- ------------------------------------------------------------------ places
 
@@ -411,8 +420,9 @@ module _ {patterns : List Item → ℕ} {bs room : List ℕ} (held : HeldFor pat
   abbrev placed : Place → Production
   placed p = productionAt bs (p .nonterminal) (p .start)
 
-  abbrev R : Place → Rule
-  R p = ruleOf nulls (firstSetsOf bs) (placed p)
+  -- the rule at a place, with the result that is given for its offset
+  abbrev R : (ℕ → Template) → Place → Rule
+  R results p = ruleOf nulls (firstSetsOf bs) (productionWith bs results p)
 
   few : length (placesOf bs) ≤ 256
   few = held .grammar .few
@@ -626,17 +636,29 @@ module _ {patterns : List Item → ℕ} {bs room : List ℕ} (held : HeldFor pat
       by (yes l) = sym (kinds-inside room nonterminal l) ∙ set-inside nonterminal l
       by (no n) = sym (kinds-outside room nonterminal (omega arith)) ∙ set-outside nonterminal (omega arith)
 
+  -- The first sets of a table do not look at results.
+  pub ready-with : (results : ℕ → Template)
+      → readyFor patterns (productionsWith bs results) ≡ readyBy patterns (productionsWith bs results) nulls (firstSetsOf bs)
+  unfolding readyFor firstSetsOf productionAt
+  ready-with results =
+      rw (nullables-same (productionWith bs results) placed (λ p. refl) (λ p. refl) (placesOf bs))
+      (ap (readyBy patterns (productionsWith bs results) nulls)
+      (sets-same (productionWith bs results) placed (λ p. refl) (λ p. refl) openingOf nulls (placesOf bs)))
+
   -- a place among the entries, and another if it is none
   module _ {spot : ℕ} (inside : spot < 256 → spot < length (placesOf bs)) (other : ℕ) where
-    or-choice : (left : Choice) → choiceAt R (placesOf bs) spot (choiceAt R (placesOf bs) other left) ≡ choiceAt R (placesOf bs) (orElse spot other) left
-    or-choice left =
+    or-choice : (rule-at : Place → Rule) (left : Choice)
+        → choiceAt rule-at (placesOf bs) spot (choiceAt rule-at (placesOf bs) other left) ≡ choiceAt rule-at (placesOf bs) (orElse spot other) left
+    or-choice rule-at left =
         by-test (ltb spot 256)
         (λ t.
         let l = ltb-true _ _ t in
-        choice-inside R _ (placesOf bs) spot (inside l) ∙ rw (← (or-first {place = spot} other l)) (sym (choice-inside R left (placesOf bs) spot (inside l))))
+        choice-inside rule-at _ (placesOf bs) spot (inside l)
+        ∙ rw (← (or-first {place = spot} other l)) (sym (choice-inside rule-at left (placesOf bs) spot (inside l))))
         (λ t.
         let l : 256 ≤ spot = ltb-false _ _ t in
-        choice-outside R _ (placesOf bs) spot (omega (arith, few)) ∙ ap (λ (j : ℕ). choiceAt R (placesOf bs) j left) (or-second {place = spot} other l))
+        choice-outside rule-at _ (placesOf bs) spot (omega (arith, few))
+        ∙ ap (λ (j : ℕ). choiceAt rule-at (placesOf bs) j left) (or-second {place = spot} other l))
 
     or-inside : (other < 256 → other < length (placesOf bs)) → orElse spot other < 256 → orElse spot other < length (placesOf bs)
     or-inside too =
@@ -654,36 +676,8 @@ module _ {patterns : List Item → ℕ} {bs room : List ℕ} (held : HeldFor pat
     abbrev nullable-at : ℕ
     nullable-at = placeFrom (isNullableOf nonterminal) (entriesFor patterns bs) 0
 
-    -- a search by a test of rules is one by a test of entries
-    searched-at : (te : Entry → Bool) (tr : Rule → Bool)
-        → ((stands-at : Place) → te (E stands-at) ≡ (eqb (R stands-at .nonterminal) nonterminal && tr (R stands-at))) → (other : Choice)
-        → firstRule tr nonterminal (map (ruleOf nulls (firstSetsOf bs)) (productionsIn bs)) other
-        ≡ choiceAt R (placesOf bs) (placeFrom te (entriesFor patterns bs) 0) other
-    unfolding productionAt entriesFor
-    searched-at te tr agree other =
-        searched E (λ p. productionAt bs (p .nonterminal) (p .start)) (ruleOf nulls (firstSetsOf bs)) te tr nonterminal agree other (placesOf bs) 0
-        (omega (arith, few))
-        ∙ rw (sub-zero (placeFrom te (map E (placesOf bs)) 0)) refl
-
-    choice-is : choice (readyFor patterns (productionsIn bs)) nonterminal kind
-        ≡ choiceAt R (placesOf bs) opened-at (choiceAt R (placesOf bs) placed-at (choiceAt R (placesOf bs) nullable-at unfit))
-    unfolding readyFor productionAt firstSetsOf
-    choice-is =
-        searched-at (ofWith nonterminal (opens kind)) (λ r. isOpened kind (r .first) (patterns (r .items))) (λ p. refl) _
-        ∙ ap (choiceAt R (placesOf bs) opened-at)
-        (searched-at (ofWith nonterminal (places kind)) (λ r. isPlaced kind (patterns (r .items))) (λ p. refl) _
-        ∙ ap (choiceAt R (placesOf bs) placed-at) (searched-at (isNullableOf nonterminal) (λ r. r .nullable) (λ p. refl) unfit))
-
     found-inside : (te : Entry → Bool) → placeFrom te (entriesFor patterns bs) 0 < 256 → placeFrom te (entriesFor patterns bs) 0 < length (placesOf bs)
     found-inside te l = omega (arith, place-inside te (entriesFor patterns bs) entries-few l, entries-count)
-
-    -- The place that is chosen stands for the rule that is chosen.
-    chosen-is : choice (readyFor patterns (productionsIn bs)) nonterminal kind
-        ≡ choiceAt R (placesOf bs) (chosenPlace (entriesFor patterns bs) nonterminal kind) unfit
-    chosen-is =
-        choice-is
-        ∙ ap (choiceAt R (placesOf bs) opened-at) (or-choice (found-inside (ofWith nonterminal (places kind))) nullable-at unfit)
-        ∙ or-choice (found-inside (ofWith nonterminal (opens kind))) (orElse placed-at nullable-at) unfit
 
     chosen-small : chosenPlace (entriesFor patterns bs) nonterminal kind < 256
         → chosenPlace (entriesFor patterns bs) nonterminal kind < length (placesOf bs)
@@ -691,10 +685,42 @@ module _ {patterns : List Item → ℕ} {bs room : List ℕ} (held : HeldFor pat
         or-inside (found-inside (ofWith nonterminal (opens kind))) (orElse placed-at nullable-at)
         (or-inside (found-inside (ofWith nonterminal (places kind))) nullable-at (found-inside (isNullableOf nonterminal)))
 
+    -- whatever the results are
+    module _ (results : ℕ → Template) where
+      abbrev rule-at : Place → Rule
+      rule-at = R results
+
+      -- a search by a test of rules is one by a test of entries
+      searched-at : (te : Entry → Bool) (tr : Rule → Bool)
+          → ((stands-at : Place) → te (E stands-at) ≡ (eqb (rule-at stands-at .nonterminal) nonterminal && tr (rule-at stands-at))) → (other : Choice)
+          → firstRule tr nonterminal (map (ruleOf nulls (firstSetsOf bs)) (productionsWith bs results)) other
+          ≡ choiceAt rule-at (placesOf bs) (placeFrom te (entriesFor patterns bs) 0) other
+      unfolding entriesFor
+      searched-at te tr agree other =
+          searched E (productionWith bs results) (ruleOf nulls (firstSetsOf bs)) te tr nonterminal agree other (placesOf bs) 0 (omega (arith, few))
+          ∙ rw (sub-zero (placeFrom te (map E (placesOf bs)) 0)) refl
+
+      choice-is : choice (readyFor patterns (productionsWith bs results)) nonterminal kind
+          ≡ choiceAt rule-at (placesOf bs) opened-at (choiceAt rule-at (placesOf bs) placed-at (choiceAt rule-at (placesOf bs) nullable-at unfit))
+      choice-is =
+          ap (λ (g : Grammar). choice g nonterminal kind) (ready-with results)
+          ∙ searched-at (ofWith nonterminal (opens kind)) (λ r. isOpened kind (r .first) (patterns (r .items))) (λ p. refl) _
+          ∙ ap (choiceAt rule-at (placesOf bs) opened-at)
+          (searched-at (ofWith nonterminal (places kind)) (λ r. isPlaced kind (patterns (r .items))) (λ p. refl) _
+          ∙ ap (choiceAt rule-at (placesOf bs) placed-at) (searched-at (isNullableOf nonterminal) (λ r. r .nullable) (λ p. refl) unfit))
+
+      -- The place that is chosen stands for the rule that is chosen.
+      chosen-is : choice (readyFor patterns (productionsWith bs results)) nonterminal kind
+          ≡ choiceAt rule-at (placesOf bs) (chosenPlace (entriesFor patterns bs) nonterminal kind) unfit
+      chosen-is =
+          choice-is
+          ∙ ap (choiceAt rule-at (placesOf bs) opened-at) (or-choice (found-inside (ofWith nonterminal (places kind))) nullable-at rule-at unfit)
+          ∙ or-choice (found-inside (ofWith nonterminal (opens kind))) (orElse placed-at nullable-at) rule-at unfit
+
     module _ {spot : ℕ} (equal : spot ≡ chosenPlace (entriesFor patterns bs) nonterminal kind) where
       -- No place: no rule fits.
-      pub chosen-nowhere : 256 ≤ spot → choice (readyFor patterns (productionsIn bs)) nonterminal kind ≡ unfit
-      chosen-nowhere l = chosen-is ∙ choice-outside R unfit (placesOf bs) _ (omega (arith, equal, few))
+      pub chosen-nowhere : (results : ℕ → Template) → 256 ≤ spot → choice (readyFor patterns (productionsWith bs results)) nonterminal kind ≡ unfit
+      chosen-nowhere results l = chosen-is results ∙ choice-outside (R results) unfit (placesOf bs) _ (omega (arith, equal, few))
 
       module _ (below : spot < 256) where
         at-place : spot < length (placesOf bs)
@@ -713,9 +739,10 @@ module _ {patterns : List Item → ℕ} {bs room : List ℕ} (held : HeldFor pat
         start-chosen = rw (sym equal, chosenStartFor) (start-in entries-held spot (omega (arith, entries-count, at-place)))
 
         -- A place: the rule whose items and result stand at its offset.
-        pub chosen-here : choice (readyFor patterns (productionsIn bs)) nonterminal kind ≡ chosen (R (getD (placesOf bs) spot somewhere))
-        chosen-here =
-            chosen-is ∙ rw (sym equal) (choice-inside R unfit (placesOf bs) spot at-place)
+        pub chosen-here : (results : ℕ → Template)
+            → choice (readyFor patterns (productionsWith bs results)) nonterminal kind ≡ chosen (R results (getD (placesOf bs) spot somewhere))
+        chosen-here results =
+            chosen-is results ∙ rw (sym equal) (choice-inside (R results) unfit (placesOf bs) spot at-place)
 
         -- What holds at the beginning of each production holds there.
         pub chosen-each : (P : ℕ → Type 0) → Each (λ (p : Place). P (p .start)) (placesOf bs) → P (startIn room spot)

@@ -1,1 +1,2 @@
+pub mod SameSets
 pub mod ChoiceLaws

@@ -22,7 +22,7 @@ use Rattle.decoding.proofs.Accept.{Accepts, accepted}
 use Rattle.decoding.proofs.Inverse.{layout-parts}
 use Rattle.productions.specs.Index.{Place, placesBy, placesOf, wholeBody, Whole}
 use Rattle.productions.proofs.Places.{Stands, stands, each-kept, each-snoc}
-use Rattle.steps.specs.Source.{Source, source, complete, GoesOn}
+use Rattle.steps.specs.Source.{Source, source, Complete, GoesOn}
 use Rattle.steps.proofs.SourceLaws.{goes-on}
 
 -- the field before is an alternative's beginning, or an item
@@ -60,8 +60,8 @@ known-item value h = sym (simp or-false) ∙ h
 -- fields that are accepted behind it, with whole templates, are what is left of an alternative
 complete-fields : (fs : RawFields) (before : List Field) (progress : Progress) → InBody (progress .last) → checkFields fs before progress ≡ ok tt
     → wholeBody fs ≡ true
-    → complete fs ≡ true
-unfolding checkFields complete wholeBody passed
+    → Complete [] fs
+unfolding checkFields Complete wholeBody passed
 complete-fields (end at) before progress body h w = absurd (not-last (progress .last) at body h)
 complete-fields (cut at) before progress body h w = absurd (subst⁻¹ Accepts h tt)
 complete-fields (next at tag v fs) before progress body h w =
@@ -70,15 +70,16 @@ complete-fields (next at tag v fs) before progress body h w =
     (λ e.
     let six = eqb-true tag 6 e in
     let whole = and-eq-true-iff (isTemplates (templatesOf (drop 2 v))) (wholeBody fs) .0 (rw (e, wholeBody) at w) in
-    rw (e, complete, item-long v (known-item v (rw six at (passes .0 .known))), whole .0)
-    (complete-fields fs (field tag v ∷ before) (passed tag progress) (inr six) (passes .1) (whole .1)))
+    let long = item-long v (known-item v (rw six at (passes .0 .known))) in
+    rw (e, Complete)
+    (and-eq-true-iff _ _ .1 (long, whole .0), complete-fields fs (field tag v ∷ before) (passed tag progress) (inr six) (passes .1) (whole .1)))
     (λ e.
     let seven = result-tag tag (progress .last) body (passes .0 .ordered) e in
-    rw (e, seven, complete) (rw (e, seven, wholeBody) at w))
+    rw (e, Complete) (inl (eqb-true tag 7 seven, rw (e, seven, wholeBody) at w)))
 
 -- a place where what is left, with whole templates, is an alternative
 abbrev Begun : List ℕ → Place → Type 0
-Begun bs p = wholeBody (fieldsAt bs (p .start)) ≡ true → complete (fieldsAt bs (p .start)) ≡ true
+Begun bs p = wholeBody (fieldsAt bs (p .start)) ≡ true → Complete [] (fieldsAt bs (p .start))
 
 begun-by : (bs : List ℕ) (fs : RawFields) → Stands bs fs → (before : List Field) (progress : Progress) → checkFields fs before progress ≡ ok tt
     → (nonterminal : ℕ) (ps : List Place) → Each (Begun bs) ps → Each (Begun bs) (placesBy fs nonterminal ps)

@@ -122,7 +122,7 @@ module _ {bs : List ℕ} (bytes : Bytes bs) where
             runs-whole cells {outcome} e =
                 parsing.into-run syntax formula tokens words cells outcome (rw accepts at (in-lexicon fills))
                 (rw (
-                  productions-from (source bs) ∙ passed-grammar bytes passes,
+                  productions-from (begun passes) ∙ passed-grammar bytes passes,
                   cut-tokens (scan-fills .tokens-fit) ∙ scan-fills .tokens-are,
                   root-passed,
                 ) at e)

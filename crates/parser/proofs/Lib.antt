@@ -3,3 +3,4 @@ pub mod Root
 pub mod Complete
 pub mod Cutting
 pub mod Joining
+pub mod Running

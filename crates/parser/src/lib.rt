@@ -45,7 +45,8 @@ fn run_middle(cells: &mut [u32], table: &[u8], room: &[u64; ROOM], tokens: &[u32
     }
     let root = root_of(table);
     let mut stack = [0u32; MIDDLE_TABLE];
-    run(cells, &mut stack, table, room, root, tokens)
+    let no_texts = [0u32; 0];
+    run(cells, &mut stack, table, &no_texts, room, root, tokens)
 }
 
 // The same with a room for the templates of every table.
@@ -59,7 +60,8 @@ fn run_long(cells: &mut [u32], table: &[u8], room: &[u64; ROOM], tokens: &[u32])
     }
     let root = root_of(table);
     let mut stack = [0u32; LONGEST_TABLE];
-    run(cells, &mut stack, table, room, root, tokens)
+    let no_texts = [0u32; 0];
+    run(cells, &mut stack, table, &no_texts, room, root, tokens)
 }
 
 // The run of tokens, with a room for the templates of a table of its size.
@@ -70,7 +72,8 @@ fn run_tokens(cells: &mut [u32], table: &[u8], room: &[u64; ROOM], tokens: &[u32
     if table.len() <= SMALL_TABLE {
         let root = root_of(table);
         let mut stack = [0u32; SMALL_TABLE];
-        return run(cells, &mut stack, table, room, root, tokens);
+        let no_texts = [0u32; 0];
+        return run(cells, &mut stack, table, &no_texts, room, root, tokens);
     }
     if table.len() <= MIDDLE_TABLE {
         return run_middle(cells, table, room, tokens);

@@ -5,3 +5,4 @@ pub mod AttemptLaws
 pub mod ReadingLaws
 pub mod StoreLaws
 pub mod SameRows
+pub mod StoredTexts

@@ -177,7 +177,8 @@ module _ (S : Source) (sorts text : List ℕ) (head : TextHead) where
 
     module _ {cells cells′ : List ℕ} where
       -- What is answered of its tokens is answered of a text.
-      pub read-answered : {a : TextAnswer} → Attempts (take (many * 4) tokens) head count cells (Answered a) cells′ S → ReadsText sorts text head cells a cells′ S
+      pub read-answered : {a : TextAnswer} → Attempts (take (many * 4) tokens) head count cells (Answered a) cells′ S
+          → ReadsText sorts text head cells a cells′ S
       read-answered {a} attempts =
           record {
             answers = λ P at under. attempts .attempts (P .used) at _ ∙ checked-under under at;

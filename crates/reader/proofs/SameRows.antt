@@ -31,7 +31,8 @@ valueOf sort x rows named rowed =
     ]
 
 -- it is the same where a row that it is stands for the same
-value-same : (sort : ℕ) (rows rows′ : ℕ → Template) (x : ℕ) → (isRowAt sort x ≡ true → rows′ x ≡ rows x) → valueTemplate sort rows′ x ≡ valueTemplate sort rows x
+value-same : (sort : ℕ) (rows rows′ : ℕ → Template) (x : ℕ) → (isRowAt sort x ≡ true → rows′ x ≡ rows x)
+    → valueTemplate sort rows′ x ≡ valueTemplate sort rows x
 unfolding valueBy
 value-same sort rows rows′ x h = by (isVariableName x) (isRowSort sort) h
   where
@@ -75,7 +76,8 @@ module _ (text text′ : List ℕ) where
         (columns-same (constructor (column text row 0) .params) (λ q. rowTemplate depth text q) (λ q. rowTemplate depth′ text′ q) row 1
         (λ i h. same (row * columns + (i + 1)) (omega (arith, arity-few (column text row 0))))
         (λ i h part.
-        template-same depth depth′ (parts i part) (λ spot b. same spot (omega (arith, before i part))) (omega (arith, before i part)) (omega (arith, before i part))))
+        template-same depth depth′ (parts i part) (λ spot b. same spot (omega (arith, before i part))) (omega (arith, before i part))
+        (omega (arith, before i part))))
 
     -- They hang together too.
     pub hangs-same : {row : ℕ} → Hangs text count row → SameTo row → Hangs text′ count row

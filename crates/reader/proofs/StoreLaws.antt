@@ -7,7 +7,8 @@ use native.Mathlib.Omega.{arith}
 use lib.ListN.{length, getD, set, length-set}
 use lib.Seq.{getD-set-same, getD-set-other}
 use Rattle.terms.specs.Cells.{columns}
-use Rattle.reader.specs.Storing.{pairAt, StorablePair, MovesRows, StoresText}
+use Rattle.steps.specs.HeldTexts.{pairOf}
+use Rattle.reader.specs.Storing.{StorablePair, MovesRows, StoresText}
 
 -- ------------------------------------------------------------------ rows moved
 
@@ -74,28 +75,28 @@ module _ {texts₀ : List ℕ} {start : ℕ} {cells₀ : List ℕ} {numbers : �
 module _ {texts cells : List ℕ} {at sort start made : ℕ} (storable : StorablePair texts cells at sort start made) {x : ℕ} where
   -- A pair and rows behind it are a text stored.
   pub text-stored : {word : ℕ} → word ≡ start * 8 + sort → {texts′ cells′ : List ℕ}
-      → MovesRows (set (set texts (pairAt at) x) (pairAt at + 1) word) start cells (made * columns) texts′ cells′
+      → MovesRows (set (set texts (pairOf at) x) (pairOf at + 1) word) start cells (made * columns) texts′ cells′
       → StoresText texts cells at sort start x made texts′ cells′
   text-stored {word} e moves =
       record {
-        long = moves .long ∙ length-set (set texts (pairAt at) x) (pairAt at + 1) word ∙ first;
+        long = moves .long ∙ length-set (set texts (pairOf at) x) (pairOf at + 1) word ∙ first;
         wide = moves .wide;
         value =
-            moves .kept (pairAt at) (omega (arith, storable .before))
-            ∙ getD-set-other (set texts (pairAt at) x) (pairAt at + 1) (pairAt at) word 0 (λ q. omega arith)
-            ∙ getD-set-same texts (pairAt at) x 0 (omega (arith, storable .before, storable .inside));
+            moves .kept (pairOf at) (omega (arith, storable .before))
+            ∙ getD-set-other (set texts (pairOf at) x) (pairOf at + 1) (pairOf at) word 0 (λ q. omega arith)
+            ∙ getD-set-same texts (pairOf at) x 0 (omega (arith, storable .before, storable .inside));
         word =
-            moves .kept (pairAt at + 1) (storable .before)
-            ∙ getD-set-same (set texts (pairAt at) x) (pairAt at + 1) word 0 (omega (arith, first, storable .before, storable .inside))
+            moves .kept (pairOf at + 1) (storable .before)
+            ∙ getD-set-same (set texts (pairOf at) x) (pairOf at + 1) word 0 (omega (arith, first, storable .before, storable .inside))
             ∙ e;
         rows = moves .moved;
         kept = λ j h n m.
             moves .kept j h
-            ∙ getD-set-other (set texts (pairAt at) x) (pairAt at + 1) j word 0 m
-            ∙ getD-set-other texts (pairAt at) j x 0 n;
+            ∙ getD-set-other (set texts (pairOf at) x) (pairOf at + 1) j word 0 m
+            ∙ getD-set-other texts (pairOf at) j x 0 n;
         zero = moves .zero;
         left = moves .left;
       }
     where
-      first : length (set texts (pairAt at) x) ≡ length texts
-      first = length-set texts (pairAt at) x
+      first : length (set texts (pairOf at) x) ≡ length texts
+      first = length-set texts (pairOf at) x

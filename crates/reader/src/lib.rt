@@ -21,7 +21,7 @@ use tokens::Scanned;
 ghost use Prim.Native.Nat.{_<_, _≤_};
 ghost use lib.ListN.{length};
 ghost use Rattle.calls.specs.Lent.{Ready};
-ghost use Rattle.reader.specs.TextRuns.{SomeSource, EachSource};
+ghost use Rattle.steps.specs.Source.{SomeLent, EachLent};
 ghost use Rattle.reader.specs.TextReadings.{Readable, ReadableIn, ExplainsText, ReadsText};
 
 // Texts up to this have the shortest rooms.
@@ -34,6 +34,7 @@ const MIDDLE_TEXT: usize = 1024;
 fn explain_in(
     cells: &mut [u32],
     table: &[u8],
+    texts: &[u32],
     room: &[u64; ROOM],
     variables: &[u8],
     text: &[u8],
@@ -41,16 +42,16 @@ fn explain_in(
     words: &mut [u32],
     head: TextHead,
 ) -> u8
-    requires { ⌜ SomeSource (now table) (ReadableIn (now room) (now variables) (now text) (now tokens) (now words)) ⌝ }
-    ensures { λ r. ⌜ EachSource (now (table .entry)) (λ S. Ready S (now (room .entry))) (ExplainsText (now (variables .entry)) (now (text .entry)) head (now
-        (cells .entry)) r) ⌝ }
+    requires { ⌜ SomeLent (now table) (now texts) (ReadableIn (now room) (now variables) (now text) (now tokens) (now words)) ⌝ }
+    ensures { λ r. ⌜ EachLent (now (table .entry)) (now (texts .entry)) (λ S. Ready S (now (room .entry)))
+        (ExplainsText (now (variables .entry)) (now (text .entry)) head (now (cells .entry)) r) ⌝ }
 {
     let scanned = scanner::scan(table, head.kinds, variables, text, tokens, words);
     match scanned {
         Scanned::Unscanned(_) => TEXT_UNREAD,
         Scanned::Tokens(n, _) => {
             let end = n * TOKEN;
-            explain(cells, table, room, head, &tokens[..end])
+            explain(cells, table, texts, room, head, &tokens[..end])
         }
     }
 }
@@ -59,6 +60,7 @@ fn explain_in(
 fn read_in(
     cells: &mut [u32],
     table: &[u8],
+    texts: &[u32],
     room: &[u64; ROOM],
     variables: &[u8],
     text: &[u8],
@@ -66,22 +68,23 @@ fn read_in(
     words: &mut [u32],
     head: TextHead,
 ) -> TextAnswer
-    requires { ⌜ SomeSource (now table) (ReadableIn (now room) (now variables) (now text) (now tokens) (now words)) ⌝ }
-    ensures { λ r. ⌜ EachSource (now (table .entry)) (λ S. Ready S (now (room .entry))) (ReadsText (now (variables .entry)) (now (text .entry)) head (now
-        (cells .entry)) r (now (cells .exit))) ⌝ }
+    requires { ⌜ SomeLent (now table) (now texts) (ReadableIn (now room) (now variables) (now text) (now tokens) (now words)) ⌝ }
+    ensures { λ r. ⌜ EachLent (now (table .entry)) (now (texts .entry)) (λ S. Ready S (now (room .entry)))
+        (ReadsText (now (variables .entry)) (now (text .entry)) head (now (cells .entry)) r (now (cells .exit))) ⌝ }
 {
     let scanned = scanner::scan(table, head.kinds, variables, text, tokens, words);
     match scanned {
         Scanned::Unscanned(_) => TextAnswer::Refused(TEXT_UNREAD),
         Scanned::Tokens(n, others) => {
             let end = n * TOKEN;
-            let attempt = read_tokens(cells, table, room, head, &mut tokens[..end], others);
+            let attempt = read_tokens(cells, table, texts, room, head, &mut tokens[..end], others);
             match attempt {
                 Attempt::Answered(a) => a,
                 Attempt::Unread => {
                     let cause = explain_in(
                         cells,
                         table,
+                        texts,
                         room,
                         variables,
                         text,
@@ -101,24 +104,26 @@ fn read_in(
 fn read_middle(
     cells: &mut [u32],
     table: &[u8],
+    texts: &[u32],
     room: &[u64; ROOM],
     variables: &[u8],
     text: &[u8],
     head: TextHead,
 ) -> TextAnswer
-    requires { ⌜ SomeSource (now table) (Readable (now room) (now variables)) × (0 < length (now text)) × (length (now text) ≤ 1024) ⌝ }
-    ensures { λ r. ⌜ EachSource (now (table .entry)) (λ S. Ready S (now (room .entry))) (ReadsText (now (variables .entry)) (now (text .entry)) head (now
-        (cells .entry)) r (now (cells .exit))) ⌝ }
+    requires { ⌜ SomeLent (now table) (now texts) (Readable (now room) (now variables)) × (0 < length (now text)) × (length (now text) ≤ 1024) ⌝ }
+    ensures { λ r. ⌜ EachLent (now (table .entry)) (now (texts .entry)) (λ S. Ready S (now (room .entry)))
+        (ReadsText (now (variables .entry)) (now (text .entry)) head (now (cells .entry)) r (now (cells .exit))) ⌝ }
 {
     if text.len() == 0 {
         let blank = [32u8; 1];
-        return read_middle(cells, table, room, variables, &blank, head);
+        return read_middle(cells, table, texts, room, variables, &blank, head);
     }
     let mut tokens = [0u32; MIDDLE_TEXT * TOKEN];
     let mut words = [0u32; MIDDLE_TEXT * PLACE];
     read_in(
         cells,
         table,
+        texts,
         room,
         variables,
         text,
@@ -132,24 +137,26 @@ fn read_middle(
 fn read_long(
     cells: &mut [u32],
     table: &[u8],
+    texts: &[u32],
     room: &[u64; ROOM],
     variables: &[u8],
     text: &[u8],
     head: TextHead,
 ) -> TextAnswer
-    requires { ⌜ SomeSource (now table) (Readable (now room) (now variables)) × (0 < length (now text)) ⌝ }
-    ensures { λ r. ⌜ EachSource (now (table .entry)) (λ S. Ready S (now (room .entry))) (ReadsText (now (variables .entry)) (now (text .entry)) head (now
-        (cells .entry)) r (now (cells .exit))) ⌝ }
+    requires { ⌜ SomeLent (now table) (now texts) (Readable (now room) (now variables)) × (0 < length (now text)) ⌝ }
+    ensures { λ r. ⌜ EachLent (now (table .entry)) (now (texts .entry)) (λ S. Ready S (now (room .entry)))
+        (ReadsText (now (variables .entry)) (now (text .entry)) head (now (cells .entry)) r (now (cells .exit))) ⌝ }
 {
     if text.len() == 0 {
         let blank = [32u8; 1];
-        return read_long(cells, table, room, variables, &blank, head);
+        return read_long(cells, table, texts, room, variables, &blank, head);
     }
     let mut tokens = [0u32; ALL_TOKENS];
     let mut words = [0u32; ALL_WORDS];
     read_in(
         cells,
         table,
+        texts,
         room,
         variables,
         text,
@@ -166,14 +173,15 @@ fn read_long(
 pub fn read_text(
     cells: &mut [u32],
     table: &[u8],
+    texts: &[u32],
     room: &[u64; ROOM],
     variables: &[u8],
     text: &[u8],
     head: TextHead,
 ) -> TextAnswer
-    requires { ⌜ SomeSource (now table) (Readable (now room) (now variables)) ⌝ }
-    ensures { λ r. ⌜ EachSource (now (table .entry)) (λ S. Ready S (now (room .entry))) (ReadsText (now (variables .entry)) (now (text .entry)) head (now
-        (cells .entry)) r (now (cells .exit))) ⌝ }
+    requires { ⌜ SomeLent (now table) (now texts) (Readable (now room) (now variables)) ⌝ }
+    ensures { λ r. ⌜ EachLent (now (table .entry)) (now (texts .entry)) (λ S. Ready S (now (room .entry)))
+        (ReadsText (now (variables .entry)) (now (text .entry)) head (now (cells .entry)) r (now (cells .exit))) ⌝ }
 {
     if text.len() <= SHORT_TEXT {
         let mut tokens = [0u32; SHORT_TEXT * TOKEN];
@@ -181,6 +189,7 @@ pub fn read_text(
         return read_in(
             cells,
             table,
+            texts,
             room,
             variables,
             text,
@@ -190,7 +199,7 @@ pub fn read_text(
         );
     }
     if text.len() <= MIDDLE_TEXT {
-        return read_middle(cells, table, room, variables, text, head);
+        return read_middle(cells, table, texts, room, variables, text, head);
     }
-    read_long(cells, table, room, variables, text, head)
+    read_long(cells, table, texts, room, variables, text, head)
 }

@@ -1,3 +1,4 @@
 pub mod TokenLaws
 pub mod SourceLaws
 pub mod ItemLaws
+pub mod TextLaws

@@ -7,6 +7,7 @@ use lib.ListN.{length, getD}
 use Rattle.answers.specs.declared.Refusal.{Refusal}
 use Rattle.answers.specs.Refusals.{refusal}
 use Rattle.grammar.specs.Limits.{most}
+use Rattle.terms.specs.Cells.{rowsLent}
 use Rattle.grammar.specs.Table.{Templates, none, keyword, ide, number, Item, terminal, local, call}
 use Rattle.tokens.specs.declared.Token.{Token}
 use Rattle.scanner.specs.Rooms.{tokensIn, TokensFit}
@@ -72,11 +73,12 @@ pub record MayStep (S : Source) (tokens : List ℕ) (rows : ℕ) (c : Cursor) (c
   pub may-read : MayRead tokens (c .state)
   pub rooms : RoomsFit (S .bytes) rows cells stack
 
--- its items end there
+-- its items end there, and the rows are all that the cells have
 pub record MayFinish (S : Source) (rows : ℕ) (c : Cursor) (cells stack : List ℕ) : Type 0 where
   pub goes-on : GoesOn S (c .call .next)
   pub no-item : alternativeAt S (c .call .next) .items ≡ []
   pub rooms : RoomsFit (S .bytes) rows cells stack
+  pub all-rows : rows ≡ rowsLent (length cells)
 
 -- ------------------------------------------------------------------ counters
 

@@ -1,8 +1,10 @@
 // The items of an alternative, read off the table's bytes, and its result.
 mod taking;
+mod texts;
 
 use crate::taking::take;
 use crate::taking::take_ide;
+use crate::texts::text_result;
 use answers::Refusal;
 use answers::causes::NO_ROW;
 use answers::causes::TOKEN_DOES_NOT_FIT;
@@ -32,7 +34,7 @@ ghost use lib.Count.{ones};
 ghost use lib.ListN.{length};
 ghost use Rattle.answers.specs.Refusals.{refusal};
 ghost use Rattle.templates.specs.Built.{withMade};
-ghost use Rattle.steps.specs.Source.{source, sizeAt};
+ghost use Rattle.steps.specs.Source.{sizeAt, GoesOn, SomeSource, EachSource, SomeLent, EachLent};
 ghost use Rattle.steps.specs.Steps.{MayReadItem, MayStep, MayFinish, GivesFresh, ReadsItem, readStep, callStep, resultStep, ItemStepped, Finishes};
 
 // What is done at an offset: there is no item, the item refuses, it gives a value (with the offset behind it and where the expansion
@@ -156,6 +158,9 @@ fn result_step(b: Built, s: State) -> Outcome
 // The bytes of a field before its value: its tag and its size.
 const FRONT: usize = 3;
 
+// The tag of a result that is a text.
+const TEXT_TAG: u8 = 9;
+
 // The size of the value of a field at an offset.
 fn value_size(table: &[u8], at: usize) -> usize
     requires { ⌜ at + 3 ≤ length (now table) ⌝ }
@@ -175,9 +180,9 @@ pub fn item_step(
     vars: &[u32; MOST_VARIABLES],
     c: Cursor,
 ) -> ItemStep
-    requires { ⌜ MayStep (source (now table)) (now tokens) rows c (now cells) (now stack) ⌝ }
-    ensures { λ r. ⌜ ItemStepped (source (now (table .entry))) (now (tokens .entry)) rows (now (vars .entry)) c (now (out .entry)) (now (cells
-        .entry)) r (now (out .exit)) (now (cells .exit)) ⌝ }
+    requires { ⌜ SomeSource (now table) (λ S. MayStep S (now tokens) rows c (now cells) (now stack)) ⌝ }
+    ensures { λ r. ⌜ EachSource (now (table .entry)) (λ S. GoesOn S (c .call .next)) (λ S. ItemStepped S (now (tokens .entry)) rows (now (vars .entry)) c
+        (now (out .entry)) (now (cells .entry)) r (now (out .exit)) (now (cells .exit))) ⌝ }
 {
     let s = c.state;
     let at = c.call.next;
@@ -198,23 +203,28 @@ pub fn item_step(
     read_step(read_item(tokens, kind, operand, s), next)
 }
 
-// The result of the production whose items end at an offset.
+// The result of the production whose items end at an offset: a template in the table's bytes, or a text, which is held in `texts`.
 pub fn finish(
     cells: &mut [u32],
     stack: &mut [u32],
     table: &[u8],
+    texts: &[u32],
     rows: usize,
     vars: &[u32; MOST_VARIABLES],
     c: Cursor,
 ) -> Outcome
-    requires { ⌜ MayFinish (source (now table)) rows c (now cells) (now stack) ⌝ }
-    ensures { λ r. ⌜ Finishes (source (now (table .entry))) rows (now (vars .entry)) c (now (cells .entry)) r (now (cells .exit)) ⌝ }
+    requires { ⌜ SomeLent (now table) (now texts) (λ S. MayFinish S rows c (now cells) (now stack)) ⌝ }
+    ensures { λ r. ⌜ EachLent (now (table .entry)) (now (texts .entry)) (λ S. MayFinish S rows c (now (cells .entry)) (now (stack .entry))) (λ S. Finishes S
+        rows (now (vars .entry)) c (now (cells .entry)) r (now (cells .exit))) ⌝ }
 {
     let s = c.state;
     let at = c.call.next;
+    let count = c.call.count;
+    if table[at] == TEXT_TAG {
+        return text_result(cells, texts, vars, at, count, s);
+    }
     let from = at + FRONT;
     let to = from + value_size(table, at);
-    let count = c.call.count;
     let made = s.made;
     let m = Making { count, rows, made };
     let value = build(cells, stack, &table[from..to], 0, vars, m);

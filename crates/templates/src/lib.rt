@@ -62,7 +62,7 @@ pub fn rows_of(numbers: usize) -> usize
 }
 
 // The value of variable i of k.
-fn pick(env: &[u32; MOST_VARIABLES], k: usize, i: usize) -> u32
+pub fn pick(env: &[u32; MOST_VARIABLES], k: usize, i: usize) -> u32
     requires { ⌜ i < mostVariables ⌝ }
     ensures { λ r. ⌜ ((M : List ℕ) → Holds (now (env .entry)) k M → r ≡ getD M i 0) ⌝ }
 {

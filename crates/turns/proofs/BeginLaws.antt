@@ -12,20 +12,18 @@ use borrow.Author.Tests.{eq-eqb, ne-eqb, lt-ltb, le-ltb}
 use Rattle.answers.specs.declared.Refusal.{Refusal}
 use Rattle.answers.specs.Refusals.{refusal}
 use Rattle.productions.specs.Normal.{Production}
-use Rattle.productions.specs.Index.{productionAt}
 use Rattle.productions.specs.Room.{startIn}
-use Rattle.firsts.specs.Room.{productionsIn}
+use Rattle.grammar.specs.Table.{Template}
 use Rattle.expansion.specs.declared.State.{State}
 use Rattle.expansion.specs.Run.{Result, halt, after}
-use Rattle.expansion.specs.Expansion.{Input, nextToken, misfit, build, runItems, Choice, unfit, readyFor, chosen, choice, callBegun, runCall}
+use Rattle.expansion.specs.Expansion.{Input, nextToken, misfit, build, runItems, Grammar, Choice, unfit, readyFor, chosen, choice, callBegun, runCall}
 use Rattle.tokens.specs.Tokens.{endToken}
 use Rattle.expansion.specs.Limits.{mostCalls}
 use Rattle.choices.specs.Held.{HeldFor}
 use Rattle.choices.specs.Chosen.{firstSetsOf, entriesFor, chosenPlace, chosenStartFor, RemembersFor, ChoosesFor}
-use Rattle.choices.proofs.ChoiceLaws.{chosen-nowhere, chosen-here, chosen-each, start-is, start-chosen}
-use Rattle.steps.specs.Source.{Source, alternativeAt, GoesOn}
+use Rattle.choices.proofs.ChoiceLaws.{productionsWith, ready-with, chosen-nowhere, chosen-here, chosen-each, start-is, start-chosen}
+use Rattle.steps.specs.Source.{Source, alternativeAt, productionsFrom, GoesOn}
 use Rattle.steps.specs.Steps.{body, tokensLent, weight}
-use Rattle.steps.proofs.SourceLaws.{productions-from}
 use Rattle.frames.specs.Frames.{ahead}
 use Rattle.steps.specs.declared.Activation.{Activation}
 use Rattle.turns.specs.Lent.{Ready, lentInput}
@@ -122,19 +120,28 @@ module _ {S : Source} {room : List ℕ} (ready-room : Ready S room) (tokens : Li
     -- by the place that is chosen
     module _ (may-call : state .calls < mostCalls) {kind : ℕ} (ekind : kind ≡ getD (tokensLent tokens) (state .at) endToken .kind) {place : ℕ}
         {memory : List ℕ} (ch : ChoosesFor (S .patterns) (S .bytes) nonterminal kind place memory) where
+      -- the productions, with the result that the source has at each offset
+      abbrev results : ℕ → Template
+      results at = alternativeAt S at .result
+
       abbrev productions : List Production
-      productions = productionsIn (S .bytes)
+      productions = productionsWith (S .bytes) results
+
+      productions-are : productionsFrom S ≡ productions
+      unfolding alternativeAt
+      productions-are = refl
 
       firsts-are : input .grammar .firsts ≡ firstSetsOf (S .bytes)
-      unfolding readyFor firstSetsOf
-      firsts-are = rw (productions-from S)
+      firsts-are =
+          ap (λ (g : List Production). readyFor (S .patterns) g .firsts) productions-are
+          ∙ ap (λ (g : Grammar). g .firsts) (ready-with held results)
 
       by-choice : {given-choice : Choice} → choice (readyFor (S .patterns) productions) nonterminal kind ≡ given-choice → (vs cells : List ℕ)
           → entered (depth - 1) input nonterminal vs state cells given-choice ≡ runCall depth input nonterminal vs state cells
       by-choice e vs cells =
           ap (entered (depth - 1) input nonterminal vs state cells)
           (sym
-          (ap (λ (g : List Production). choice (readyFor (S .patterns) g) nonterminal (nextToken input state .kind)) (productions-from S)
+          (ap (λ (g : List Production). choice (readyFor (S .patterns) g) nonterminal (nextToken input state .kind)) productions-are
           ∙ ap (choice (readyFor (S .patterns) productions) nonterminal) (sym ekind)
           ∙ e))
           ∙ call-by input nonterminal vs state cells depth may-open true (lt-ltb (state .calls) mostCalls may-call)
@@ -146,18 +153,18 @@ module _ {S : Source} {room : List ℕ} (ready-room : Ready S room) (tokens : Li
       starts-nowhere l {set} es er =
           let ef : set ≡ getD (input .grammar .firsts) nonterminal 0 = es ∙ ap (λ sets. getD sets nonterminal 0) (sym firsts-are) in
           starts-refused (er ∙ ap (λ (k : ℕ). refusal 17 (state .at) k (ones k)) ef)
-          (by-choice (chosen-nowhere held nonterminal kind (ch .place-is) l)) (due-unfit input nonterminal state depth may-open may-call refl)
+          (by-choice (chosen-nowhere held nonterminal kind (ch .place-is) results l)) (due-unfit input nonterminal state depth may-open may-call refl)
           (ch .memory-is)
 
       -- The items of the rule that is chosen stand at the offset that the room has.
       pub starts-at : place < 256 → {start : ℕ} → start ≡ startIn room place → {next : State} → next ≡ callBegun state
           → Ends (Entered (record { production = place; began = state .at; count = given; next = start }) next) memory
-      unfolding body productionAt alternativeAt
+      unfolding body alternativeAt
       starts-at l {start} es {next} et =
           record {
             begins =
                 λ vs cells.
-                rw (et, es ∙ start-is held nonterminal kind (ch .place-is) l) (by-choice (chosen-here held nonterminal kind (ch .place-is) l) vs cells);
+                rw (et, es ∙ start-is held nonterminal kind (ch .place-is) l) (by-choice (chosen-here held nonterminal kind (ch .place-is) l results) vs cells);
             refuses = tt;
             enters =
                 record {

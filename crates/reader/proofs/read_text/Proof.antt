@@ -7,7 +7,12 @@ use Rattle.reader.proofs.read_text.Tie as tie
 -- a text has no more tokens and words than bytes
 read-in-requires : tie.Need-read-in-requires
 read-in-requires c κs =
-    record { holds = record { readable = search needs; rooms = record { for-tokens = λ n a b. omega arith; for-words = λ n a b. omega arith } } }
+    let known = c .before .before .before .before in
+    let given = known .before .before .before .before .before .pre in
+    record {
+      patterns = given .patterns;
+      holds = record { readable = given .holds; rooms = record { for-tokens = λ n a b. omega arith; for-words = λ n a b. omega arith } };
+    }
 
 -- `read_text` meets its contract.
 pub read-text-spec : {M : Type 1} → statement M

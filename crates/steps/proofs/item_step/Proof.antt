@@ -5,8 +5,9 @@ use mathlib.Core.List.{List}
 use native.Mathlib.Omega.{arith}
 use lib.ListN.{length, getD}
 use borrow.Author.Needs.{needs}
+use Rattle.grammar.specs.Table.{Item}
 use Rattle.steps.specs.Steps.{ItemAt}
-use Rattle.steps.specs.Source.{source}
+use Rattle.steps.specs.Source.{sourceOf, GoesOn}
 use Rattle.steps.proofs.SourceLaws as sources
 use Rattle.steps.proofs.ItemLaws as laws
 use Rattle.steps.proofs.item_step.Statement.{statement}
@@ -30,38 +31,34 @@ module _ (point : tie.After-value-size) where
   bytes = entry .args .table .now
 
   inside : at + 3 + point .value-size .result ≤ length bytes
-  inside = sources.field-inside (entry .pre .goes-on) (point .value-size .ensures)
+  inside = sources.field-inside (entry .pre .holds .goes-on) (point .value-size .ensures)
 
   -- it has a kind and an operand
   long : 2 ≤ point .value-size .result
-  long = sources.item-long (entry .pre .goes-on) (point .value-size .ensures) (tested .if1 .left)
+  long = sources.item-long (entry .pre .holds .goes-on) (point .value-size .ensures) (tested .if1 .left)
 
-  stands :
-      ItemAt (source bytes) at (sources.itemThere (entry .pre .goes-on) (point .value-size .ensures) (tested .if1 .left))
+  stands : {texts : List ℕ} {patterns : List Item → ℕ} (there : GoesOn (sourceOf bytes texts patterns) at)
+      → ItemAt (sourceOf bytes texts patterns) at (sources.itemThere there (point .value-size .ensures) (tested .if1 .left))
       (at + 3 + point .value-size .result)
-  stands = sources.item-at (entry .pre .goes-on) (point .value-size .ensures) (tested .if1 .left)
+  stands there = sources.item-at there (point .value-size .ensures) (tested .if1 .left)
 
 -- after its kind and operand are read
 abbrev sized : tie.After-shared-slice-known5 → tie.After-value-size
 sized point = point .before .before
 
 shared-slice-read-if1 : tie.Need-shared-slice-read-if1
-shared-slice-read-if1 c = omega (arith, start c .pre .goes-on .inside)
+shared-slice-read-if1 c = omega (arith, start c .pre .holds .goes-on .inside)
 
 returns : tie.Need-returns
 returns c =
-    let p = start (c .before) in
-    record {
-      does = λ I M reads g. refl;
-      advances = sources.no-item (p .pre .goes-on) refl (c .if1 .taken);
-      keeps = refl;
-    }
+    λ texts patterns there.
+    record { does = λ I M reads g. refl; advances = sources.no-item there refl (c .if1 .taken); keeps = refl }
 
 add-from : tie.Need-add-from
-add-from c = let p = start (c .before) in omega (arith, p .pre .goes-on .inside, p .good .1 .1 .1 .0)
+add-from c = let p = start (c .before) in omega (arith, p .pre .holds .goes-on .inside, p .good .1 .1 .1 .0)
 
 value-size-requires : tie.Need-value-size-requires
-value-size-requires c κs = omega (arith, start (c .before) .pre .goes-on .inside)
+value-size-requires c κs = omega (arith, start (c .before) .pre .holds .goes-on .inside)
 
 add-next : tie.Need-add-next
 add-next c = omega (arith, inside c, entry c .good .1 .1 .1 .0)
@@ -85,7 +82,7 @@ part-build-arguments-end c = omega (arith, inside (sized (called c .before)))
 build-arguments-requires : tie.Need-build-arguments-requires
 build-arguments-requires c κs =
     let p = sized (called (c .before) .before) in
-    let may = entry p .pre in
+    let may = entry p .pre .holds in
     let as-long = sources.value-long (may .goes-on) (p .value-size .ensures) in
     record {
       whole = sources.item-whole (may .goes-on) (p .value-size .ensures) (tested p .if1 .left);
@@ -103,21 +100,22 @@ returns-2 c =
     let is-call = called (listed .before .before) in
     let p = sized (is-call .before) in
     let state = entry p .args .c .state in
-    let as-long = sources.value-long (entry p .pre .goes-on) (p .value-size .ensures) in
+    let as-long = sources.value-long (entry p .pre .holds .goes-on) (p .value-size .ensures) in
     rw (c .call-step .ensures)
-    (record {
+    (λ texts patterns there.
+    record {
       does =
           λ I M reads g.
-          laws.call-stepped _ _ _ (stands p) (is-call .if2 .taken) I M state (entry p .args .cells .now) (listed .build-arguments .result)
+          laws.call-stepped _ _ _ (stands p there) (is-call .if2 .taken) I M state (entry p .args .cells .now) (listed .build-arguments .result)
           (listed .build-arguments .last .0) (listed .build-arguments .last .1 .0)
           (listed .build-arguments .ensures .lists I state M (reads .rows-are) g);
       advances =
-          laws.call-advances (stands p) state (listed .build-arguments .result) _ (listed .build-arguments .ensures .few) (omega (arith, as-long, inside p));
+          laws.call-advances (stands p there) state (listed .build-arguments .result) _ (listed .build-arguments .ensures .few) (omega (arith, as-long, inside p));
       keeps = laws.call-keeps (listed .build-arguments .result) _ _ state _ (listed .build-arguments .last .0) (listed .build-arguments .ensures .kept);
     })
 
 read-item-requires : tie.Need-read-item-requires
-read-item-requires c κs = record { may-read = entry (sized (c .before)) .pre .may-read; no-call = c .if2 .left }
+read-item-requires c κs = record { may-read = entry (sized (c .before)) .pre .holds .may-read; no-call = c .if2 .left }
 
 returns-3 : tie.Need-returns-3
 returns-3 c =
@@ -125,12 +123,13 @@ returns-3 c =
     let p = sized (read .before .before) in
     let state = entry p .args .c .state in
     rw (c .read-step .ensures)
-    (record {
+    (λ texts patterns there.
+    record {
       does =
           λ I M reads g.
-          laws.read-stepped (stands p) I M state (entry p .args .cells .now) (read .read-item .result)
+          laws.read-stepped (stands p there) I M state (entry p .args .cells .now) (read .read-item .result)
           (λ C. read .read-item .ensures .reads C I _ M (entry p .args .cells .now) (reads .tokens-are)) _;
-      advances = laws.read-advances (stands p) state (read .read-item .result) (read .read-item .ensures .spends);
+      advances = laws.read-advances (stands p there) state (read .read-item .result) (read .read-item .ensures .spends);
       keeps = laws.read-keeps (read .read-item .result) _ _;
     })
 
