@@ -53,7 +53,9 @@ module _ (tokens : List ℕ) (head : TextHead) (others : ℕ) (cells : List ℕ)
     module _ (none : number ≡ false) {tokens′ : List ℕ} (made : MadeOutside tokens tokens′) (outcome : Outcome) (cells′ : List ℕ)
         (runs : ran outcome cells′ ≡ runTokens S (head .nonterminal) cells (tokensLent tokens′)) where
       strict-is : {outcome′ : Outcome} → outcome ≡ outcome′ → ran outcome′ cells′ ≡ strict
-      strict-is e = ran-as cells′ (runTokens S (head .nonterminal) cells (tokensLent tokens′)) e runs ∙ ap (runTokens S (head .nonterminal) cells) (made .outside)
+      strict-is e =
+          ran-as cells′ (runTokens S (head .nonterminal) cells (tokensLent tokens′)) e runs
+          ∙ ap (runTokens S (head .nonterminal) cells) (made .outside)
 
       by-run : {outcome′ : Outcome} → outcome ≡ outcome′ → (used at other : ℕ)
           → checkBy used at other false (readingOf (head .sort) (ran outcome′ cells′))
@@ -86,7 +88,9 @@ module _ (tokens : List ℕ) (head : TextHead) (others : ℕ) (cells : List ℕ)
 module _ (tokens : List ℕ) (head : TextHead) (cells : List ℕ) (S : Source) {zeros : List ℕ} (cleared : zeros ≡ zeroed cells) (outcome : Outcome)
     (cells′ : List ℕ) (runs : ran outcome cells′ ≡ runTokens S (head .nonterminal) zeros (tokensLent tokens)) where
   again : {outcome′ : Outcome} → outcome ≡ outcome′ → ran outcome′ cells′ ≡ runTokens S (head .nonterminal) (zeroed cells) (tokensLent tokens)
-  again e = ran-as cells′ (runTokens S (head .nonterminal) zeros (tokensLent tokens)) e runs ∙ ap (λ c. runTokens S (head .nonterminal) c (tokensLent tokens)) cleared
+  again e =
+      ran-as cells′ (runTokens S (head .nonterminal) zeros (tokensLent tokens)) e runs
+      ∙ ap (λ c. runTokens S (head .nonterminal) c (tokensLent tokens)) cleared
 
   -- Where the second run halts too, a text is not read either way.
   pub explained-halted : {refusal : Refusal} → outcome ≡ Halted refusal → Explains tokens head cells 26 S

@@ -2,3 +2,4 @@ pub mod Words
 pub mod TextAnswers
 pub mod TextRuns
 pub mod TextReadings
+pub mod Storing

@@ -11,16 +11,9 @@ use Rattle.expansion.specs.declared.Outcome.the-variants.{Value}
 use Rattle.expansion.specs.Outcomes.{ran}
 use Rattle.expansion.specs.Run.{Result}
 use Rattle.expansion.specs.Expansion.{readyFor, run}
-use Rattle.steps.specs.Source.{Source, source, productionsFrom}
+use Rattle.steps.specs.Source.{Source, productionsFrom, SomeLent, EachLent}
 use Rattle.steps.specs.Steps.{tokensLent, LentTokens}
 use Rattle.calls.specs.Lent.{Ready}
-
--- Code has the bytes of a source. What it asks holds of some source of these; what it promises, of every one of which what it asks holds.
-pub record SomeSource (bs : List ℕ) (P : Source → Type 0) : Type 0 where
-  pub holds : P (source bs)
-
-abbrev pub EachSource : List ℕ → (Source → Type 0) → (Source → Type 0) → Type 0
-EachSource bs P Q = P (source bs) → Q (source bs)
 
 -- what the run of tokens asks
 pub record RunnableText (room tokens : List ℕ) (S : Source) : Type 0 where
@@ -28,8 +21,8 @@ pub record RunnableText (room tokens : List ℕ) (S : Source) : Type 0 where
   pub tokens-fit : LentTokens tokens
 
 -- and under a table that is not empty, of so many bytes at most
-pub record RunnableWithin (most : ℕ) (bs room tokens : List ℕ) : Type 0 where
-  pub runnable : SomeSource bs (RunnableText room tokens)
+pub record RunnableWithin (most : ℕ) (bs texts room tokens : List ℕ) : Type 0 where
+  pub runnable : SomeLent bs texts (RunnableText room tokens)
   pub some : 0 < length bs
   pub within : length bs ≤ most
 
@@ -43,6 +36,6 @@ runTokens S n cells ts =
     run (record { grammar = readyFor (S .patterns) (productionsFrom S); tokens = ts; rows = rowsLent (length cells) }) n cells
 
 -- the code's outcome is what the run gives
-pub record RunsText (bs room tokens : List ℕ) (root : ℕ) (cells : List ℕ) (r : Outcome) (cells′ : List ℕ) : Type 0 where
-  pub runs : EachSource bs (λ S. Ready S room) (λ S. ran r cells′ ≡ runTokens S root cells (tokensLent tokens))
+pub record RunsText (bs texts room tokens : List ℕ) (root : ℕ) (cells : List ℕ) (r : Outcome) (cells′ : List ℕ) : Type 0 where
+  pub runs : EachLent bs texts (λ S. Ready S room) (λ S. ran r cells′ ≡ runTokens S root cells (tokensLent tokens))
   pub few : FewMade r

@@ -11,7 +11,8 @@ use crate::words::has_number;
 use expansion::Outcome;
 use productions::room::ROOM;
 ghost use Rattle.calls.specs.Lent.{Ready};
-ghost use Rattle.reader.specs.TextRuns.{SomeSource, EachSource, RunnableText};
+ghost use Rattle.steps.specs.Source.{SomeLent, EachLent};
+ghost use Rattle.reader.specs.TextRuns.{RunnableText};
 ghost use Rattle.reader.specs.TextReadings.{Attempts, Explains};
 
 // A text is answered; or it is not read with its words as outside names.
@@ -24,21 +25,22 @@ pub enum Attempt {
 pub fn read_tokens(
     cells: &mut [u32],
     table: &[u8],
+    texts: &[u32],
     room: &[u64; ROOM],
     head: TextHead,
     tokens: &mut [u32],
     others: usize,
 ) -> Attempt
-    requires { ⌜ SomeSource (now table) (RunnableText (now room) (now tokens)) ⌝ }
-    ensures { λ r. ⌜ EachSource (now (table .entry)) (λ S. Ready S (now (room .entry))) (Attempts (now (tokens .entry)) head others (now (cells .entry)) r (now
-        (cells .exit))) ⌝ }
+    requires { ⌜ SomeLent (now table) (now texts) (RunnableText (now room) (now tokens)) ⌝ }
+    ensures { λ r. ⌜ EachLent (now (table .entry)) (now (texts .entry)) (λ S. Ready S (now (room .entry)))
+        (Attempts (now (tokens .entry)) head others (now (cells .entry)) r (now (cells .exit))) ⌝ }
 {
     let number = has_number(tokens);
     if number {
         return Attempt::Answered(TextAnswer::Refused(TEXT_UNREAD));
     }
     as_outside(tokens);
-    let outcome = run_text(cells, table, room, head.nonterminal, tokens);
+    let outcome = run_text(cells, table, texts, room, head.nonterminal, tokens);
     match outcome {
         Outcome::Halted(_) => Attempt::Unread,
         Outcome::Value(x, s) => Attempt::Answered(judge(cells, head, x, s, others)),
@@ -49,15 +51,17 @@ pub fn read_tokens(
 pub fn explain(
     cells: &mut [u32],
     table: &[u8],
+    texts: &[u32],
     room: &[u64; ROOM],
     head: TextHead,
     tokens: &[u32],
 ) -> u8
-    requires { ⌜ SomeSource (now table) (RunnableText (now room) (now tokens)) ⌝ }
-    ensures { λ r. ⌜ EachSource (now (table .entry)) (λ S. Ready S (now (room .entry))) (Explains (now (tokens .entry)) head (now (cells .entry)) r) ⌝ }
+    requires { ⌜ SomeLent (now table) (now texts) (RunnableText (now room) (now tokens)) ⌝ }
+    ensures { λ r. ⌜ EachLent (now (table .entry)) (now (texts .entry)) (λ S. Ready S (now (room .entry)))
+        (Explains (now (tokens .entry)) head (now (cells .entry)) r) ⌝ }
 {
     clear(cells);
-    let outcome = run_text(cells, table, room, head.nonterminal, tokens);
+    let outcome = run_text(cells, table, texts, room, head.nonterminal, tokens);
     match outcome {
         Outcome::Halted(_) => TEXT_UNREAD,
         Outcome::Value(x, s) => because(cells, head.sort, x, s),

@@ -10,12 +10,12 @@ because-requires c κs =
     told .before .before .before .before .run-text .ensures .few _ _ (told .outcome .given .1)
 
 returns : tie.Need-returns
-returns c = λ ready. search (laws.explained-halted, c .before .before .before .before .run-text .ensures .runs ready)
+returns c = λ patterns ready. search (laws.explained-halted, c .before .before .before .before .run-text .ensures .runs patterns ready)
 
 returns-2 : tie.Need-returns-2
 returns-2 c =
-    λ ready.
-    search (laws.explained-done, c .before .before .before .before .before .before .before .run-text .ensures .runs ready)
+    λ patterns ready.
+    search (laws.explained-done, c .before .before .before .before .before .before .before .run-text .ensures .runs patterns ready)
 
 -- the function meets its contract
 pub explain-spec : {M : Type 1} → statement M

@@ -1,6 +1,6 @@
 -- `read_tokens`: a number, a run that halts, or one that is done and judged.
 use borrow.Author.Needs.{needs}
-use Rattle.steps.specs.Source.{source}
+use Rattle.steps.specs.Source.{sourceOf}
 use Rattle.reader.specs.TextRuns.{RunnableText}
 use Rattle.reader.proofs.AttemptLaws as laws
 use Rattle.reader.proofs.attempts.read_tokens.Statement.{statement}
@@ -12,16 +12,17 @@ module _ (point : tie.After-as-outside) where
   scanned = point .before .before .before
 
   abbrev entry : tie.Start
-  entry = scanned .before .before .before .before .before
+  entry = scanned .before .before .before .before .before .before
 
-  runnable : RunnableText (entry .args .room .now) (point .as-outside .last .0) (source (entry .args .table .now))
+  runnable : RunnableText (entry .args .room .now) (point .as-outside .last .0)
+      (sourceOf (entry .args .table .now) (entry .args .texts .now) (entry .pre .patterns))
   runnable = record { ready = entry .pre .holds .ready; tokens-fit = point .as-outside .ensures .fit (entry .pre .holds .tokens-fit) }
 
 returns : tie.Need-returns
-returns c = λ ready. search laws.attempt-number
+returns c = λ patterns ready. search laws.attempt-number
 
 run-text-requires : tie.Need-run-text-requires
-run-text-requires c κs = record { holds = runnable (c .before .before .before .before) }
+run-text-requires c κs = record { patterns = _; holds = runnable (c .before .before .before .before) }
 
 judge-requires : tie.Need-judge-requires
 judge-requires c κs =
@@ -29,12 +30,12 @@ judge-requires c κs =
     told .before .before .before .before .run-text .ensures .few _ _ (told .outcome .given .1)
 
 returns-2 : tie.Need-returns-2
-returns-2 c = λ ready. search (laws.attempt-halted, c .before .before .before .before .run-text .ensures .runs ready)
+returns-2 c = λ patterns ready. search (laws.attempt-halted, c .before .before .before .before .run-text .ensures .runs patterns ready)
 
 returns-3 : tie.Need-returns-3
 returns-3 c =
-    λ ready.
-    search (laws.attempt-done, c .before .before .before .before .before .before .before .run-text .ensures .runs ready)
+    λ patterns ready.
+    search (laws.attempt-done, c .before .before .before .before .before .before .before .run-text .ensures .runs patterns ready)
 
 -- the function meets its contract
 pub read-tokens-spec : {M : Type 1} → statement M
