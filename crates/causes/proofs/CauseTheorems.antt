@@ -175,7 +175,7 @@ module _ (bs : List ℕ) (bytes : (place : ℕ) → getD bs place 0 < 256) where
           → cause .number ≤ 11
       by (inl a) = let z : _≡_ {A = ℕ} 0 1 = cc (e, a .1) in absurd (omega arith)
       by (inr a) = let z : a .0 ≡ cause = cc (e, a .1) in laid-number (rw z at (a .2))
-  unlaid-number {cause} (by-sorts {t} e w m) = sort-number (sort-refusals t cause (missorted-exactly t w cause .1 m) .0)
+  unlaid-number {cause} (by-sorts {t} e w m) = sort-number (sort-refusals t cause w (missorted-exactly t w cause .1 m) .0)
 
   -- The check gives a refusal of 1 to 11 exactly if the rules of 1 to 11 do.
   pub unlaid-exactly : (cause : Refusal) → ((check bs ≡ Refused cause) × (cause .number ≤ 11)) ↔ Unlaid bs cause

@@ -160,9 +160,9 @@ module _ (G : Scope) (L : List ℕ) (at : ℕ) where
       (λ c. failing (rules.undefined-result (open-rule G (length L) t c)) (rw c refl))
 
   -- a result with a sort that fits passes
-  pub result-passes : {P : Before} {B used : ℕ} {r : WrittenResult} {made : TextRead} → ResultSorted G P L B used r made
+  pub result-passes : {P : Before} {B used : ℕ} {r : WrittenResult} {made : TextRead} → ResultWithin r → ResultSorted G P L B used r made
       → checkResult G P L B used at r ≡ ok made
-  result-passes (by-template {t = t} s f) =
+  result-passes w (by-template {t = t} s f) =
       let (closed, sorted, is) = rule-sorted G L t s in rw (closed, sorted, is, rule-fits f) refl
 
   -- a result that fails is refused

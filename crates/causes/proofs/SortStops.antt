@@ -151,7 +151,8 @@ module _ (t : Written) where
       unfolding bodies alternatives
       by-body w =
           let choice =
-          stops (alternatives G P (d .signature)) (d .alternatives) (noneYet before) (body .place + fieldSize (headValue d)) (w .alternatives) (body .refused) in
+          stops (alternatives G P (d .signature)) (d .alternatives) (noneYet before) (body .place + fieldSize (headValue d)) (w .alternatives)
+          (body .refused) in
           by-alternative choice (this-of (choice .here) (w .alternatives)) (choice .refused)
 
     by-block : Each DefinitionWithin (block .here .this) → Missorted t r
@@ -184,22 +185,23 @@ module _ (t : Written) where
 
   -- ------------------------------------------------------------------ from the rules to the check
 
-  in-block : {r : Refusal} {P : Before} (b : At (t .blocks)) → Derived t (b .before) P
+  in-block : {r : Refusal} {P : Before} → Within t → (b : At (t .blocks)) → Derived t (b .before) P
       → checkBlock P (first + blocksSize (b .before)) (b .this) ≡ bad r → checkSorts t ≡ bad r
   unfolding checkSorts blocks
-  in-block {P = P} b s h =
+  in-block {P = P} w b s h =
       let stop : Stop blocks (atFirst t) first (t .blocks) _
       = record { here = b; state = P; before = s; place = first + blocksSize (b .before); place-is = refl; refused = h } in
-      rw (stopped blocks stop) refl
+      rw (stopped blocks (w .blocks) stop) refl
 
-  at-root : {r : Refusal} {P : Before} → Derived t (t .blocks) P → checkRoot (P .env) root-at (t .root) ≡ bad r → checkSorts t ≡ bad r
+  at-root : {r : Refusal} {P : Before} → Within t → Derived t (t .blocks) P → checkRoot (P .env) root-at (t .root) ≡ bad r → checkSorts t ≡ bad r
   unfolding checkSorts blocks
-  at-root {P = P} s h = rw (passed blocks (t .blocks) (atFirst t) P first s, h) refl
+  at-root {P = P} w s h = rw (passed blocks (t .blocks) (atFirst t) P first (w .blocks) s, h) refl
 
-  at-head : {r : Refusal} {P : Before} {own : Env} (b : At (t .blocks)) (d : At (b .this)) → Derived t (b .before) P → Defines (P .env) [] (d .before) own
+  at-head : {r : Refusal} {P : Before} {own : Env} → Within t → (b : At (t .blocks)) (d : At (b .this)) → Derived t (b .before) P
+      → Defines (P .env) [] (d .before) own
       → Fails (headPlace t b d) (head (P .env) own (d .this)) r → checkSorts t ≡ bad r
   unfolding heads
-  at-head {r} {P} {own} b d s k f =
+  at-head {r} {P} {own} w b d s k f =
       let E : Env = P .env in
       let place : ℕ = first + blocksSize (b .before) in
       let stop : Stop (heads E) [] (place + 3) (b .this) r
@@ -211,10 +213,10 @@ module _ (t : Written) where
         place-is = head-place (b .before) (d .before);
         refused = head-fails E own (d .this) (headPlace t b d) f;
       } in
-      in-block b s (rw (stopped (heads E) stop) refl)
+      in-block w b s (rw (stopped (heads E) (this-of b (w .blocks)) stop) refl)
 
-  in-body : {r : Refusal} {P : Before} {own : Env} {es : List Definition} {others : List Alternative} {next used : ℕ} (b : At (t .blocks))
-      (d : At (b .this)) (a : At (d .this .alternatives))
+  in-body : {r : Refusal} {P : Before} {own : Env} {es : List Definition} {others : List Alternative} {next used : ℕ} → Within t
+      → (b : At (t .blocks)) (d : At (b .this)) (a : At (d .this .alternatives))
       → Derived t (b .before) P
       → Defines (P .env) [] (b .this) own
       → Ok (scopeAfter P own) P (P .used) (d .before) es next
@@ -224,7 +226,8 @@ module _ (t : Written) where
       ≡ bad r
       → checkSorts t ≡ bad r
   unfolding heads bodies alternatives
-  in-body {r} {P} {own} {es} {others} {next} {used} b d a s k o c h =
+  in-body {r} {P} {own} {es} {others} {next} {used} w b d a s k o c h =
+      let block = this-of b (w .blocks) in
       let G : Scope = scopeAfter P own in
       let place : ℕ = first + blocksSize (b .before) + 3 in
       let behind : ℕ = place + definitionsSize (d .before) + fieldSize (headValue (d .this)) in
@@ -244,14 +247,14 @@ module _ (t : Written) where
         before = (es, o, refl);
         place = place + definitionsSize (d .before);
         place-is = refl;
-        refused = stopped (alternatives G P (d .this .signature)) choice;
+        refused = stopped (alternatives G P (d .this .signature)) (this-of d block .alternatives) choice;
       } in
-      in-block b s (rw (passed (heads (P .env)) (b .this) [] own place k, stopped (bodies G P) body) refl)
+      in-block w b s (rw (passed (heads (P .env)) (b .this) [] own place block k, stopped (bodies G P) block body) refl)
 
   -- A table that is refused by the rules is refused by the check of sorts.
   pub rule-sorts : {r : Refusal} → Within t → Missorted t r → checkSorts t ≡ bad r
   unfolding checkAlternative items
-  rule-sorts w (rules.fails (rules.at-head b d s k) f) = at-head b d s k f
+  rule-sorts w (rules.fails (rules.at-head b d s k) f) = at-head w b d s k f
   rule-sorts {r} w (rules.fails (rules.in-body {P} {own} {L} b d a s k o c n (rules.next-item i)) f) =
       let G : Scope = scopeAfter P own in
       let fine = this-of a (this-of d (this-of b (w .blocks)) .alternatives) in
@@ -264,18 +267,18 @@ module _ (t : Written) where
         place-is = body-place (b .before) (d .before) (d .this) (a .before) (i .before);
         refused = item-fails G L (bodyPlace t b d a (i .before)) (this-of i (fine .items)) f;
       } in
-      in-body b d a s k o c (rw (stopped (items G) stop) refl)
+      in-body w b d a s k o c (rw (stopped (items G) (fine .items) stop) refl)
   rule-sorts {r} w (rules.fails (rules.in-body {P} {own} {L} {used = used} b d a s k o c n rules.the-result) f) =
       let G : Scope = scopeAfter P own in
       let fine = this-of a (this-of d (this-of b (w .blocks)) .alternatives) in
       let place = body-place (b .before) (d .before) (d .this) (a .before) (a .this .items) in
-      in-body b d a s k o c
+      in-body w b d a s k o c
       (rw (
-        passed (items G) (a .this .items) (d .this .signature .params) L _ n,
+        passed (items G) (a .this .items) (d .this .signature .params) L _ (fine .items) n,
         result-fails G L _ (fine .result) (subst (λ at. Fails at (result G P L (d .this .signature .result) used (a .this .result)) r) place f),
       ) refl)
   rule-sorts {r} w (rules.fails (rules.at-root {P} s) f) =
-      at-root s (root-fails (P .env) root-at (subst (λ at. Fails at (root (P .env) (t .root)) r) root-place f))
+      at-root w s (root-fails (P .env) root-at (subst (λ at. Fails at (root (P .env) (t .root)) r) root-place f))
 
   -- The check of sorts refuses exactly as the rules do.
   pub missorted-exactly : Within t → (r : Refusal) → (checkSorts t ≡ bad r) ↔ Missorted t r

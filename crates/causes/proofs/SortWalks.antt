@@ -64,9 +64,9 @@ module _ (G : Scope) where
       none-is : (L L′ : List ℕ) → Numbered G L [] L′ → L ≡ L′
       none-is L L′ no-item = refl
 
-      more-is : (L L′ : List ℕ) (i : Item) (is : List Item) → Numbered G L (i ∷ is) L′
+      more-is : (L L′ : List ℕ) (i : Item) (is : List Item) → ItemWithin i → Numbered G L (i ∷ is) L′
           → (A : ℕ) × ((at : ℕ) → checkItem G L at i ≡ ok A) × Numbered G (L ++ (A ∷ [])) is L′
-      more-is L L′ i is (one-more {A = A} s n) = (A, λ at. item-passes G L at s, n)
+      more-is L L′ i is w (one-more {A = A} s n) = (A, λ at. item-passes G L at s, n)
 
   module _ (P : Before) where
     module _ (S : Signature) where
@@ -89,12 +89,12 @@ module _ (G : Scope) where
           (λ r f q′. no-refusal (sym q ∙ q′))))
 
       -- and the other way round
-      pub alternative-passes : (used at : ℕ) (a : WrittenAlternative) {L : List ℕ} {made : TextRead} → Numbered G (S .params) (a .items) L
-          → ResultSorted G P L (S .result) used (a .result) made
+      pub alternative-passes : (used at : ℕ) (a : WrittenAlternative) {L : List ℕ} {made : TextRead} → AlternativeWithin a
+          → Numbered G (S .params) (a .items) L → ResultSorted G P L (S .result) used (a .result) made
           → checkAlternative G P S used at a ≡ ok (record { value = record { items = a .items; result = made .template }; used = made .used })
       unfolding checkAlternative items
-      alternative-passes used at a {L} n r =
-          rw (passed items (a .items) (S .params) L (at + 3) n, result-passes G L (at + 3 + itemsSize (a .items)) r) refl
+      alternative-passes used at a {L} w n r =
+          rw (passed items (a .items) (S .params) L (at + 3) (w .items) n, result-passes G L (at + 3 + itemsSize (a .items)) (w .result) r) refl
 
       -- no alternative is elaborated to none
       pub no-alternatives : {used used′ : ℕ} {made : List Alternative} → Bodies G P S used [] made used′ → (used ≡ used′) × (made ≡ [])
@@ -130,13 +130,13 @@ module _ (G : Scope) where
               let (others, bs, q) = subst⁻¹ (λ z. Laid (Bodies G P S) (andThen done (z .value) (z .used)) rest all) is laid in
               (_, by-choice n r bs, sym (append-assoc (done .value) _ others) ∙ q)
 
-          more-is : (done all : Elaborated (List Alternative)) (a : WrittenAlternative) (rest : List WrittenAlternative) → Laid (Bodies G P S) done (a ∷ rest) all
-              → (b : Elaborated Alternative) × ((at : ℕ) → checkAlternative G P S (done .used) at a ≡ ok b)
+          more-is : (done all : Elaborated (List Alternative)) (a : WrittenAlternative) (rest : List WrittenAlternative) → AlternativeWithin a
+              → Laid (Bodies G P S) done (a ∷ rest) all → (b : Elaborated Alternative) × ((at : ℕ) → checkAlternative G P S (done .used) at a ≡ ok b)
               × (Laid (Bodies G P S) (andThen done (b .value) (b .used)) rest all)
-          more-is done all a rest (made, by-choice {r = t} {others = others} n r bs, q) =
+          more-is done all a rest w (made, by-choice {r = t} {others = others} n r bs, q) =
               let one : Alternative = record { items = a .items; result = t .template } in (
                 record { value = one; used = t .used },
-                λ at. alternative-passes (done .used) at a n r,
+                λ at. alternative-passes (done .used) at a w n r,
                 (others, bs, append-assoc (done .value) (one ∷ []) others ∙ q),
               )
 
@@ -179,13 +179,14 @@ module _ (G : Scope) where
               ap (λ z. done .value ++ (withAlternatives d z ∷ es)) is ∙ sym (append-assoc (done .value) (withAlternatives d (e .value) ∷ []) es) ∙ q,
             )
 
-        more-is : (done all : Elaborated (List Definition)) (d : WrittenDefinition) (ds : List WrittenDefinition) → Laid (Ok G P) done (d ∷ ds) all
-            → (e : Elaborated (List Alternative)) × ((at : ℕ) → checkDefinition (done .used) at d ≡ ok e)
+        more-is : (done all : Elaborated (List Definition)) (d : WrittenDefinition) (ds : List WrittenDefinition) → DefinitionWithin d
+            → Laid (Ok G P) done (d ∷ ds) all → (e : Elaborated (List Alternative)) × ((at : ℕ) → checkDefinition (done .used) at d ≡ ok e)
             × (Laid (Ok G P) (andThen done (withAlternatives d (e .value)) (e .used)) ds all)
-        more-is done all d ds (made, ok-definition {choices = choices} {es = es} {next = next} b o, q) =
+        more-is done all d ds w (made, ok-definition {choices = choices} {es = es} {next = next} b o, q) =
             let e : Elaborated (List Alternative) = record { value = choices; used = next } in (
               e,
-              λ at. passed (alternatives (d .signature)) (d .alternatives) (noneYet (done .used)) e (at + fieldSize (headValue d)) (choices, b, refl),
+              λ at. passed (alternatives (d .signature)) (d .alternatives) (noneYet (done .used)) e (at + fieldSize (headValue d)) (w .alternatives)
+                  (choices, b, refl),
               (es, o, append-assoc (done .value) (withAlternatives d choices ∷ []) es ∙ q),
             )
 
@@ -234,7 +235,7 @@ module _ (E : Env) where
         none-is = none-is;
         Fine = DefinitionWithin;
         more = λ own own′ at d ds u w e k. outcome (head-view E own d at) (λ v c q. define c k) (λ r f q. no-refusal (sym e ∙ q));
-        more-is = λ own own′ d ds k. let (c, rest) = defined k in (tt, λ at. consistent-passes own d at c, rest);
+        more-is = λ own own′ d ds w k. let (c, rest) = defined k in (tt, λ at. consistent-passes own d at c, rest);
       }
     where
       none-is : (own own′ : Env) → Defines {R = WrittenResult} E own [] own′ → own ≡ own′
@@ -302,13 +303,13 @@ blocks =
         let (made, o, is) = passes (bodies (scopeAfter P own) P) b (noneYet (P .used)) e at w q in
         by-grammar (passes (heads (P .env)) b [] own at w p) o (subst⁻¹ (λ h. Sequence (behindBlock P own h (e .used)) bs P′) is s)
 
-    more-is : (P P′ : Before) (b : List WrittenDefinition) (bs : List (List WrittenDefinition)) → Sequence P (b ∷ bs) P′
+    more-is : (P P′ : Before) (b : List WrittenDefinition) (bs : List (List WrittenDefinition)) → Each DefinitionWithin b → Sequence P (b ∷ bs) P′
         → (Q : Before) × ((at : ℕ) → checkBlock P at b ≡ ok Q) × Sequence Q bs P′
-    more-is P P′ b bs (by-grammar {own = own} {h = made} {used = used} d o s) = (
+    more-is P P′ b bs w (by-grammar {own = own} {h = made} {used = used} d o s) = (
       behindBlock P own made used,
       λ at. rw (
-        passed (heads (P .env)) b [] own (at + 3) d,
-        passed (bodies (scopeAfter P own) P) b (noneYet (P .used)) (record { value = made; used = used }) (at + 3) (made, o, refl),
+        passed (heads (P .env)) b [] own (at + 3) w d,
+        passed (bodies (scopeAfter P own) P) b (noneYet (P .used)) (record { value = made; used = used }) (at + 3) w (made, o, refl),
       ) refl,
       s,
     )

@@ -6,6 +6,7 @@ use native.Mathlib.Omega.{arith}
 use Rattle.answers.specs.declared.Refusal.{Refusal}
 use Rattle.answers.specs.Checked.{Checked, ok, bad, _>>=_, _>>_}
 use Rattle.decoding.specs.Within.{Each, each-none, each-more}
+use Rattle.decoding.proofs.Spelled.{each-split}
 use Rattle.causes.specs.Missorted.{At}
 
 -- ------------------------------------------------------------------ checks one after the other
@@ -50,6 +51,10 @@ module _ {A : Type 0} where
   pub this-of : {P : A → Type 0} {xs : List A} (a : At xs) → Each P xs → P (a .this)
   this-of {P = P} a h = each-this (a .before) (a .this) (a .behind) (subst (Each P) (a .whole) h)
 
+  -- and of those before it
+  pub before-of : {P : A → Type 0} {xs : List A} (a : At xs) → Each P xs → Each P (a .before)
+  before-of {P = P} a h = each-split (a .before) (subst (Each P) (a .whole) h) .0
+
 -- ------------------------------------------------------------------ a walk
 
 -- A check of a list from a state and a place on, member by member, and the judgement of the members that passed.
@@ -83,7 +88,7 @@ pub record Walk (S A B : Type 0) : Type 1 where
   -- a member that passes leads on
   pub more : (s s′ : S) (at : ℕ) (x : A) (xs : List A) (v : B) → Fine x → one s at x ≡ ok v → Leads (next s x v) xs s′ → Leads s (x ∷ xs) s′
   -- a member that leads on passes, at whatever place
-  pub more-is : (s s′ : S) (x : A) (xs : List A) → Leads s (x ∷ xs) s′ → (v : B) × ((at : ℕ) → one s at x ≡ ok v) × Leads (next s x v) xs s′
+  pub more-is : (s s′ : S) (x : A) (xs : List A) → Fine x → Leads s (x ∷ xs) s′ → (v : B) × ((at : ℕ) → one s at x ≡ ok v) × Leads (next s x v) xs s′
 
 -- a walk that stops with a refusal
 pub record Stop {S A B : Type 0} (walk : Walk S A B) (s : S) (at : ℕ) (xs : List A) (r : Refusal) : Type 0 where
@@ -133,26 +138,27 @@ module _ {S A B : Type 0} (walk : Walk S A B) where
       (λ v p h. walk .more s s′ at x xs v w p (passes xs (walk .next s x v) s′ (at + walk .bytes x) ws h))
 
   -- behind members that lead to a state the check is that of the rest
-  behind : (before rest : List A) (s s′ : S) (at place : ℕ) → walk .Leads s before s′ → place ≡ at + walk .size before
+  behind : (before rest : List A) (s s′ : S) (at place : ℕ) → Each (walk .Fine) before → walk .Leads s before s′ → place ≡ at + walk .size before
       → walk .all s at (before ++ rest) ≡ walk .all s′ place rest
-  behind [] rest s s′ at place b p =
+  behind [] rest s s′ at place each-none b p =
       let here : place ≡ at = omega (arith, walk .size-none) in
       rw (here, walk .none-is s s′ b) refl
-  behind (x ∷ before) rest s s′ at place b p =
-      let (v, one, leads) = walk .more-is s s′ x before b in
+  behind (x ∷ before) rest s s′ at place (each-more w ws) b p =
+      let (v, one, leads) = walk .more-is s s′ x before w b in
       walk .goes-on s at x (before ++ rest)
-      ∙ rw (one at) (behind before rest (walk .next s x v) s′ (at + walk .bytes x) place leads (omega (arith, walk .size-more x before)))
+      ∙ rw (one at) (behind before rest (walk .next s x v) s′ (at + walk .bytes x) place ws leads (omega (arith, walk .size-more x before)))
 
   -- Members that lead to a state pass.
-  pub passed : (xs : List A) (s s′ : S) (at : ℕ) → walk .Leads s xs s′ → walk .all s at xs ≡ ok s′
-  passed [] s s′ at b = walk .at-end s at ∙ ap ok (walk .none-is s s′ b)
-  passed (x ∷ xs) s s′ at b =
-      let (v, one, leads) = walk .more-is s s′ x xs b in
-      walk .goes-on s at x xs ∙ rw (one at) (passed xs (walk .next s x v) s′ (at + walk .bytes x) leads)
+  pub passed : (xs : List A) (s s′ : S) (at : ℕ) → Each (walk .Fine) xs → walk .Leads s xs s′ → walk .all s at xs ≡ ok s′
+  passed [] s s′ at each-none b = walk .at-end s at ∙ ap ok (walk .none-is s s′ b)
+  passed (x ∷ xs) s s′ at (each-more w ws) b =
+      let (v, one, leads) = walk .more-is s s′ x xs w b in
+      walk .goes-on s at x xs ∙ rw (one at) (passed xs (walk .next s x v) s′ (at + walk .bytes x) ws leads)
 
   -- A walk that stops is refused.
-  pub stopped : {s : S} {at : ℕ} {xs : List A} {r : Refusal} → Stop walk s at xs r → walk .all s at xs ≡ bad r
-  stopped {s} {at} {xs} {r} stop =
+  pub stopped : {s : S} {at : ℕ} {xs : List A} {r : Refusal} → Each (walk .Fine) xs → Stop walk s at xs r → walk .all s at xs ≡ bad r
+  stopped {s} {at} {xs} {r} w stop =
       subst⁻¹ (λ l. walk .all s at l ≡ bad r) (stop .here .whole)
-      (behind (stop .here .before) (stop .here .this ∷ stop .here .behind) s (stop .state) at (stop .place) (stop .before) (stop .place-is)
+      (behind (stop .here .before) (stop .here .this ∷ stop .here .behind) s (stop .state) at (stop .place) (before-of (stop .here) w) (stop .before)
+      (stop .place-is)
       ∙ walk .goes-on (stop .state) (stop .place) (stop .here .this) (stop .here .behind) ∙ rw (stop .refused) refl)

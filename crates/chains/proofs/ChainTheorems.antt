@@ -19,7 +19,8 @@ use Rattle.expansion.specs.Run.{halt}
 use Rattle.expansion.specs.Expansion.{inputOf, initialState, run}
 use Rattle.expansion.specs.Limits.{mostOpen}
 use Rattle.soundness.specs.Passing.{Passing}
-use Rattle.soundness.proofs.Normalizing.{each-at, each-fits}
+use Rattle.elaboration.proofs.Normalizing.{each-at}
+use Rattle.soundness.proofs.Normalizing.{each-fits}
 use Rattle.chains.specs.Moments.{Moment, momentsOf, Apart, apart-none, hasProduction, definedIn}
 use Rattle.chains.proofs.Counting.{few-calls, below-among, owner-defined}
 use Rattle.chains.proofs.Chains.{Since, Parted, outermost-parted}

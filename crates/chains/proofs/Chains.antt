@@ -19,7 +19,7 @@ use Rattle.expansion.specs.Run.{Result, done, halt, Run}
 use Rattle.expansion.specs.Limits.{mostCalls}
 use Rattle.expansion.specs.Expansion.{Input, Rule, readyFor, Choice, unfit, chosen, choice, nextToken, buildAll, runItem, runCall, callBegun}
 use Rattle.expansion.proofs.Choosing.{rule}
-use Rattle.soundness.proofs.Normalizing.{each-append}
+use Rattle.elaboration.proofs.Normalizing.{each-append}
 use Rattle.soundness.proofs.StopLaws.{Stays, build-all-stays}
 use Rattle.chains.specs.Moments.{Call, Moment, Trace, moment, following, itemMoments, itemsMoments, callMoments, Apart, apart-none, apart-more}
 use Rattle.chains.proofs.Chosen.{Chosen, of-production, none-chosen, choice-of}

@@ -138,7 +138,7 @@ module _ (bs : List ℕ) where
       unfolding check passedTable
       by-firsts =
           let (made, answered) = sorts-ok in
-          let same = elaborated-blocks (sorts-exactly (encoded .0) made (encoded .2) .0 answered) in
+          let same = elaborated-blocks (encoded .2) (sorts-exactly (encoded .0) made (encoded .2) .0 answered) in
           cc (decoded, answered, verdict-then (checkFirsts (grammarOf made)) (syntaxOf made), indexed, same)
 
       room-written : (room : List ℕ) → roomAfter bs room ≡ overwritten (tableRoom bs) room

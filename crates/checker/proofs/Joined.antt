@@ -41,7 +41,8 @@ module _ {bs : List ℕ} (bytes : Bytes bs) (passes : Passes bs) where
 
   -- The productions of its bytes are the grammar of the table.
   pub passed-grammar : productionsIn bs ≡ grammarOf (passes .table)
-  passed-grammar = cc (productions-at bs, passes .encoded, normalized-by (passes .written) (passes .within), elaborated-blocks (passes .meets .elaborates))
+  passed-grammar =
+      cc (productions-at bs, passes .encoded, normalized-by (passes .written) (passes .within), elaborated-blocks (passes .within) (passes .meets .elaborates))
 
   -- The room after its check holds its grammar, each production a whole alternative.
   pub passed-holds : {room₀ room : List ℕ} {verdict : Verdict} → CheckedInto bs room₀ room verdict → HoldsGrammar bs room

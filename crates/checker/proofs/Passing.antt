@@ -154,7 +154,9 @@ module _ (bs : List ℕ) (bytes : (place : ℕ) → getD bs place 0 < 256) where
       by-sorts : (table : Written) → decode bs ≡ ok table → (checked : Checked Table) → checkSorts table ≡ checked
           → verdict (checked >>= firstsOf) ≡ Refused cause → (laid : Laid bs) × (checkFirsts (grammarOf (laid .table)) ≡ bad cause)
       by-sorts table d (ok made) e h = by-firsts table made d e (checkFirsts (grammarOf made)) refl h
-      by-sorts table d (bad q) e h = not-sort {number = q .number} (omega (arith, over, ap (λ (x : Refusal). x .number) (same h))) (sort-refusals table q e .0)
+      by-sorts table d (bad q) e h =
+          not-sort {number = q .number} (omega (arith, over, ap (λ (x : Refusal). x .number) (same h)))
+          (sort-refusals table q (decode-exactly bs bytes table .0 d .1) e .0)
 
       by-layout : (checked : Checked Written) → decode bs ≡ checked → verdict (checked >>= rules) ≡ Refused cause
           → (laid : Laid bs) × (checkFirsts (grammarOf (laid .table)) ≡ bad cause)

@@ -19,6 +19,7 @@ use Rattle.decoding.specs.Decode.{decode}
 use Rattle.decoding.proofs.LayoutTheorems as layout
 use Rattle.elaboration.specs.Elaboration.{Elaborates}
 use Rattle.elaboration.specs.CheckSequence.{checkSorts}
+use Rattle.elaboration.proofs.Ranges.{table-fine}
 use Rattle.elaboration.proofs.SortTheorems as sorting
 use Rattle.productions.specs.Normal.{Production}
 use Rattle.clashes.specs.CheckFirsts.{checkFirsts}
@@ -51,8 +52,8 @@ pub sorts-exactly : (table : Written) (made : Table) → Within table → (check
 sorts-exactly = sorting.sorts-exactly
 
 -- A table is elaborated in one way.
-pub elaborated-once : {table : Written} {made other : Table} → Elaborates table made → Elaborates table other → made ≡ other
-elaborated-once = sorting.elaborated-once
+pub elaborated-once : {table : Written} {made other : Table} → Within table → Elaborates table made → Elaborates table other → made ≡ other
+elaborated-once w = sorting.elaborated-once (table-fine w)
 
 -- ------------------------------------------------------------------ 3. nullables and first sets
 

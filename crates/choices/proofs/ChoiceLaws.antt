@@ -21,7 +21,7 @@ use Rattle.firsts.specs.Patterns.{opensIde, opensPlace}
 use Rattle.grammar.proofs.ReaderLaws.{getD-past}
 use Rattle.decoding.specs.Within.{Each, each-none, each-more, Among, among-first, among-later}
 use Rattle.productions.specs.Normal.{Production}
-use Rattle.productions.specs.Index.{itemsOf, Place, placesOf, productionAt, Whole}
+use Rattle.productions.specs.Index.{itemsOf, Place, placesOf, productionAt}
 use Rattle.productions.specs.Room.{Entry, noEntry, noPlace, HoldsEntries, placeFrom, isOf, isNullableOf, firstIn, startIn, firstSetIn}
 use Rattle.productions.specs.Room.{firstPlaceIn, nextPlaceIn, nullablePlaceIn, patternsIn}
 use Rattle.productions.proofs.RoomLaws.{first-set-in, first-place-in, nullable-place-in, first-in, start-in, next-place-in, patterns-in}

@@ -57,7 +57,7 @@ pub data ItemWithin : Item → Type 0 where
   local-within : ItemWithin local
   call-within : {n : ℕ} {ts : Templates} → n < most .nonterminals → TemplatesWithin ts → ItemWithin (call n ts)
 
--- 07: a template
+-- 07: a template; the layout passes no text
 pub data ResultWithin : WrittenResult → Type 0 where
   template-within : {t : Template} → TemplateWithin t → ResultWithin (template t)
 

@@ -4,30 +4,19 @@ use mathlib.Core.Path.{_≡_, refl, sym, ap, _∙_}
 use mathlib.Core.List.{List, [], _∷_, _++_, map, append-nil, append-assoc}
 use lib.ListN.{length}
 use Rattle.grammar.specs.Sorts.{Signature}
-use Rattle.grammar.specs.Table.{Item, Alternative, Definition, Table}
+use Rattle.grammar.specs.Table.{Alternative, Definition, Table}
 use Rattle.grammar.specs.Written.{WrittenResult, WrittenAlternative, WrittenDefinition, Written}
 use Rattle.grammar.specs.Templated.{templateOf, withTemplate, withTemplates, templated}
-use Rattle.decoding.specs.Within.{TemplateWithin, ResultWithin, template-within}
+use Rattle.decoding.specs.Within.{Each, each-none, each-more, ResultWithin, AlternativeWithin, DefinitionWithin, Within}
 use Rattle.productions.specs.Normal.{Production, definedAll, normalizedFrom, normalized}
 use Rattle.judgements.specs.Scopes.{Env, Scope}
-use Rattle.judgements.specs.Judgements.{Numbered, no-item, one-more, Body, by-result, by-binding, Defines, no-definition, by-add, by-extend, by-update}
+use Rattle.judgements.specs.Judgements.{Defines, no-definition, by-add, by-extend, by-update}
 use Rattle.texts.specs.Reading.{TextRead}
 use Rattle.elaboration.specs.Contexts.{Before}
 use Rattle.elaboration.specs.Elaboration.{ResultSorted, by-template, Bodies, no-alternative, by-choice, Ok, ok-empty, ok-definition}
 use Rattle.elaboration.specs.Elaboration.{Sequence, no-grammar, by-grammar, Elaborates}
 
 module _ {G : Scope} {P : Before} where
-  -- An alternative with the template of its result has the sort that was asked.
-  pub body-sorted : {L L′ : List ℕ} {is : List Item} {B used : ℕ} {result : WrittenResult} {made : TextRead} → Numbered G L is L′
-      → ResultSorted G P L′ B used result made → Body G L is (made .template) B
-  body-sorted no-item (by-template s f) = by-result s f
-  body-sorted (one-more i n) r = by-binding i (body-sorted n r)
-
-  -- The template of a result within the ranges is within them.
-  pub made-within : {L : List ℕ} {B used : ℕ} {result : WrittenResult} {made : TextRead} → ResultSorted G P L B used result made → ResultWithin result
-      → TemplateWithin (made .template)
-  made-within (by-template s f) (template-within w) = w
-
   -- Elaborated definitions have the heads of those written,
   pub same-heads : {E own own′ : Env} {ds : List WrittenDefinition} {es : List Definition} {used used′ : ℕ} → Ok G P used ds es used′
       → Defines E own ds own′ → Defines E own es own′
@@ -42,28 +31,31 @@ module _ {G : Scope} {P : Before} where
   as-many no-alternative = refl
   as-many (by-choice n r bs) = cc (as-many bs)
 
-  result-made : {L : List ℕ} {B used : ℕ} {result : WrittenResult} {made : TextRead} → ResultSorted G P L B used result made
+  -- a table within the layout has no text
+  result-made : {L : List ℕ} {B used : ℕ} {result : WrittenResult} {made : TextRead} → ResultSorted G P L B used result made → ResultWithin result
       → made .template ≡ templateOf result
-  result-made (by-template s f) = refl
+  result-made (by-template s f) w = refl
 
   bodies-made : {S : Signature} {choices : List WrittenAlternative} {others : List Alternative} {used used′ : ℕ} → Bodies G P S used choices others used′
-      → others ≡ map withTemplate choices
-  bodies-made no-alternative = refl
-  bodies-made (by-choice n r bs) = cc (result-made r, bodies-made bs)
+      → Each AlternativeWithin choices → others ≡ map withTemplate choices
+  bodies-made no-alternative each-none = refl
+  bodies-made (by-choice n r bs) (each-more w ws) = cc (result-made r (w .result), bodies-made bs ws)
 
-  block-made : {ds : List WrittenDefinition} {es : List Definition} {used used′ : ℕ} → Ok G P used ds es used′ → es ≡ map withTemplates ds
-  block-made ok-empty = refl
-  block-made (ok-definition b o) = cc (bodies-made b, block-made o)
+  block-made : {ds : List WrittenDefinition} {es : List Definition} {used used′ : ℕ} → Ok G P used ds es used′ → Each DefinitionWithin ds
+      → es ≡ map withTemplates ds
+  block-made ok-empty each-none = refl
+  block-made (ok-definition b o) (each-more w ws) = cc (bodies-made b (w .alternatives), block-made o ws)
 
--- Blocks are elaborated to those with their templates.
-pub blocks-made : {P P′ : Before} {gs : List (List WrittenDefinition)} → Sequence P gs P′ → P′ .blocks ≡ P .blocks ++ templated gs
-blocks-made (no-grammar {P = P}) = sym (append-nil (P .blocks))
-blocks-made (by-grammar {P = P} {h = h} {gs = gs} d o s) =
-    blocks-made s ∙ append-assoc (P .blocks) (h ∷ []) (templated gs) ∙ ap (λ b. P .blocks ++ (b ∷ templated gs)) (block-made o)
+-- Blocks within the layout are elaborated to those with their templates.
+pub blocks-made : {P P′ : Before} {gs : List (List WrittenDefinition)} → Sequence P gs P′ → Each (Each DefinitionWithin) gs
+    → P′ .blocks ≡ P .blocks ++ templated gs
+blocks-made (no-grammar {P = P}) each-none = sym (append-nil (P .blocks))
+blocks-made (by-grammar {P = P} {h = h} {gs = gs} d o s) (each-more w ws) =
+    blocks-made s ws ∙ append-assoc (P .blocks) (h ∷ []) (templated gs) ∙ ap (λ b. P .blocks ++ (b ∷ templated gs)) (block-made o w)
 
--- The blocks of an elaborated table are those written, with their templates.
-pub elaborated-blocks : {table : Written} {made : Table} → Elaborates table made → made .blocks ≡ templated (table .blocks)
-elaborated-blocks e = e .same-blocks ∙ blocks-made (e .sequence)
+-- The blocks of an elaborated table within the layout are those written, with their templates.
+pub elaborated-blocks : {table : Written} {made : Table} → Within table → Elaborates table made → made .blocks ≡ templated (table .blocks)
+elaborated-blocks w e = e .same-blocks ∙ blocks-made (e .sequence) (w .blocks)
 
 -- ------------------------------------------------------------------ what stands before
 

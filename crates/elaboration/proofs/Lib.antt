@@ -1,6 +1,9 @@
+pub mod Ranges
+pub mod Elaborated
+pub mod Normalizing
+pub mod Rightness
 pub mod ResultSorts
 pub mod SequenceSorts
 pub mod BlocksBefore
 pub mod RefusalNumbers
-pub mod Elaborated
 pub mod SortTheorems

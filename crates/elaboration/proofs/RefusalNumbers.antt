@@ -1,4 +1,4 @@
--- Every refusal of the sort check is 7, 8, 9 or 11 at a place, with no further values.
+-- Every refusal of the sort check of a table within the layout, which has no texts, is 7, 8, 9 or 11 at a place, with no further values.
 use Prim.Native.Nat.{ℕ, _+_}
 use mathlib.Core.Path.{_≡_, refl, subst}
 use mathlib.Core.Bool.{Bool, true, false, _&&_}
@@ -12,6 +12,7 @@ use Rattle.grammar.specs.SortTests.{fits}
 use Rattle.grammar.specs.Table.{keyword, ide, number, place, Item, terminal, local, call, Alternative, Mode, add, extend, update, Definition}
 use Rattle.grammar.specs.Written.{WrittenResult, template, WrittenAlternative, WrittenDefinition, Written}
 use Rattle.grammar.specs.Values.{itemValue}
+use Rattle.decoding.specs.Within.{Each, each-none, each-more, ResultWithin, AlternativeWithin, DefinitionWithin, Within}
 use Rattle.judgements.specs.Sizes.{fieldSize, alternativeSize, definitionSize, definitionsSize}
 use Rattle.judgements.specs.CheckSorts.{isDefined, signatureOf, isUnused, isAsBefore, isClosed, areClosed, isSorted, sortOf, fill, consistent, collect}
 use Rattle.judgements.specs.CheckSorts.{checkItem, checkItems}
@@ -91,31 +92,33 @@ module _ (scope : Scope) where
   items-sort L at (i ∷ is) = bind _ _ (item-sort L at i) (λ s. items-sort (L ++ (s ∷ [])) (at + fieldSize (itemValue i)) is)
 
   module _ (before : Before) where
-    result-sort : (L : List ℕ) (B used at : ℕ) (result : WrittenResult) → Sort (checkResult scope before L B used at result)
-    result-sort L B used at (template t) = after _ (ok _) (needs-sort (isClosed t scope (length L)) (isSorted t L && fits (sortOf t L) B) at) none
+    result-sort : (L : List ℕ) (B used at : ℕ) (result : WrittenResult) → ResultWithin result → Sort (checkResult scope before L B used at result)
+    result-sort L B used at (template t) w = after _ (ok _) (needs-sort (isClosed t scope (length L)) (isSorted t L && fits (sortOf t L) B) at) none
 
     alternatives-sort : (S : Signature) (done : Elaborated (List Alternative)) (at : ℕ) (choices : List WrittenAlternative)
-        → Sort (checkAlternatives scope before S done at choices)
+        → Each AlternativeWithin choices → Sort (checkAlternatives scope before S done at choices)
     unfolding checkAlternatives checkAlternative
-    alternatives-sort S done at [] = none
-    alternatives-sort S done at (a ∷ rest) =
+    alternatives-sort S done at [] each-none = none
+    alternatives-sort S done at (a ∷ rest) (each-more w ws) =
         bind _ _
-        (bind _ _ (items-sort (S .params) _ (a .items)) (λ L. bind _ _ (result-sort L (S .result) (done .used) _ (a .result)) (λ t. none)))
-        (λ b. alternatives-sort S (andThen done (b .value) (b .used)) (at + alternativeSize a) rest)
+        (bind _ _ (items-sort (S .params) _ (a .items)) (λ L. bind _ _ (result-sort L (S .result) (done .used) _ (a .result) (w .result)) (λ t. none)))
+        (λ b. alternatives-sort S (andThen done (b .value) (b .used)) (at + alternativeSize a) rest ws)
 
-    bodies-sort : (done : Elaborated (List Definition)) (at : ℕ) (ds : List WrittenDefinition) → Sort (checkBodies scope before done at ds)
+    bodies-sort : (done : Elaborated (List Definition)) (at : ℕ) (ds : List WrittenDefinition) → Each DefinitionWithin ds
+        → Sort (checkBodies scope before done at ds)
     unfolding checkBodies
-    bodies-sort done at [] = none
-    bodies-sort done at (d ∷ ds) =
-        bind _ _ (alternatives-sort (d .signature) (noneYet (done .used)) _ (d .alternatives)) (λ e. bodies-sort _ (at + definitionSize d) ds)
+    bodies-sort done at [] each-none = none
+    bodies-sort done at (d ∷ ds) (each-more w ws) =
+        bind _ _ (alternatives-sort (d .signature) (noneYet (done .used)) _ (d .alternatives) (w .alternatives))
+        (λ e. bodies-sort _ (at + definitionSize d) ds ws)
 
-blocks-sort : (before : Before) (at : ℕ) (gs : List (List WrittenDefinition)) → Sort (checkBlocks before at gs)
+blocks-sort : (before : Before) (at : ℕ) (gs : List (List WrittenDefinition)) → Each (Each DefinitionWithin) gs → Sort (checkBlocks before at gs)
 unfolding checkBlocks
-blocks-sort before at [] = none
-blocks-sort before at (g ∷ gs) =
+blocks-sort before at [] each-none = none
+blocks-sort before at (g ∷ gs) (each-more w ws) =
     bind _ _ (collect-sort (before .env) [] _ g)
-    (λ own. bind _ _ (bodies-sort (scopeAfter before own) before (noneYet (before .used)) _ g)
-    (λ e. blocks-sort (behindBlock before own (e .value) (e .used)) (at + 3 + definitionsSize g) gs))
+    (λ own. bind _ _ (bodies-sort (scopeAfter before own) before (noneYet (before .used)) _ g w)
+    (λ e. blocks-sort (behindBlock before own (e .value) (e .used)) (at + 3 + definitionsSize g) gs ws))
 
 root-sort : (E : Env) (at root : ℕ) → Sort (checkRoot E at root)
 unfolding checkRoot
@@ -123,7 +126,9 @@ root-sort E at root =
     needs-sort (isDefined E root) (eqb (length (signatureOf E root .params)) 0 && eqb (signatureOf E root .result) term) at
 
 -- the check of sorts refuses with 7, 8, 9 or 11 only
-pub table-sort : (table : Written) (refusal : Refusal) → checkSorts table ≡ bad refusal → IsSortRefusal refusal
+pub table-sort : (table : Written) (refusal : Refusal) → Within table → checkSorts table ≡ bad refusal → IsSortRefusal refusal
 unfolding checkSorts
-table-sort table refusal e =
-    refused (subst Sort e (bind _ _ (blocks-sort (atFirst table) _ (table .blocks)) (λ before. after _ _ (root-sort (before .env) _ (table .root)) none)))
+table-sort table refusal w e =
+    refused
+    (subst Sort e
+    (bind _ _ (blocks-sort (atFirst table) _ (table .blocks) (w .blocks)) (λ before. after _ _ (root-sort (before .env) _ (table .root)) none)))

@@ -1,56 +1,61 @@
 -- Checking the blocks and the root is the judgement ⊢ gseq ⇒ E.
 use Prim.Native.Nat.{ℕ, _+_}
-use mathlib.Core.Path.{_≡_, refl, subst, subst⁻¹}
+use mathlib.Core.Path.{_≡_, refl, subst}
 use mathlib.Core.Bool.{_&&_}
-use mathlib.Core.List.{List, [], _∷_, _++_, append-nil, append-assoc}
+use mathlib.Core.List.{List, [], _∷_}
 use native.Mathlib.Omega.{arith}
 use lib.Dec.{eqb}
 use lib.ListN.{length}
 use borrow.Author.Tests.{eqb-true, eq-eqb}
 use Rattle.grammar.specs.Sorts.{Signature, term}
-use Rattle.grammar.specs.Table.{Definition, Table}
+use Rattle.grammar.specs.Table.{Table}
 use Rattle.grammar.specs.Written.{WrittenDefinition, Written}
-use Rattle.decoding.specs.Within.{Each, each-none, each-more, DefinitionWithin, Within}
+use Rattle.decoding.specs.Within.{Each, each-none, each-more}
 use Rattle.judgements.specs.Sizes.{spellingsSize, definitionsSize, blocksSize}
 use Rattle.judgements.specs.CheckSorts.{isDefined, signatureOf, collect}
 use Rattle.judgements.specs.Scopes.{Env, Scope}
-use Rattle.judgements.specs.Judgements.{Newest, scope}
+use Rattle.judgements.specs.Judgements.{Newest}
 use Rattle.judgements.proofs.Accepting.{Accepts, needs-passed, needs-passes, bind-passed, bind-passes, then-passed, then-passes}
 use Rattle.judgements.proofs.Environments.{defined-newest, newest-defined, newest-signature}
 use Rattle.judgements.proofs.TemplateSorts.{both, pair}
 use Rattle.judgements.proofs.HeadSorts.{collect-rule, rule-collect}
-use Rattle.elaboration.specs.Contexts.{Before, atFirst, behindBlock, scopeAfter}
+use Rattle.elaboration.specs.Contexts.{Before, atFirst, scopeAfter}
 use Rattle.elaboration.specs.CheckSequence.{noneYet, checkBodies, checkBlocks, checkRoot, checkSorts}
 use Rattle.elaboration.specs.Elaboration.{Sequence, no-grammar, by-grammar, Elaborates}
+use Rattle.elaboration.proofs.Ranges.{DefinitionFine, TableFine}
+use Rattle.elaboration.proofs.Normalizing.{declared-behind}
+use Rattle.elaboration.proofs.Rightness.{Right, right-first, right-behind}
 use Rattle.elaboration.proofs.ResultSorts.{ok-rule, rule-ok}
 
 -- ------------------------------------------------------------------ ⊢ gseq ⇒ E
 
 module _ (P : Before → Type 0) where
   sequence-rule :
-      (before : Before) (at : ℕ) (gs : List (List WrittenDefinition)) → Each (Each DefinitionWithin) gs
+      {before : Before} → Right before → (at : ℕ) (gs : List (List WrittenDefinition)) → Each (Each DefinitionFine) gs
       → Accepts (checkBlocks before at gs) P → (last : Before) × Sequence before gs last × P last
   unfolding checkBlocks
-  sequence-rule before at [] each-none h = (before, no-grammar, h)
-  sequence-rule before at (g ∷ gs) (each-more w ws) h =
+  sequence-rule {before} right at [] each-none h = (before, no-grammar, h)
+  sequence-rule {before} right at (g ∷ gs) (each-more w ws) h =
       let (own, d, p) = collect-rule (before .env) _ [] (at + 3) g (bind-passed P (collect (before .env) [] (at + 3) g) _ h) in
       let G : Scope = scopeAfter before own in
-      let (block, used, o, q) = ok-rule G before _ (noneYet (before .used)) (at + 3) g w
+      let (block, used, o, q) = ok-rule before right own (declared-behind d w (right .declared)) _ (noneYet (before .used)) (at + 3) g w
       (bind-passed P (checkBodies G before (noneYet (before .used)) (at + 3) g) _ p) in
-      let (last, s, r) = sequence-rule (behindBlock before own block used) (at + 3 + definitionsSize g) gs ws q in
+      let (last, s, r) = sequence-rule (right-behind right d o w) (at + 3 + definitionsSize g) gs ws q in
       (last, by-grammar d o s, r)
 
   rule-sequence :
-      (before : Before) (at : ℕ) {last : Before} {gs : List (List WrittenDefinition)} → Sequence before gs last → P last
+      {before : Before} → Right before → (at : ℕ) {last : Before} {gs : List (List WrittenDefinition)} → Each (Each DefinitionFine) gs
+      → Sequence before gs last → P last
       → Accepts (checkBlocks before at gs) P
   unfolding checkBlocks
-  rule-sequence before at no-grammar p = p
-  rule-sequence before at (by-grammar {own = own} {g = g} {h = block} {used = used} d o s) p =
+  rule-sequence right at each-none no-grammar p = p
+  rule-sequence {before} right at (each-more w ws) (by-grammar {own = own} {g = g} {h = block} {used = used} d o s) p =
       let G : Scope = scopeAfter before own in
       bind-passes P (collect (before .env) [] (at + 3) g) _
       (rule-collect (before .env) _ (at + 3) d
       (bind-passes P (checkBodies G before (noneYet (before .used)) (at + 3) g) _
-      (rule-ok G before _ (noneYet (before .used)) (at + 3) o (rule-sequence (behindBlock before own block used) (at + 3 + definitionsSize g) s p))))
+      (rule-ok before right own (declared-behind d w (right .declared)) _ (noneYet (before .used)) (at + 3) w o
+      (rule-sequence (right-behind right d o w) (at + 3 + definitionsSize g) ws s p))))
 
 -- ------------------------------------------------------------------ the root
 
@@ -103,10 +108,10 @@ module _ (P : Table → Type 0) (table : Written) where
   root-place = spellingsSize (table .keywords) + spellingsSize (table .outsides) + blocksSize (table .blocks)
 
   -- a table that the check accepts is elaborated, to the check's value
-  pub table-rule : Within table → Accepts (checkSorts table) P → (made : Table) × Elaborates table made × P made
+  pub table-rule : TableFine table → Accepts (checkSorts table) P → (made : Table) × Elaborates table made × P made
   unfolding checkSorts
   table-rule w h =
-      let (last, s, q) = sequence-rule _ (atFirst table) _ (table .blocks) (w .blocks) (bind-passed P (checkBlocks (atFirst table) _ (table .blocks)) _ h) in
+      let (last, s, q) = sequence-rule _ (right-first w) _ (table .blocks) (w .blocks) (bind-passed P (checkBlocks (atFirst table) _ (table .blocks)) _ h) in
       let (r, p) = root-rule _ (last .env) root-place (table .root) (then-passed P (checkRoot (last .env) root-place (table .root)) _ q) in (
         record { keywords = table .keywords; outsides = table .outsides; blocks = last .blocks; root = table .root },
         record {
@@ -125,13 +130,13 @@ module _ (P : Table → Type 0) (table : Written) where
       )
 
   -- a table that is elaborated is accepted
-  pub rule-table : {made : Table} → Elaborates table made → P made → Accepts (checkSorts table) P
+  pub rule-table : {made : Table} → TableFine table → Elaborates table made → P made → Accepts (checkSorts table) P
   unfolding checkSorts
-  rule-table {made} e p =
+  rule-table {made} w e p =
       let whole : made ≡ record { keywords = table .keywords; outsides = table .outsides; blocks = e .last .blocks; root = table .root }
       = rw (← (e .same-keywords), ← (e .same-outsides), ← (e .same-blocks), ← (e .same-root)) refl in
       bind-passes P (checkBlocks (atFirst table) _ (table .blocks)) _
-      (rule-sequence _ (atFirst table) _ (e .sequence)
+      (rule-sequence _ (right-first w) _ (w .blocks) (e .sequence)
       (then-passes P (checkRoot (e .last .env) root-place (table .root)) _
       (rule-root _ (e .last .env) root-place (table .root)
       (record { signature = e .signature; defined = rw (e .same-root) at (e .defined); without = e .without; of-term = e .of-term })

@@ -1,5 +1,6 @@
--- The static check of a grammar sequence: its results, its alternatives and its blocks, with the order and places of refusals 7, 8, 9 and 11. A check answers what
--- it checked with a template for each result. 001, section 4.1: E ⊢ g ok, and ⊢ gseq ⇒ E. `at` is always the place of the part's first field.
+-- The static check of a grammar sequence: its results, its alternatives and its blocks, with the order and places of refusals 7, 8, 9 and 11, and for texts of
+-- 12, 13 and 26 to 28 (document 02, C-14). A check answers what it checked with a template for each result. 001, section 4.1: E ⊢ g ok, and ⊢ gseq ⇒ E. `at` is
+-- always the place of the part's first field.
 use Prim.Native.Nat.{ℕ, _+_}
 use mathlib.Core.Bool.{_&&_}
 use mathlib.Core.List.{List, [], _∷_, _++_}
@@ -8,13 +9,17 @@ use Rattle.answers.specs.Checked.{Checked, ok, _>>=_, _>>_, need}
 use Rattle.grammar.specs.Sorts.{Signature, term}
 use Rattle.grammar.specs.SortTests.{fits}
 use Rattle.grammar.specs.Table.{Alternative, Definition, Table}
-use Rattle.grammar.specs.Written.{WrittenResult, template, WrittenAlternative, WrittenDefinition, Written, withAlternatives}
+use Rattle.grammar.specs.Written.{WrittenResult, template, text, WrittenAlternative, WrittenDefinition, Written, withAlternatives}
 use Rattle.grammar.specs.Values.{headValue}
+use Rattle.tokens.specs.Variables.{dollarsBelow}
+use Rattle.tokens.specs.Scan.{scan}
+use Rattle.productions.specs.Normal.{normalized}
+use Rattle.clashes.specs.CheckFirsts.{checkFirsts}
 use Rattle.judgements.specs.Sizes.{fieldSize, spellingsSize, itemsSize, alternativeSize, definitionSize, definitionsSize, blocksSize}
 use Rattle.judgements.specs.Scopes.{Env, Scope}
 use Rattle.judgements.specs.CheckSorts.{isDefined, signatureOf, collect, isClosed, sortOf, isSorted, checkItems}
-use Rattle.texts.specs.Reading.{TextRead}
-use Rattle.elaboration.specs.Contexts.{Before, atFirst, behindBlock, scopeAfter}
+use Rattle.texts.specs.Reading.{lexiconFor, TextRead, checkReading}
+use Rattle.elaboration.specs.Contexts.{Before, atFirst, behindBlock, scopeAfter, contextOf}
 
 -- ------------------------------------------------------------------ E; L ⊢ r : B ⇝ t, refusals 9 and 11
 
@@ -30,10 +35,20 @@ noneYet used = record { value = []; used = used }
 abbrev pub andThen : {A : Type 0} → Elaborated (List A) → A → ℕ → Elaborated (List A)
 andThen done x used = record { value = done .value ++ (x ∷ []); used = used }
 
+-- a text read from n where the sort B is asked, in an alternative whose variables have the sorts L: 9 for the nonterminal and each `$`, 11 if it has
+-- parameters, 12 and 13 of the blocks before, then the reading
+unfoldable pub checkText : Before → List ℕ → ℕ → ℕ → ℕ → ℕ → List ℕ → Checked TextRead
+checkText P L B used at n bs =
+    need (isDefined (P .env) n && dollarsBelow (length L) bs) 9 at
+    >> need (eqb (length (signatureOf (P .env) n .params)) 0) 11 at
+    >> checkFirsts (normalized (P .blocks))
+    >> checkReading (contextOf P used) n (signatureOf (P .env) n .result) B at (scan (lexiconFor (contextOf P used) L n) bs)
+
 -- a result where the sort B is asked
 abbrev pub checkResult : Scope → Before → List ℕ → ℕ → ℕ → ℕ → WrittenResult → Checked TextRead
 checkResult G P L B used at (template t) =
     need (isClosed t G (length L)) 9 at >> need (isSorted t L && fits (sortOf t L) B) 11 at >> ok (record { template = t; used = used })
+checkResult G P L B used at (text n bs) = checkText P L B used at n bs
 
 unfoldable pub checkAlternative : Scope → Before → Signature → ℕ → ℕ → WrittenAlternative → Checked (Elaborated Alternative)
 checkAlternative G P S used at a =

@@ -1,23 +1,38 @@
 -- The judgements of 001, section 4.1, over grammars as written, each with what it is elaborated to (⇝): the same with a template for each result.
 -- Document 02, C-14. What has no result is in Judgements. `used` counts the rows that the texts before made; behind a part stands the count with its own.
-use Prim.Native.Nat.{ℕ}
+use Prim.Native.Nat.{ℕ, _+_}
 use mathlib.Core.Path.{_≡_}
+use mathlib.Core.Bool.{true}
 use mathlib.Core.List.{List, [], _∷_}
 use lib.ListN.{length}
 use Rattle.grammar.specs.Sorts.{Signature, term}
 use Rattle.grammar.specs.Table.{Template, Alternative, Definition, Table}
-use Rattle.grammar.specs.Written.{WrittenResult, template, WrittenAlternative, WrittenDefinition, Written, withAlternatives}
+use Rattle.grammar.specs.Written.{WrittenResult, template, text, WrittenAlternative, WrittenDefinition, Written, withAlternatives}
+use Rattle.tokens.specs.Variables.{dollarsBelow}
+use Rattle.productions.specs.Normal.{normalized}
+use Rattle.clashes.specs.Clashes.{Never, LeftRecursive, Clashes}
 use Rattle.judgements.specs.Scopes.{Env, Scope}
 use Rattle.judgements.specs.Judgements.{Newest, Fits, Sorted, Numbered, Defines, scope}
 use Rattle.texts.specs.Reading.{TextRead}
-use Rattle.elaboration.specs.Contexts.{Before, atFirst, behindBlock, scopeAfter}
+use Rattle.texts.specs.ReadingRules.{ReadText, rowsRead}
+use Rattle.elaboration.specs.Contexts.{Before, atFirst, behindBlock, scopeAfter, contextOf}
 
--- E; L ⊢ r : B ⇝ t: a result, where the sort B is asked; P has what stands before its block
+-- E; L ⊢ r : B ⇝ t: a result, where the sort B is asked; P has what stands before its block. A text is read from a nonterminal that the blocks before declare
+-- without parameters, and these blocks can be read by their next token.
 pub data ResultSorted (G : Scope) (P : Before) (L : List ℕ) (B used : ℕ) : WrittenResult → TextRead → Type 0 where
   by-template : {t : Template} {A : ℕ}
       → Sorted (G .outsides) L t A
       → Fits A B
       → ResultSorted G P L B used (template t) (record { template = t; used = used })
+  by-text : {n : ℕ} {bs : List ℕ} {S : Signature} {t : Template}
+      → Newest (P .env) n S
+      → S .params ≡ []
+      → dollarsBelow (length L) bs ≡ true
+      → Never (LeftRecursive (normalized (P .blocks)))
+      → Never (Clashes (normalized (P .blocks)))
+      → (r : ReadText (contextOf P used) L n bs t)
+      → Fits (S .result) B
+      → ResultSorted G P L B used (text n bs) (record { template = t; used = used + rowsRead r })
 
 -- p1 | p2 ⇝ q1 | q2: under the parameters each alternative numbers its variables, and its result has the sort
 pub data Bodies (G : Scope) (P : Before) (S : Signature) : ℕ → List WrittenAlternative → List Alternative → ℕ → Type 0 where

@@ -18,6 +18,8 @@ use Rattle.judgements.proofs.SizeLaws.{no-bytes, front-size}
 use Rattle.elaboration.specs.Contexts.{Before, atFirst}
 use Rattle.elaboration.specs.CheckSequence.{checkBlocks}
 use Rattle.elaboration.specs.Elaboration.{Sequence}
+use Rattle.elaboration.proofs.Ranges.{table-fine, blocks-fine}
+use Rattle.elaboration.proofs.Rightness.{right-first}
 use Rattle.elaboration.proofs.BlocksBefore.{carried}
 use Rattle.elaboration.proofs.Elaborated.{blocks-made}
 
@@ -39,6 +41,6 @@ carried-before table w before behind whole s =
     = omega (arith, front-size (table .keywords) (table .outsides) before [], no-bytes) in
     let fine = each-split before (subst (Each (Each DefinitionWithin)) whole (w .blocks)) .0 in
     record {
-      goes-on = ap (checkBlocks (atFirst table) first) whole ∙ carried behind (atFirst table) first s;
-      productions = rw (← place) (normalized-before table before behind whole fine ∙ ap normalized (sym (blocks-made s)));
+      goes-on = ap (checkBlocks (atFirst table) first) whole ∙ carried behind (right-first (table-fine w)) first (blocks-fine fine) s;
+      productions = rw (← place) (normalized-before table before behind whole fine ∙ ap normalized (sym (blocks-made s fine)));
     }

@@ -22,7 +22,7 @@ use Rattle.judgements.specs.Sizes.{fieldSize, definitionSize, definitionsSize}
 use Rattle.bodies.specs.declared.Tested.{Tested}
 use Rattle.bodies.specs.declared.Tested.the-variants.{Sound, Faulty}
 use Rattle.bodies.specs.HeadBytes.{faultOf, withHead, Collected, collected, collectAfter, collectFrom}
-use Rattle.sorts.proofs.PlacedFields.{Placed, Part, part-begin, part-item, part-result, over-alternatives}
+use Rattle.sorts.proofs.PlacedFields.{Placed, Part, part-begin, part-item, part-result, part-text, over-alternatives}
 use Rattle.sorts.proofs.HeadsByBytes.{checkOf, Collects, head-same, head-more}
 
 -- every head lies at an offset or before it
@@ -54,6 +54,7 @@ unfolding collectFrom
 collect-part bs block heads all tag part-begin at v fs e = e
 collect-part bs block heads all tag part-item at v fs e = e
 collect-part bs block heads all tag part-result at v fs e = e
+collect-part bs block heads all tag part-text at v fs e = e
 
 module _ (bs : List ℕ) (E : Env) (block : ℕ) (follow : List Field)
     (ends : (at : ℕ) (heads : List ℕ) → collectFrom (spread at follow) bs block heads ≡ collected Passed heads) where

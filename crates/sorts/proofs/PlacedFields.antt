@@ -10,7 +10,7 @@ use lib.ListN.{length, getD, take, drop}
 use lib.Seq.{getD-drop, drop-drop}
 use Rattle.spellings.proofs.BytesLaws.{by-test}
 use Rattle.grammar.specs.Table.{Item}
-use Rattle.grammar.specs.Written.{WrittenResult, template, resultField, WrittenAlternative}
+use Rattle.grammar.specs.Written.{WrittenResult, template, text, resultField, WrittenAlternative}
 use Rattle.grammar.specs.Values.{Field, field, itemValue}
 use Rattle.grammar.specs.Fields.{RawFields, end, cut, next, sizeOf, fieldsFrom, fieldsOf}
 use Rattle.grammar.specs.Encode.{itemsThen, alternativesThen}
@@ -70,6 +70,7 @@ pub data Part : ℕ → Type 0 where
   part-begin : Part 5
   part-item : Part 6
   part-result : Part 7
+  part-text : Part 9
 
 -- each of these fields hands on what holds
 abbrev pub HandsOn : (RawFields → Type 0) → Type 0
@@ -85,6 +86,7 @@ module _ (Q : RawFields → Type 0) (over : HandsOn Q) where
       → Q (spread (at + fieldSize (resultField result .value)) follow)
   unfolding spread
   over-result (template t) follow at q = over 7 part-result at _ _ q
+  over-result (text n bs) follow at q = over 9 part-text at _ _ q
 
   -- what holds of the fields from alternatives on holds of those behind
   pub over-alternatives : (rest : List WrittenAlternative) (follow : List Field) (at to : ℕ) → at + alternativesSize rest ≡ to

@@ -72,7 +72,8 @@ definition-produced definition some low h n S (newest-later k w) =
 
 -- one that is elaborated has an alternative if the one written has
 elaborated-produced : {G : Scope} {P : Before} {E : Env} {g : List Production} (d : WrittenDefinition) {choices : List Alternative} {used used′ : ℕ}
-    → Bodies G P (d .signature) used (d .alternatives) choices used′ → DefinitionWithin d → Produced E g → Produced (entryOf d ∷ E) (defined g (withAlternatives d choices))
+    → Bodies G P (d .signature) used (d .alternatives) choices used′ → DefinitionWithin d → Produced E g
+    → Produced (entryOf d ∷ E) (defined g (withAlternatives d choices))
 elaborated-produced d {choices} b z h =
     definition-produced (withAlternatives d choices) (omega (arith, as-many b, z .alternativeCount)) (omega (arith, z .nonterminal)) h
 

@@ -26,7 +26,7 @@ use Rattle.soundness.specs.Places.{VarPlace, var-var, var-binder, var-lo
 use Rattle.soundness.specs.Places.{binder-local, LabelPlace, label-label, label-outside, NumPlace, num-number, Placed, placed-variable, placed-function}
 use Rattle.soundness.specs.Places.{placed-apply, placed-rcd, placed-dot, placed-number, PlacedFields, placed-nil, placed-cons}
 use Rattle.soundness.proofs.Typing.{FitAll, taken-of, result-sorted}
-use Rattle.soundness.proofs.Normalizing.{each-append, each-at}
+use Rattle.elaboration.proofs.Normalizing.{each-append, each-at}
 use Rattle.soundness.proofs.Setting.{Setting, root-body}
 
 each-and : {A : Type 0} {P : A → Type 0} {xs : List A} {item : A} → Each P xs → P item → Each P (xs ++ (item ∷ []))

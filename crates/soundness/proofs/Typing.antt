@@ -3,17 +3,17 @@ use Prim.Native.Nat.{ℕ, zero, suc, _+_, _-_, _≤_, _<_}
 use mathlib.Core.Path.{_≡_, refl, sym, ap, subst, _∙_}
 use mathlib.Core.List.{List, [], _∷_, _++_}
 use native.Mathlib.Omega.{arith}
-use lib.ListN.{length}
 use Rattle.grammar.specs.Sorts.{Signature, constructorSignatures, constructor}
 use Rattle.grammar.specs.Table.{Template, Templates, none, more, kindOf, Item, terminal}
 use Rattle.grammar.specs.Table as Table
-use Rattle.decoding.specs.Within.{Each, ItemWithin, Among}
+use Rattle.decoding.specs.Within.{Among}
 use Rattle.judgements.specs.CheckSorts.{signatureOf}
 use Rattle.judgements.specs.Scopes.{Scope}
 use Rattle.judgements.specs.Judgements.{Has, has-first, has-later, Newest, Fits, fits-equal, fits-binder, Sorted, Fill, fill-none, fill-more, ItemSorted, Body}
 use Rattle.judgements.specs.Judgements.{by-result, by-binding}
 use Rattle.judgements.specs.Judgements as Judgements
 use Rattle.judgements.proofs.Environments.{newest-signature}
+use Rattle.elaboration.proofs.Normalizing.{Fit}
 use Rattle.tokens.specs.declared.Token.{Token}
 use Rattle.productions.specs.Normal.{Production}
 use Rattle.firsts.specs.Rules.{Of}
@@ -120,20 +120,7 @@ module _ (spell : ℕ → List ℕ) {outsides : ℕ} {M : List Value} {L : List 
 
 -- ------------------------------------------------------------------ productions
 
--- a production as the sort judgements and the ranges and counts of a table allow
-pub record Fit (scope : Scope) (p : Production) : Type 0 where
-  -- the signature of its nonterminal
-  pub signature : Signature
-  -- it is the newest one
-  pub newest : Newest (scope .env) (p .nonterminal) signature
-  -- the body is sorted by it
-  pub body : Body scope (signature .params) (p .items) (p .result) (signature .result)
-  -- the items are within the ranges
-  pub items : Each ItemWithin (p .items)
-  -- twelve at most
-  pub itemCount : length (p .items) ≤ 12
-
--- a grammar all of whose productions are
+-- a grammar all of whose productions fit one scope
 pub record FitAll (g : List Production) : Type 0 where
   -- one scope for all
   pub scope : Scope

@@ -33,7 +33,7 @@ use Rattle.expansion.specs.Costs.{rowsOf, rowsIn}
 use Rattle.copying.specs.RowTemplates.{textTemplate}
 use Rattle.texts.specs.Reading.{TextContext, lexiconFor, rowsLeft, asOutside, hasNumber, isScanned, otherWords, runText, reading, readingOf, checkReading}
 use Rattle.texts.specs.ReadingRules.{TextReads, by-keyword, by-variable, by-place, by-global, by-label, TextDerives, ReadText, rowsRead}
-use Rattle.texts.proofs.TextSorts.{AllNamed, text-sorted}
+use Rattle.texts.proofs.TextSorts.{AllNamed, SortedAt, text-sorted}
 use Rattle.texts.proofs.TextSetting.{TextSetting}
 use Rattle.texts.proofs.TextReading.{read-sorted}
 use Rattle.texts.proofs.TextRun.{text-run}
@@ -111,6 +111,17 @@ tiled-none (past-separator l e d) k = tiled-none d k
 tiled-none (past-token l s d) (all-more h hs) = tiled-none d hs ∙ stands-none s h
 
 -- ------------------------------------------------------------------ the whole text
+
+-- The template of a text that the rules read has the declared sort of its nonterminal.
+pub template-sorted : {G : Scope} {P : TextContext} {L : List ℕ} {n : ℕ} {S : Signature} (place : TextPlace G P L n S) (bs : List ℕ) {t : Template}
+    → ReadText P L n bs t → SortedAt (G .outsides) L t (S .result)
+template-sorted {G} {P} {L} {n} place bs read =
+    let few : length (lexiconFor P L n .keywords) ≤ most .keywords =
+    omega (arith, kept-many (kindsReached (P .productions) n) 0 (P .keywords), place .few-spellings) in
+    let none-other : length (read .words) ≡ 0 = tiled-none (read .tiled) (front-all (items-front (read .derived)) all-none) in
+    let names : AllNamed (G .outsides) L (read .tokens) =
+    subst (λ N. AllNamed N L (read .tokens)) (sym (place .outsides-are)) (tiled-named (lexiconFor P L n) few (place .sorts) (read .tiled) none-other) in
+    text-sorted (place .all) L (place .newest) (place .without) names (read .derived)
 
 module _ {G : Scope} {P : TextContext} {L : List ℕ} {n : ℕ} {S : Signature} (place : TextPlace G P L n S) (passed : checkFirsts (P .productions) ≡ ok tt)
     (one-place : OnePlace (P .productions)) (bs : List ℕ) (short : length bs ≤ longestFormula) where
