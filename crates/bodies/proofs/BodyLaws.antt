@@ -185,14 +185,14 @@ module _ (bs : List ℕ) (known : Known) (heads L : List ℕ) (count : ℕ) (arg
 -- ------------------------------------------------------------------ items
 
 module _ (bs : List ℕ) (known : Known) (heads L value : List ℕ) {kind operand : ℕ} (equal : kind ≡ getD value 0 0) (agrees : operand ≡ getD value 1 0) where
-  itemTests : ℕ → Bool → Bool → Bool → Bool → ItemSort
-  itemTests o keyword ide local call =
+  itemTests : ℕ → Bool → Bool → Bool → Bool → Bool → ItemSort
+  itemTests o keyword ide local call place =
       choose (choose (As unit) (Unsorted Undefined) (ltb o (known .keywords)))
-      (choose (As o) (choose (As binder) (choose (callAt bs known heads L o (drop 2 value)) (As num) call) local) ide)
+      (choose (As o) (choose (As binder) (choose (callAt bs known heads L o (drop 2 value)) (choose (As o) (As num) place) call) local) ide)
       keyword
 
   itemBy : ℕ → ℕ → ItemSort
-  itemBy k o = itemTests o (eqb k 0) (eqb k 1) (eqb k 3) (eqb k 4)
+  itemBy k o = itemTests o (eqb k 0) (eqb k 1) (eqb k 3) (eqb k 4) (eqb k 5)
 
   item-is : {code : ℕ} → kind ≡ code → itemBy code operand ≡ itemAt bs known heads L value
   unfolding itemAt itemBy itemTests
@@ -227,11 +227,17 @@ module _ (bs : List ℕ) (known : Known) (heads L value : List ℕ) {kind operan
   item-call g a =
       ap (callAt bs known heads L operand) (a ∙ take-all (length value) (drop 2 value) (omega (arith, length-drop 2 value))) ∙ item-is g
 
-  -- no kind that is tested
-  pub item-other : (((Unit {0} × (kind ≡ 0 → ⊥)) × (kind ≡ 1 → ⊥)) × (kind ≡ 3 → ⊥)) × (kind ≡ 4 → ⊥) → As 6 ≡ itemAt bs known heads L value
+  -- a pattern place of a sort
+  pub item-place : kind ≡ 5 → As operand ≡ itemAt bs known heads L value
   unfolding itemBy itemTests
-  item-other ((((u, a), b), c), d) =
-      cc (ne-eqb kind 0 a, ne-eqb kind 1 b, ne-eqb kind 3 c, ne-eqb kind 4 d, item-is refl)
+  item-place g = item-is g
+
+  -- no kind that is tested
+  pub item-other : ((((Unit {0} × (kind ≡ 0 → ⊥)) × (kind ≡ 1 → ⊥)) × (kind ≡ 3 → ⊥)) × (kind ≡ 4 → ⊥)) × (kind ≡ 5 → ⊥) → As 6
+      ≡ itemAt bs known heads L value
+  unfolding itemBy itemTests
+  item-other (((((u, a), b), c), d), e) =
+      cc (ne-eqb kind 0 a, ne-eqb kind 1 b, ne-eqb kind 3 c, ne-eqb kind 4 d, ne-eqb kind 5 e, item-is refl)
 
 -- ------------------------------------------------------------------ results
 

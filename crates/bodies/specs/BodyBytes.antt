@@ -45,7 +45,11 @@ itemAt bs k H L v =
             | false ↦
                 elim (eqb (getD v 0 0) 3) [
                   | true ↦ As binder
-                  | false ↦ elim (eqb (getD v 0 0) 4) [ true ↦ callAt bs k H L (getD v 1 0) (drop 2 v) | false ↦ As num ]
+                  | false ↦
+                      elim (eqb (getD v 0 0) 4) [
+                        | true ↦ callAt bs k H L (getD v 1 0) (drop 2 v)
+                        | false ↦ elim (eqb (getD v 0 0) 5) [ true ↦ As (getD v 1 0) | false ↦ As num ]
+                      ]
                 ]
           ]
     ]

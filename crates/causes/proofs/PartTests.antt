@@ -15,14 +15,16 @@ use Rattle.spellings.proofs.BytesLaws.{by-test}
 use Rattle.grammar.specs.Sorts.{Signature, gives, unit, term}
 use Rattle.grammar.specs.SortTests.{fits}
 use Rattle.grammar.specs.Table.{Template, Templates, variable, outsideVar, outsideLabel, make, none, more, keyword, ide, number, Item, terminal}
+use Rattle.grammar.specs.Table as Table
 use Rattle.grammar.specs.Table.{local, call}
 use Rattle.grammar.specs.Table.{Mode, add, extend, update}
 use Rattle.grammar.specs.Written.{WrittenResult, template, WrittenDefinition}
-use Rattle.decoding.specs.Within.{TemplatesWithin, ide-within, ItemWithin, terminal-within, call-within, ResultWithin, template-within}
+use Rattle.decoding.specs.Within.{TemplatesWithin, keyword-within, ide-within, number-within, ItemWithin, terminal-within, local-within, call-within}
+use Rattle.decoding.specs.Within.{ResultWithin, template-within}
 use Rattle.judgements.specs.Scopes.{Env, Scope}
 use Rattle.judgements.specs.CheckSorts.{isDefined, signatureOf, sameSignature, isAsBefore, isUnused, consistent, isClosed, areClosed, sortOf, isSorted, fill}
 use Rattle.judgements.specs.CheckSorts.{checkItem, checkResult, checkRoot}
-use Rattle.judgements.specs.Judgements.{Newest, Undeclared, Fits, Sorted, Fill, ItemSorted, by-keyword, by-ide, by-number, by-local, by-call}
+use Rattle.judgements.specs.Judgements.{Newest, Undeclared, Fits, Sorted, Fill, ItemSorted, by-keyword, by-ide, by-number, by-place, by-local, by-call}
 use Rattle.judgements.specs.Elaboration.{ResultSorted, by-template}
 use Rattle.judgements.proofs.Environments.{defined-here, defined-later, defined-newest, newest-defined, newest-signature, undefined-absent}
 use Rattle.judgements.proofs.Environments.{absent-undefined, same-signature, signature-same}
@@ -46,6 +48,7 @@ module _ (G : Scope) (n : ℕ) where
     open-rule (outsideVar x) h = no-name (ltb-false x (G .outsides) h)
     open-rule (outsideLabel x) h = no-label (ltb-false x (G .outsides) h)
     open-rule (make c ts) h = in-argument (opens-rule ts h)
+    open-rule Table.unit h = absurd (true≢false h)
 
     opens-rule : (ts : Templates) → areClosed ts G n ≡ false → SomeUndefined (G .outsides) n ts
     opens-rule none h = absurd (true≢false h)
@@ -88,13 +91,13 @@ module _ (G : Scope) (L : List ℕ) (at : ℕ) where
 
   -- an item passes by a judgement, or fails
   pub item-view : (i : Item) → ItemWithin i → Outcome at (item G L i) (ItemSorted G L i) (checkItem G L at i)
-  item-view (terminal (keyword k)) w =
+  item-view _ (terminal-within (keyword-within {k} l)) =
       by-test (ltb k (G .keywords)) (λ e. passing unit (by-keyword (ltb-true k (G .keywords) e)) (rw e refl))
       (λ e. failing (rules.undefined-item (no-keyword (ltb-false k (G .keywords) e))) (rw e refl))
-  item-view (terminal (ide s)) (terminal-within (ide-within l u)) = passing s (by-ide l u) refl
-  item-view (terminal number) w = passing _ by-number refl
-  item-view local w = passing _ by-local refl
-  item-view (call n ts) (call-within l ws) =
+  item-view _ (terminal-within (ide-within {s} l u)) = passing s (by-ide l u) refl
+  item-view _ (terminal-within number-within) = passing _ by-number refl
+  item-view _ local-within = passing _ by-local refl
+  item-view _ (call-within {n} {ts} l ws) =
       by-test (isDefined (G .env) n)
       (λ d. by-test (areClosed ts G (length L))
       (λ c. by-test (fill ts L (signatureOf (G .env) n .params))
@@ -108,6 +111,7 @@ module _ (G : Scope) (L : List ℕ) (at : ℕ) where
   item-passes (by-keyword {k} h) = rw (lt-ltb k (G .keywords) h) refl
   item-passes (by-ide l u) = refl
   item-passes by-number = refl
+  item-passes (by-place l) = refl
   item-passes by-local = refl
   item-passes (by-call {n} {S} {ts} d h) =
       let (closed, filled) = rule-fill G L ts h in rw (newest-defined d, newest-signature d, closed, filled) refl

@@ -12,6 +12,7 @@ use borrow.Author.Tests.{eq-eqb, ne-eqb, not-true}
 use Rattle.spellings.proofs.BytesLaws.{by-test}
 use Rattle.grammar.specs.Sorts.{constructor, arity, unit}
 use Rattle.grammar.specs.Table.{Template, Templates, outsideVar, outsideLabel, none, more}
+use Rattle.grammar.specs.Table as Table
 use Rattle.grammar.proofs.ReaderLaws.{arity-few}
 use Rattle.terms.specs.Cells.{columns, column, rowNumbers, nameBase, outsideName, rowsLent}
 use Rattle.expansion.specs.declared.State.{State}
@@ -22,7 +23,7 @@ use Rattle.templates.specs.Built.{Holds, withMade}
 use Rattle.templates.proofs.VariableLaws.{spare}
 use Rattle.templates.proofs.FlatLaws.{spare-more}
 use Rattle.templates.proofs.StackLaws.{Pending, waits, going, resume, resume-halt, takes-value, waits-for, makes-cell, going-make}
-use Rattle.copying.specs.RowTemplates.{isVariableName, isRowSort, unitTemplate, valueTemplate, columnTemplates, rowTemplate, textTemplate}
+use Rattle.copying.specs.RowTemplates.{isVariableName, isRowSort, valueTemplate, columnTemplates, rowTemplate, textTemplate}
 use Rattle.copying.proofs.ValueLaws.{at-variable, at-row, at-name, at-unit, at-plain}
 use Rattle.copying.specs.Hanging.{isRowAt, argumentAt, IsPart, VariableBelow, Hangs, hangs, HangsAt}
 use Rattle.copying.specs.Copies.{HasValue, rowMade, CopiesRow, CopiesText}
@@ -94,7 +95,7 @@ module _ (sort x : ℕ) (env : List ℕ) (other : x / nameBase ≡ 4 → ⊥) wh
   -- a Unit is 0
   pub value-unit : (eqb sort 1 || eqb sort 2) ≡ false → sort ≡ 0 → HasValue sort x env 0
   unfolding build
-  value-unit e is = by-sort unitTemplate (λ no-row rows. at-unit rows sort x no-variable no-row e (eq-eqb sort 0 is)) (λ I M s cells. refl)
+  value-unit e is = by-sort Table.unit (λ no-row rows. at-unit rows sort x no-variable no-row e (eq-eqb sort 0 is)) (λ I M s cells. refl)
 
   -- a label or a number is itself
   pub value-plain : (eqb sort 1 || eqb sort 2) ≡ false → (sort ≡ 0 → ⊥) → HasValue sort x env x

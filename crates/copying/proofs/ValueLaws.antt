@@ -5,8 +5,9 @@ use mathlib.Core.Bool.{true, false, _||_}
 use lib.Dec.{eqb}
 use Rattle.grammar.specs.Sorts.{unit, var, binder}
 use Rattle.grammar.specs.Table.{Template, variable, outsideVar, outsideLabel}
+use Rattle.grammar.specs.Table as Table
 use Rattle.terms.specs.Cells.{nameBase}
-use Rattle.copying.specs.RowTemplates.{isVariableName, isRowSort, unitTemplate, valueBy, valueTemplate}
+use Rattle.copying.specs.RowTemplates.{isVariableName, isRowSort, valueBy, valueTemplate}
 
 module _ (rows : ℕ → Template) (sort x : ℕ) where
   -- a variable, whatever the sort
@@ -27,7 +28,7 @@ module _ (rows : ℕ → Template) (sort x : ℕ) where
 
       module _ (no-name : (eqb sort var || eqb sort binder) ≡ false) where
         -- a Unit
-        pub at-unit : eqb sort unit ≡ true → valueTemplate sort rows x ≡ unitTemplate
+        pub at-unit : eqb sort unit ≡ true → valueTemplate sort rows x ≡ Table.unit
         unfolding valueBy
         at-unit e = rw (other, no-row, no-name, e, valueTemplate, valueBy) refl
 

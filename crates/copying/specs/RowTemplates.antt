@@ -6,6 +6,7 @@ use mathlib.Core.List.{List, [], _∷_}
 use lib.Dec.{eqb}
 use Rattle.grammar.specs.Sorts.{unit, var, binder, term, fields, constructor}
 use Rattle.grammar.specs.Table.{Template, Templates, variable, outsideVar, outsideLabel, make, none, more}
+use Rattle.grammar.specs.Table as Table
 use Rattle.terms.specs.Cells.{column, nameBase}
 
 -- a `$` variable as a value, whatever its sort, is a `variableName` (tokens/specs/Variables)
@@ -16,10 +17,6 @@ isVariableName x = eqb (x / nameBase) 4
 abbrev pub isRowSort : ℕ → Bool
 isRowSort sort = eqb sort term || eqb sort fields
 
--- a Unit, whose value is 0: no template of a table has that sort, and this one has the same value
-abbrev pub unitTemplate : Template
-unitTemplate = outsideLabel 0
-
 -- a value that is no variable, by its sort, where `rows` gives the templates of rows; a text that passes gives no Binder and no Num of its own
 unfoldable pub valueBy : ℕ → (ℕ → Template) → ℕ → Template
 valueBy sort rows x =
@@ -28,7 +25,7 @@ valueBy sort rows x =
       | false ↦
           elim (eqb sort var || eqb sort binder) [
             | true ↦ outsideVar (x % nameBase)
-            | false ↦ elim (eqb sort unit) [ true ↦ unitTemplate | false ↦ outsideLabel x ]
+            | false ↦ elim (eqb sort unit) [ true ↦ Table.unit | false ↦ outsideLabel x ]
           ]
     ]
 
@@ -43,7 +40,7 @@ columnTemplates (sort ∷ sorts) rows cells r k = more (valueTemplate sort rows 
 
 -- the template of row r; k bounds the depth, as a row refers to rows before it. A part used twice stands at both places
 unfoldable pub rowTemplate : ℕ → List ℕ → ℕ → Template
-rowTemplate zero cells r = unitTemplate
+rowTemplate zero cells r = Table.unit
 rowTemplate (suc k) cells r =
     make (column cells r 0) (columnTemplates (constructor (column cells r 0) .params) (λ q. rowTemplate k cells q) cells r 1)
 

@@ -4,7 +4,7 @@ use mathlib.Core.List.{List, [], _∷_}
 use lib.ListN.{getD, drop}
 use Rattle.answers.specs.Checked.{Checked, ok, _>>_}
 use Rattle.grammar.specs.Sorts.{gives}
-use Rattle.grammar.specs.Table.{keyword, ide, number, Item, terminal, local, call, Mode, add, extend, update}
+use Rattle.grammar.specs.Table.{keyword, ide, number, place, Item, terminal, local, call, Mode, add, extend, update}
 use Rattle.grammar.specs.Written.{WrittenResult, template, noResult, WrittenAlternative, WrittenDefinition, Written}
 use Rattle.grammar.specs.Fields.{RawFields, end, cut, next, fieldsOf}
 use Rattle.decoding.specs.Prefix.{templatesOf, found, headTemplate}
@@ -37,11 +37,9 @@ modeOf m = getD (add ∷ extend ∷ update ∷ []) m add
 -- the item of a field 06
 unfoldable pub itemOf : List ℕ → Item
 itemOf v =
-    getD
-    (terminal (keyword (getD v 1 0))
-    ∷ terminal (ide (getD v 1 0)) ∷ terminal number ∷ local ∷ call (getD v 1 0) (found (templatesOf (drop 2 v))) ∷ [])
-    (getD v 0 0)
-    (terminal number)
+    let k : ℕ = getD v 1 0 in
+    getD (terminal (keyword k) ∷ terminal (ide k) ∷ terminal number ∷ local ∷ call k (found (templatesOf (drop 2 v))) ∷ terminal (place k) ∷ [])
+    (getD v 0 0) (terminal number)
 
 -- the definition whose head is the value of a field 04
 unfoldable pub definitionOf : List ℕ → List WrittenAlternative → WrittenDefinition

@@ -1,7 +1,6 @@
 -- Templates in prefix form: from bytes to templates. Document 01, "Phrase table", and cause 10.
 use Prim.Native.Nat.{ℕ, zero, suc}
-use mathlib.Core.Bool.{Bool, true, false, _||_}
-use mathlib.Core.List.{List, [], _∷_}
+use mathlib.Core.{Bool.Bool, Bool.true, Bool.false, Bool._||_, List.List, List.[], List._∷_}
 use lib.Dec.{eqb, ltb}
 use Rattle.grammar.specs.Sorts.{arity}
 use Rattle.grammar.specs.SortTests.{isConstructor}

@@ -32,7 +32,7 @@ unfoldable pub count : Templates → ℕ
 count none = zero
 count (more t ts) = suc (count ts)
 
--- 00 to 0F a variable; 10 and 11 a byte that numbers a name; 20 to 27 a constructor with its arguments
+-- 00 to 0F a variable; 10 and 11 a byte that numbers a name; 20 to 27 a constructor with its arguments; a Unit is not written
 mutual
   pub data TemplateWithin : Template → Type 0 where
     variable-within : {i : ℕ} → i ≤ 0x0F → TemplateWithin (variable i)
@@ -45,7 +45,7 @@ mutual
     none-within : TemplatesWithin none
     more-within : {t : Template} {ts : Templates} → TemplateWithin t → TemplatesWithin ts → TemplatesWithin (more t ts)
 
--- a keyword's number is a byte, an identifier's sort 1 to 3
+-- a keyword's number is a byte, an identifier's sort 1 to 3; a pattern place is not written
 pub data TerminalWithin : Terminal → Type 0 where
   keyword-within : {k : ℕ} → k < 256 → TerminalWithin (keyword k)
   ide-within : {s : ℕ} → 1 ≤ s → s ≤ 3 → TerminalWithin (ide s)

@@ -9,7 +9,7 @@ use lib.Dec.{eqb}
 use borrow.Author.Tests.{lt-ltb, le-ltb, ne-eqb}
 use Rattle.kinds.specs.Kinds.{wordKind, noKind, hasKind}
 use Rattle.kinds.specs.TextKinds.{outsideKind}
-use Rattle.grammar.specs.Table.{Terminal, keyword, ide, number, kindOf}
+use Rattle.grammar.specs.Table.{Terminal, keyword, ide, number, place, kindOf}
 use Rattle.tokens.specs.declared.Token.{Token}
 use Rattle.expansion.specs.declared.State.{State}
 use Rattle.firsts.specs.Patterns.{opensIde, opensPlace}
@@ -35,6 +35,7 @@ pub meets-none : (t : Terminal) (token : Token) → token .kind ≤ noKind → m
 meets-none (keyword k) token h = refl
 meets-none (ide sort) token h = meets-no-ide (token .kind) sort h
 meets-none number token h = refl
+meets-none (place sort) token h = refl
 
 module _ (input : Input) (t : Terminal) (state : State) (cells : List ℕ) where
   -- A token that meets a terminal is taken,

@@ -11,7 +11,7 @@ use Rattle.productions.specs.Normal.{Production}
 use Rattle.clashes.specs.CheckFirsts.{checkFirsts}
 use Rattle.terms.specs.Term.{Name, Term}
 use Rattle.expansion.specs.Figure3.{Value, term, Constructs, Bound, bound-first, bound-later, Gives, by-variable, by-global, by-label, by-constructor}
-use Rattle.expansion.specs.Figure3.{GiveAll, give-none, give-more, WordAs, as-var, as-binder, as-label, ReadsAs, by-keyword, by-ide, by-number}
+use Rattle.expansion.specs.Figure3.{by-unit, GiveAll, give-none, give-more, WordAs, as-var, as-binder, as-label, ReadsAs, by-keyword, by-ide, by-number}
 use Rattle.expansion.specs.Figure3.{by-local, Derives, by-end, by-terminal, by-call, Parses}
 use Rattle.expansion.specs.Figure3 as Figure3
 use Rattle.expansion.proofs.Choosing.{taken-one}
@@ -39,6 +39,7 @@ module _ {spell : ℕ → List ℕ} {M : List Value} where
     gives-one (Table.variable i) (by-variable b) (by-variable c) = bound-one b c
     gives-one (Table.outsideVar n) by-global by-global = refl
     gives-one (Table.outsideLabel n) by-label by-label = refl
+    gives-one Table.unit by-unit by-unit = refl
     gives-one (Table.make c ts) {other = other} (by-constructor gs k) (by-constructor hs l) = constructs-one k (rw (← (all-one ts gs hs)) at l)
 
     all-one : (ts : Templates) {vs ws : List Value} → GiveAll spell M ts vs → GiveAll spell M ts ws → vs ≡ ws

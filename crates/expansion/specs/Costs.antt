@@ -2,7 +2,7 @@
 -- made. Document 01, "Formula" ("Each constructor of a template makes one cell") and causes 19, 20 and 21.
 use Prim.Native.Nat.{ℕ, _+_, _≤_, max}
 use mathlib.Core.List.{List}
-use Rattle.grammar.specs.Table.{Template, Templates, variable, outsideVar, outsideLabel, make, none, more, Item}
+use Rattle.grammar.specs.Table.{Template, Templates, variable, outsideVar, outsideLabel, make, unit, none, more, Item}
 use Rattle.tokens.specs.declared.Token.{Token}
 use Rattle.productions.specs.Normal.{Production}
 use Rattle.expansion.specs.Limits.{mostCalls, mostOpen}
@@ -15,6 +15,7 @@ unfoldable mutual
   rowsOf (outsideVar n) = 0
   rowsOf (outsideLabel n) = 0
   rowsOf (make c ts) = rowsOfAll ts + 1
+  rowsOf unit = 0
 
   pub rowsOfAll : Templates → ℕ
   rowsOfAll none = 0

@@ -1,12 +1,11 @@
 -- Expansion of a formula's tokens by a grammar: refusals 17 to 21. Document 01, "Choice", "Formula" and "Causes, by number";
 -- 001, section 4.2, Figure 3. A value is a row, a name, a label's spelling number or a number; a Unit is 0.
 use Prim.Native.Nat.{ℕ, zero, suc, _+_, _*_}
-use mathlib.Core.Bool.{Bool, true, false, _&&_}
-use mathlib.Core.List.{List, [], _∷_, _++_, map}
+use mathlib.Core.{Bool.Bool, Bool.true, Bool.false, Bool._&&_, List.List, List.[], List._∷_, List._++_, List.map}
 use lib.{Dec.eqb, Dec.ltb, ListN.length, ListN.getD, Seq.sets, Count.ones}
 use Rattle.answers.specs.Refusals.{refusal}
 use Rattle.kinds.specs.Kinds.{only}
-use Rattle.grammar.specs.Table.{Template, Templates, variable, outsideVar, outsideLabel, make, none, more, Terminal, kindOf, Item, terminal, local, call}
+use Rattle.grammar.specs.Table.{Template, Templates, variable, outsideVar, outsideLabel, make, unit, none, more, Terminal, kindOf, Item, terminal, local, call}
 use Rattle.terms.specs.Cells.{columns, rowNumbers, rowsLent, freshName, outsideName}
 use Rattle.tokens.specs.declared.Token.{Token}
 use Rattle.tokens.specs.Tokens.{endToken}
@@ -94,6 +93,7 @@ unfoldable mutual
   build (outsideVar n) I M = return (outsideName n)
   build (outsideLabel n) I M = return n
   build (make c ts) I M = buildAll ts I M >>= λ vs. cell I c vs
+  build unit I M = return 0
 
   pub buildAll : Templates → Input → List ℕ → Run (List ℕ)
   buildAll none I M = return []

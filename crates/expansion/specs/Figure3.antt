@@ -53,7 +53,7 @@ pub data Bound : List Value → ℕ → Value → Type 0 where
   bound-first : {v : Value} {M : List Value} → Bound (v ∷ M) 0 v
   bound-later : {u v : Value} {M : List Value} {i : ℕ} → Bound M i v → Bound (u ∷ M) (suc i) v
 
--- ------------------------------------------------------------------ templates: x, global(x), 01's Label, c(p1, .., pk)
+-- ------------------------------------------------------------------ templates: x, global(x), 01's Label, c(p1, .., pk), 02's Unit of a text
 
 -- `spell` gives the spelling of an outside name or of a word token by its number
 mutual
@@ -67,6 +67,7 @@ mutual
         → GiveAll spell M ts vs
         → Constructs c vs v
         → Gives spell M (Table.make c ts) v
+    by-unit : Gives spell M Table.unit unit
 
   pub data GiveAll (spell : ℕ → List ℕ) (M : List Value) : Templates → List Value → Type 0 where
     give-none : GiveAll spell M none []

@@ -7,7 +7,7 @@ use Rattle.kinds.specs.Kinds.{wordKind, noKind, hasKind}
 use Rattle.kinds.specs.TextKinds.{sortOfKind, outsideKind}
 use Rattle.grammar.specs.Sorts.{binder, label}
 use Rattle.grammar.specs.SortTests.{fits}
-use Rattle.grammar.specs.Table.{Terminal, keyword, ide, number}
+use Rattle.grammar.specs.Table.{Terminal, keyword, ide, number, place}
 use Rattle.terms.specs.Cells.{wordName, outsideName}
 use Rattle.tokens.specs.declared.Token.{Token}
 use Rattle.firsts.specs.Patterns.{opensIde, opensPlace}
@@ -21,6 +21,7 @@ abbrev pub readValue : Terminal → ℕ → ℕ
 readValue (keyword k) v = 0
 readValue (ide s) v = wordValue s v
 readValue number v = v
+readValue (place s) v = v
 
 -- ------------------------------------------------------------------ tokens of a text
 
@@ -35,11 +36,12 @@ isOutsideKind kind = eqb kind outsideKind
 unfoldable pub meetsIde : ℕ → ℕ → Bool
 meetsIde kind B = (isTextKind kind && not (isOutsideKind kind) && fits (sortOfKind kind) B) || (isOutsideKind kind && not (eqb B binder))
 
--- no other terminal reads one
+-- a place takes a variable by its kind, and no other terminal reads one
 abbrev pub meets : Terminal → Token → Bool
 meets (keyword k) token = false
 meets (ide B) token = meetsIde (token .kind) B
 meets number token = false
+meets (place s) token = false
 
 -- what it gives at sort B: a variable its own number, an outside name that name, or its number at Label
 unfoldable pub ideValue : ℕ → ℕ → ℕ → ℕ
@@ -49,6 +51,7 @@ abbrev pub textValue : Terminal → Token → ℕ
 textValue (keyword k) token = token .value
 textValue (ide B) token = ideValue (token .kind) B (token .value)
 textValue number token = token .value
+textValue (place s) token = token .value
 
 -- ------------------------------------------------------------------ what opens with a token
 

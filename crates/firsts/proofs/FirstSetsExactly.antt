@@ -1,8 +1,8 @@
 -- A bit of the computed first sets, and of the computed left calls, is set exactly if the rules give it.
 -- Both are one computation and one relation, told apart by what an item gives by itself (`own`).
 -- Bit b of all sets together is a set of nonterminals, and each such set settles by itself.
-use Prim.Native.Nat.{ℕ, _<_}
-use mathlib.Core.Path.{_≡_, refl, sym, ap, ap₂, _∙_, fun-ext}
+use Prim.Native.Nat.{ℕ, _≤_, _<_}
+use mathlib.Core.Path.{_≡_, refl, sym, ap, ap₂, subst, _∙_, fun-ext}
 use mathlib.Core.Bool.{Bool, true, false, _&&_, _||_, false≢true, and-eq-true-iff, and-true, and-false, or-false, or-assoc}
 use mathlib.Core.Logic.{_↔_, ⊎-elim}
 use mathlib.Core.List.{List, [], _∷_}
@@ -15,11 +15,12 @@ use lib.Seq.{set-out, getD-set-same, getD-set-other}
 use borrow.Author.Tests.{lt-ltb, le-ltb, eq-eqb, ne-eqb, eqb-true, ltb-true, leb-true, le-leb}
 use Rattle.kinds.specs.Kinds.{hasKind, only}
 use Rattle.kinds.proofs.KindsLaws.{has-none, has-join, has-only, has-own}
-use Rattle.grammar.specs.SortTests.{isIdeSort}
-use Rattle.grammar.specs.Table.{keyword, ide, number, kindOf, Item, terminal, local, call}
+use Rattle.grammar.specs.Sorts.{label}
+use Rattle.grammar.specs.SortTests.{isSort, isIdeSort}
+use Rattle.grammar.specs.Table.{keyword, ide, number, place, kindOf, Item, terminal, local, call}
 use Rattle.productions.specs.Normal.{Production}
 use Rattle.firsts.specs.FirstSets.{overAll, isNullable, nullables, openingOf, callOf, through, joined, gather, firstStep, setsOf}
-use Rattle.firsts.specs.Patterns.{onlyIf, patternOf, ReadsAt, reads-at}
+use Rattle.firsts.specs.Patterns.{onlyIf, placeBit, patternOf, ReadsAt, reads-at, ReadsPlace, reads-place, PatternBit, ide-bit, place-bit}
 use Rattle.firsts.specs.Rules.{Of, First, first-own, first-call, first-past, FirstOf, Reads, reads, Calls, calls}
 use Rattle.firsts.proofs.Rounds.{Numbers, same-at, nothing, Within, Each, admit, least, least-within, least-closed, least-seen, over-seen}
 use Rattle.firsts.proofs.Rounds.{or-left, or-right, or-split}
@@ -240,22 +241,84 @@ calls-exactly item kind = (sound item, complete item kind)
     complete : (item : Item) (kind : ℕ) → Calls item kind → hasKind (callOf item) kind ≡ true
     complete _ _ (calls {n = n} l) = has-own n l
 
--- an ide gives its sort to what reads a variable
-pub reads-at-exactly : (item : Item) (kind : ℕ) → (hasKind (patternOf item) kind ≡ true) ↔ ReadsAt item kind
-reads-at-exactly item kind = (sound item, complete item kind)
+-- an ide gives its sort to what reads a variable, a pattern place its own bit
+pattern-bits-exactly : (item : Item) (bit : ℕ) → (hasKind (patternOf item) bit ≡ true) ↔ PatternBit item bit
+pattern-bits-exactly item bit = (sound item, complete)
   where
-    at-sort : (sort : ℕ) (test : Bool) → isIdeSort sort ≡ test → hasKind (onlyIf test sort) kind ≡ true → ReadsAt (terminal (ide sort)) kind
-    at-sort sort false t e = absurd (none-has kind e)
+    at-sort : (sort : ℕ) (test : Bool) → isIdeSort sort ≡ test → hasKind (onlyIf test sort) bit ≡ true → PatternBit (terminal (ide sort)) bit
+    at-sort sort false t e = absurd (none-has bit e)
     at-sort sort true t e =
         let bounds = and-eq-true-iff (leb 1 sort) (leb sort 3) .0 t in
-        rw (only-has sort kind e .0) (reads-at {s = sort} (leb-true 1 sort (bounds .0)) (leb-true sort 3 (bounds .1)))
+        rw (only-has sort bit e .0) (ide-bit (reads-at {s = sort} (leb-true 1 sort (bounds .0)) (leb-true sort 3 (bounds .1))))
 
-    sound : (item : Item) → hasKind (patternOf item) kind ≡ true → ReadsAt item kind
-    sound (terminal (keyword k)) e = absurd (none-has kind e)
+    at-place : (sort : ℕ) (test : Bool) → isSort sort ≡ test → hasKind (onlyIf test (placeBit sort)) bit ≡ true → PatternBit (terminal (place sort)) bit
+    at-place sort false t e = absurd (none-has bit e)
+    at-place sort true t e = rw (only-has (placeBit sort) bit e .0) (place-bit (reads-place {s = sort} (leb-true sort 6 t)))
+
+    sound : (item : Item) → hasKind (patternOf item) bit ≡ true → PatternBit item bit
+    sound (terminal (keyword k)) e = absurd (none-has bit e)
     sound (terminal (ide s)) e = at-sort s (isIdeSort s) refl e
-    sound (terminal number) e = absurd (none-has kind e)
-    sound local e = absurd (none-has kind e)
-    sound (call n ts) e = absurd (none-has kind e)
+    sound (terminal number) e = absurd (none-has bit e)
+    sound (terminal (place s)) e = at-place s (isSort s) refl e
+    sound local e = absurd (none-has bit e)
+    sound (call n ts) e = absurd (none-has bit e)
 
-    complete : (item : Item) (kind : ℕ) → ReadsAt item kind → hasKind (patternOf item) kind ≡ true
-    complete _ _ (reads-at {s = s} l h) = rw (le-leb 1 s l, le-leb s 3 h) (has-own s (omega arith))
+    by-ide : {item : Item} {sort : ℕ} → ReadsAt item sort → hasKind (patternOf item) sort ≡ true
+    by-ide (reads-at {s = s} l h) = rw (le-leb 1 s l, le-leb s 3 h) (has-own s (omega arith))
+
+    by-place : {item : Item} {sort : ℕ} → ReadsPlace item sort → hasKind (patternOf item) (placeBit sort) ≡ true
+    by-place (reads-place {s = s} l) = rw (le-leb s 6 l) (has-own (placeBit s) (omega arith))
+
+    complete : {bit : ℕ} → PatternBit item bit → hasKind (patternOf item) bit ≡ true
+    complete (ide-bit h) = by-ide h
+    complete (place-bit h) = by-place h
+
+-- an ide's sort is one up to Label
+ide-small : {item : Item} {sort : ℕ} → ReadsAt item sort → sort ≤ label
+ide-small (reads-at l h) = h
+
+-- so a bit up to Label is that of an ide, and any other that of a place
+bit-of-ide : {item : Item} {bit : ℕ} → bit ≤ label → PatternBit item bit → ReadsAt item bit
+bit-of-ide l (ide-bit h) = h
+bit-of-ide l (place-bit h) = absurd (omega arith)
+
+bit-of-place : {item : Item} {bit sort : ℕ} → bit ≡ placeBit sort → PatternBit item bit → ReadsPlace item sort
+bit-of-place e (ide-bit h) = absurd (omega (arith, ide-small h))
+bit-of-place {item = item} {sort = sort} e (place-bit {s = s} h) = let q : s ≡ sort = omega arith in subst (ReadsPlace item) q h
+
+-- ------------------------------------------------------------------ what stands first
+
+-- What holds of all that items give by themselves holds of what stands first.
+pub first-holds : {g : List Production} {own : Item → ℕ → Type 0} {K : Type 0} {is : List Item} {number : ℕ}
+    → ((item : Item) → own item number → K) → First g own is number → K
+first-holds h (first-own {i = i} o) = h i o
+first-holds h (first-call o f) = first-holds h f
+first-holds h (first-past z f) = first-holds h f
+
+-- Where items give one number they give another.
+pub first-as : {g : List Production} {own other : Item → ℕ → Type 0} {is : List Item} {number number′ : ℕ}
+    → ((item : Item) → own item number → other item number′) → First g own is number → First g other is number′
+first-as h (first-own {i = i} o) = first-own (h i o)
+first-as h (first-call o f) = first-call o (first-as h f)
+first-as h (first-past z f) = first-past z (first-as h f)
+
+module _ (g : List Production) (is : List Item) where
+  abbrev patterns : ℕ
+  patterns = gather patternOf (nullables g) (setsOf patternOf (nullables g) g) is 0
+
+  bits-exactly : (bit : ℕ) → (hasKind patterns bit ≡ true) ↔ First g PatternBit is bit
+  bits-exactly = items-exactly patternOf PatternBit pattern-bits-exactly g is
+
+  -- A bit up to Label is set exactly if an ide of that sort stands first,
+  pub ides-exactly : (sort : ℕ) → sort ≤ label → (hasKind patterns sort ≡ true) ↔ First g ReadsAt is sort
+  ides-exactly sort l = (
+    λ e. first-as (λ item h. bit-of-ide l h) (bits-exactly sort .0 e),
+    λ f. bits-exactly sort .1 (first-as (λ item h. ide-bit h) f),
+  )
+
+  -- and the bit of a place exactly if a pattern place of that sort does.
+  pub places-exactly : (sort : ℕ) → (hasKind patterns (placeBit sort) ≡ true) ↔ First g ReadsPlace is sort
+  places-exactly sort = (
+    λ e. first-as (λ item h. bit-of-place refl h) (bits-exactly (placeBit sort) .0 e),
+    λ f. bits-exactly (placeBit sort) .1 (first-as (λ item h. place-bit h) f),
+  )

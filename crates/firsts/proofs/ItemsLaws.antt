@@ -6,7 +6,7 @@ use mathlib.Core.List.{List, [], _∷_}
 use lib.Bits.{bitOr, or-zero-r}
 use lib.ListN.{length, getD}
 use Rattle.kinds.specs.Kinds.{hasKind, only}
-use Rattle.grammar.specs.Table.{keyword, ide, number, kindOf, Item, terminal, local, call}
+use Rattle.grammar.specs.Table.{keyword, ide, number, place, kindOf, Item, terminal, local, call}
 use Rattle.grammar.specs.Lookup.{fieldAt, fieldsAt}
 use Rattle.productions.specs.Index.{itemsOf}
 use Rattle.productions.specs.declared.Terminal.{Terminal}
@@ -30,6 +30,7 @@ module _ (nulls : ℕ) (kinds calls : List ℕ) (found : Gathered) where
   item-by (terminal (keyword k)) = refl
   item-by (terminal (ide s)) = refl
   item-by (terminal number) = refl
+  item-by (terminal (place s)) = refl
   item-by local = refl
   item-by (call n ts) = refl
 

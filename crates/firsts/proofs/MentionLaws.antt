@@ -6,7 +6,7 @@ use mathlib.Core.List.{List, [], _∷_}
 use lib.Bits.{bitOr, or-zero-r}
 use lib.ListN.{length, getD, set, replicate, length-set}
 use Rattle.kinds.specs.Kinds.{hasKind, only}
-use Rattle.grammar.specs.Table.{keyword, ide, number, kindOf, Item, terminal, local, call}
+use Rattle.grammar.specs.Table.{keyword, ide, number, place, kindOf, Item, terminal, local, call}
 use Rattle.grammar.specs.Lookup.{fieldAt, fieldsAt}
 use Rattle.productions.specs.Index.{itemsOf, productionAt, productionsBy}
 use Rattle.productions.specs.declared.Terminal.{Terminal}
@@ -30,6 +30,7 @@ module _ (found : Gathered) where
   mention-by (terminal (keyword k)) = refl
   mention-by (terminal (ide s)) = refl
   mention-by (terminal number) = refl
+  mention-by (terminal (place s)) = refl
   mention-by local = refl
   mention-by (call n ts) = refl
 

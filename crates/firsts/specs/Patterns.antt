@@ -4,9 +4,9 @@ use Prim.Native.Nat.{ℕ, _+_, _≤_}
 use mathlib.Core.Bool.{Bool, true, false, _&&_, _||_}
 use mathlib.Core.List.{List}
 use Rattle.kinds.specs.Kinds.{hasKind, only}
-use Rattle.grammar.specs.Sorts.{var, binder, label}
-use Rattle.grammar.specs.SortTests.{isIdeSort, fits}
-use Rattle.grammar.specs.Table.{keyword, ide, number, Item, terminal, local, call}
+use Rattle.grammar.specs.Sorts.{var, binder, label, num}
+use Rattle.grammar.specs.SortTests.{isSort, isIdeSort, fits}
+use Rattle.grammar.specs.Table.{keyword, ide, number, place, Item, terminal, local, call}
 use Rattle.productions.specs.Normal.{Production}
 use Rattle.firsts.specs.FirstSets.{nullables, gather, setsOf}
 
@@ -14,11 +14,16 @@ use Rattle.firsts.specs.FirstSets.{nullables, gather, setsOf}
 abbrev pub onlyIf : Bool → ℕ → ℕ
 onlyIf test bit = elim test [ true ↦ only bit | false ↦ 0 ]
 
+-- the bit of a place
+abbrev pub placeBit : ℕ → ℕ
+placeBit s = 8 + s
+
 -- what an item gives by itself
 abbrev pub patternOf : Item → ℕ
 patternOf (terminal (keyword k)) = 0
 patternOf (terminal (ide s)) = onlyIf (isIdeSort s) s
 patternOf (terminal number) = 0
+patternOf (terminal (place s)) = onlyIf (isSort s) (placeBit s)
 patternOf local = 0
 patternOf (call n ts) = 0
 
@@ -36,11 +41,16 @@ patternsIn g is = gather patternOf (nullables g) (patternSets (nullables g) g) i
 pub data ReadsAt : Item → ℕ → Type 0 where
   reads-at : {s : ℕ} → var ≤ s → s ≤ label → ReadsAt (terminal (ide s)) s
 
--- ------------------------------------------------------------------ what a variable opens
+-- the sort of a pattern place
+pub data ReadsPlace : Item → ℕ → Type 0 where
+  reads-place : {s : ℕ} → s ≤ num → ReadsPlace (terminal (place s)) s
 
--- the bit of a place
-abbrev pub placeBit : ℕ → ℕ
-placeBit s = 8 + s
+-- the bit of an item
+pub data PatternBit (item : Item) : ℕ → Type 0 where
+  ide-bit : {s : ℕ} → ReadsAt item s → PatternBit item s
+  place-bit : {s : ℕ} → ReadsPlace item s → PatternBit item (placeBit s)
+
+-- ------------------------------------------------------------------ what a variable opens
 
 abbrev pub opensIdeOf : ℕ → ℕ → ℕ → Bool
 opensIdeOf patterns s B = hasKind patterns B && fits s B

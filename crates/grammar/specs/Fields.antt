@@ -1,7 +1,6 @@
 -- The fields of a table's bytes, with their offsets. Document 01, "Phrase table" and refusal 2.
 use Prim.Native.Nat.{ℕ, zero, suc, _+_, _*_}
-use mathlib.Core.Bool.{true, false}
-use mathlib.Core.List.{List}
+use mathlib.Core.{Bool.true, Bool.false, List.List}
 use lib.{Dec.eqb, Dec.leb, ListN.length, ListN.getD, ListN.take, ListN.drop}
 
 -- What stands from an offset on: nothing (the offset is the table's length), a field that runs past the end, or a field (its

@@ -1,7 +1,6 @@
 -- Where a spelling stands in a list of spellings.
 use Prim.Native.Nat.{ℕ}
-use mathlib.Core.Bool.{true, false}
-use mathlib.Core.List.{List}
+use mathlib.Core.{Bool.true, Bool.false, List.List}
 use lib.{Dec.ltb, ListN.length}
 use Rattle.spellings.specs.Bytes.{indexOf}
 use Rattle.grammar.specs.declared.Found.{Found, the-variants.At, the-variants.Absent}

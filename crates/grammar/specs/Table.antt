@@ -3,31 +3,35 @@
 use Prim.Native.Nat.{ℕ}
 use mathlib.Core.List.{List}
 use Rattle.kinds.specs.Kinds.{wordKind, numberKind, keywordKind}
+use Rattle.kinds.specs.TextKinds.{variableKind}
 use Rattle.grammar.specs.Sorts.{Signature}
 
--- a template: a variable of the alternative, an outside name as Var (001's global(x)) or as Label, or a constructor applied
+-- a template: a variable of the alternative, an outside name as Var (001's global(x)) or as Label, a constructor applied, or a text's Unit (02, C-14)
 mutual
   pub data Template : Type 0 where
     variable : ℕ → Template
     outsideVar : ℕ → Template
     outsideLabel : ℕ → Template
     make : ℕ → Templates → Template
+    unit : Template
 
   pub data Templates : Type 0 where
     none : Templates
     more : Template → Templates → Templates
 
--- a terminal reads one token: "x", ide(B), or number (01's addition)
+-- a terminal reads one token: "x", ide(B), number (01's addition), or a pattern place of a sort (document 02, C-14), which reads a variable of it
 pub data Terminal : Type 0 where
   keyword : ℕ → Terminal
   ide : ℕ → Terminal
   number : Terminal
+  place : ℕ → Terminal
 
 -- the kind of token that it reads
 abbrev pub kindOf : Terminal → ℕ
 kindOf (keyword k) = keywordKind k
 kindOf (ide s) = wordKind
 kindOf number = numberKind
+kindOf (place s) = variableKind s
 
 -- an item: a terminal, local, or a nonterminal applied to arguments
 pub data Item : Type 0 where

@@ -9,16 +9,16 @@ use borrow.Author.Tests.{ltb-true, lt-ltb}
 use Rattle.answers.specs.Checked.{Checked, ok, _>>=_, _>>_, need}
 use Rattle.grammar.specs.Sorts.{Signature, unit}
 use Rattle.grammar.specs.SortTests.{fits}
-use Rattle.grammar.specs.Table.{Template, keyword, ide, number, Item, terminal, local, call, Alternative, Definition}
+use Rattle.grammar.specs.Table.{Template, keyword, ide, number, place, Item, terminal, local, call, Alternative, Definition}
 use Rattle.grammar.specs.Written.{WrittenResult, template, WrittenAlternative, WrittenDefinition, withAlternatives}
 use Rattle.grammar.specs.Values.{headValue}
-use Rattle.decoding.specs.Within.{Each, each-none, each-more, ide-within, ItemWithin, terminal-within, call-within, ResultWithin, template-within}
-use Rattle.decoding.specs.Within.{AlternativeWithin, DefinitionWithin}
+use Rattle.decoding.specs.Within.{Each, each-none, each-more, keyword-within, ide-within, number-within, ItemWithin, terminal-within, local-within, call-within}
+use Rattle.decoding.specs.Within.{ResultWithin, template-within, AlternativeWithin, DefinitionWithin}
 use Rattle.judgements.specs.Sizes.{fieldSize, itemsSize, definitionSize}
 use Rattle.judgements.specs.CheckSorts.{isDefined, signatureOf, isClosed, areClosed, sortOf, isSorted, fill, checkItem, checkItems}
 use Rattle.judgements.specs.Scopes.{Scope}
 use Rattle.judgements.specs.CheckSorts.{checkResult, checkAlternative, checkAlternatives, checkBodies}
-use Rattle.judgements.specs.Judgements.{ItemSorted, by-keyword, by-ide, by-number, by-local, by-call, Numbered, no-item, one-more}
+use Rattle.judgements.specs.Judgements.{ItemSorted, by-keyword, by-ide, by-number, by-place, by-local, by-call, Numbered, no-item, one-more}
 use Rattle.judgements.specs.Elaboration.{ResultSorted, by-template, Bodies, no-alternative, by-choice, Ok, ok-empty, ok-definition}
 use Rattle.judgements.proofs.Accepting.{Accepts, need-passed, need-passes, needs-passed, needs-passes, bind-passed, bind-passes}
 use Rattle.judgements.proofs.Accepting.{then-passed, then-passes}
@@ -32,13 +32,13 @@ module _ (scope : Scope) where
   item-rule :
       (L : List ℕ) (at : ℕ) (item : Item) (P : ℕ → Type 0) → ItemWithin item → Accepts (checkItem scope L at item) P
       → (B : ℕ) × ItemSorted scope L item B × P B
-  item-rule L at (terminal (keyword k)) P w h =
+  item-rule L at _ P (terminal-within (keyword-within {k} l)) h =
       let n = need-passed (ltb k (scope .keywords)) 9 at _ (then-passed P (need (ltb k (scope .keywords)) 9 at) (ok unit) h) in
       (unit, by-keyword (ltb-true k (scope .keywords) (n .0)), n .1)
-  item-rule L at (terminal (ide s)) P (terminal-within (ide-within l u)) h = (s, by-ide l u, h)
-  item-rule L at (terminal number) P w h = (_, by-number, h)
-  item-rule L at local P w h = (_, by-local, h)
-  item-rule L at (call n ts) P (call-within l ws) h =
+  item-rule L at _ P (terminal-within (ide-within {s} l u)) h = (s, by-ide l u, h)
+  item-rule L at _ P (terminal-within number-within) h = (_, by-number, h)
+  item-rule L at _ P local-within h = (_, by-local, h)
+  item-rule L at _ P (call-within {n} {ts} l ws) h =
       let S : Signature = signatureOf (scope .env) n in
       let closed : Bool = isDefined (scope .env) n && areClosed ts scope (length L) in
       let tests : Checked (Unit {0}) = need closed 9 at >> need (fill ts L (S .params)) 11 at in
@@ -53,6 +53,7 @@ module _ (scope : Scope) where
       (need-passes (ltb k (scope .keywords)) 9 at _ (lt-ltb k (scope .keywords) h) p)
   rule-item at P (by-ide l u) p = p
   rule-item at P by-number p = p
+  rule-item at P (by-place l) p = p
   rule-item at P by-local p = p
   rule-item {L} at P (by-call {n = n} {S = S} {ts = ts} d h) p =
       let f = rule-fill scope L ts h in

@@ -9,7 +9,7 @@ use Rattle.answers.specs.declared.Refusal.{Refusal}
 use Rattle.answers.specs.Checked.{Checked, ok, bad, _>>=_, _>>_, need}
 use Rattle.grammar.specs.Sorts.{Signature, unit, term}
 use Rattle.grammar.specs.SortTests.{fits}
-use Rattle.grammar.specs.Table.{keyword, ide, number, Item, terminal, local, call, Alternative, Mode, add, extend, update, Definition}
+use Rattle.grammar.specs.Table.{keyword, ide, number, place, Item, terminal, local, call, Alternative, Mode, add, extend, update, Definition}
 use Rattle.grammar.specs.Written.{WrittenResult, template, WrittenAlternative, WrittenDefinition, Written}
 use Rattle.grammar.specs.Values.{itemValue}
 use Rattle.judgements.specs.Sizes.{fieldSize, alternativeSize, definitionSize, definitionsSize}
@@ -77,6 +77,7 @@ module _ (scope : Scope) where
   item-sort L at (terminal (keyword k)) = after (need (ltb k (scope .keywords)) 9 at) (ok unit) (need-9 (ltb k (scope .keywords)) at) none
   item-sort L at (terminal (ide s)) = none
   item-sort L at (terminal number) = none
+  item-sort L at (terminal (place s)) = none
   item-sort L at local = none
   item-sort L at (call n ts) =
       after _ (ok (signatureOf (scope .env) n .result))

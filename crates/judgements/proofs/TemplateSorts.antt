@@ -10,11 +10,12 @@ use borrow.Author.Tests.{eqb-true, eq-eqb, ltb-true, lt-ltb}
 use Rattle.grammar.specs.Sorts.{unit, var, binder, constructor}
 use Rattle.grammar.specs.SortTests.{fits}
 use Rattle.grammar.specs.Table.{Template, Templates, variable, outsideVar, outsideLabel, make, none, more}
+use Rattle.grammar.specs.Table as Table
 use Rattle.decoding.specs.Within.{TemplateWithin, make-within, TemplatesWithin, more-within}
 use Rattle.judgements.specs.CheckSorts.{isClosed, areClosed, sortOf, isSorted, fill}
 use Rattle.judgements.specs.Scopes.{Scope}
 use Rattle.judgements.specs.Judgements.{Has, has-first, has-later, Fits, fits-equal, fits-binder, Sorted, by-variable, by-global, by-label}
-use Rattle.judgements.specs.Judgements.{by-constructor, Fill, fill-none, fill-more}
+use Rattle.judgements.specs.Judgements.{by-constructor, by-unit, Fill, fill-none, fill-more}
 
 -- ------------------------------------------------------------------ tests
 
@@ -78,6 +79,7 @@ module _ (scope : Scope) (L : List ℕ) where
     sorted-rule (outsideVar x) w c s = by-global (ltb-true x (scope .outsides) c)
     sorted-rule (outsideLabel x) w c s = by-label (ltb-true x (scope .outsides) c)
     sorted-rule (make k ts) (make-within l h e ws) c s = by-constructor l h (fill-rule ts (constructor k .params) ws c s)
+    sorted-rule Table.unit w c s = by-unit
 
     -- templates that fill places fill them by the rules
     pub fill-rule :
@@ -102,6 +104,7 @@ module _ (scope : Scope) (L : List ℕ) where
     rule-sorted (outsideVar x) (by-global h) = (lt-ltb x (scope .outsides) h, refl, refl)
     rule-sorted (outsideLabel x) (by-label h) = (lt-ltb x (scope .outsides) h, refl, refl)
     rule-sorted (make c ts) (by-constructor l u h) = let f = rule-fill ts h in (f .0, f .1, refl)
+    rule-sorted Table.unit by-unit = (refl, refl, refl)
 
     -- templates that fill places by the rules fill them
     pub rule-fill :

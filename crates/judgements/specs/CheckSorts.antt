@@ -9,8 +9,9 @@ use Rattle.answers.specs.Checked.{Checked, ok, _>>=_, _>>_, need}
 use Rattle.spellings.specs.Bytes.{same}
 use Rattle.grammar.specs.Sorts.{Signature, gives, unit, var, binder, label, term, num, constructor}
 use Rattle.grammar.specs.SortTests.{fits}
+use Rattle.grammar.specs.Table as Table
 use Rattle.grammar.specs.Table.{Template, Templates, variable, outsideVar, outsideLabel, make, none, more, keyword, ide, number, Item, terminal, local, call}
-use Rattle.grammar.specs.Table.{Alternative, Mode, add, extend, update, DefinitionOf, Definition, Table}
+use Rattle.grammar.specs.Table.{place, Alternative, Mode, add, extend, update, DefinitionOf, Definition, Table}
 use Rattle.grammar.specs.Written.{WrittenResult, template, WrittenAlternative, WrittenDefinition, Written, withAlternatives}
 use Rattle.grammar.specs.Values.{itemValue, headValue}
 use Rattle.judgements.specs.Sizes.{fieldSize, spellingsSize, itemsSize, alternativeSize, definitionSize, definitionsSize}
@@ -62,6 +63,7 @@ unfoldable mutual
   isClosed (outsideVar x) G n = ltb x (G .outsides)
   isClosed (outsideLabel x) G n = ltb x (G .outsides)
   isClosed (make c ts) G n = areClosed ts G n
+  isClosed Table.unit G n = true
 
   pub areClosed : Templates → Scope → ℕ → Bool
   areClosed none G n = true
@@ -73,6 +75,7 @@ sortOf (variable i) L = getD L i unit
 sortOf (outsideVar x) L = var
 sortOf (outsideLabel x) L = label
 sortOf (make c ts) L = constructor c .result
+sortOf Table.unit L = unit
 
 -- the arguments of every constructor in a template fit their places
 unfoldable mutual
@@ -81,6 +84,7 @@ unfoldable mutual
   isSorted (outsideVar x) L = true
   isSorted (outsideLabel x) L = true
   isSorted (make c ts) L = fill ts L (constructor c .params)
+  isSorted Table.unit L = true
 
   -- templates fill places one by one: as many, and each sorted and fitting
   pub fill : Templates → List ℕ → List ℕ → Bool
@@ -94,6 +98,7 @@ abbrev pub checkItem : Scope → List ℕ → ℕ → Item → Checked ℕ
 checkItem G L at (terminal (keyword k)) = need (ltb k (G .keywords)) 9 at >> ok unit
 checkItem G L at (terminal (ide s)) = ok s
 checkItem G L at (terminal number) = ok num
+checkItem G L at (terminal (place s)) = ok s
 checkItem G L at local = ok binder
 checkItem G L at (call n ts) =
     need (isDefined (G .env) n && areClosed ts G (length L)) 9 at

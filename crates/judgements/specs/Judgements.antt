@@ -11,7 +11,9 @@ use Prim.Native.Nat.{ℕ, suc, _≤_, _<_}
 use mathlib.Core.Path.{_≡_}
 use mathlib.Core.List.{List, [], _∷_, _++_}
 use Rattle.grammar.specs.Sorts.{Signature, unit, var, binder, label, num, constructor}
-use Rattle.grammar.specs.Table.{Template, Templates, variable, outsideVar, outsideLabel, make, none, more, keyword, ide, number, Item, terminal, local, call}
+use Rattle.grammar.specs.Table as Table
+use Rattle.grammar.specs.Table.{Template, Templates, variable, outsideVar, outsideLabel, make, none, more}
+use Rattle.grammar.specs.Table.{keyword, ide, number, place, Item, terminal, local, call}
 use Rattle.grammar.specs.Table.{add, extend, update, DefinitionOf}
 use Rattle.judgements.specs.Scopes.{Declaration, Env, entryOf, Scope}
 
@@ -45,7 +47,7 @@ pub data Fits : ℕ → ℕ → Type 0 where
 
 -- ------------------------------------------------------------------ E; L ⊢ p : B
 
--- Templates, where N outside names are defined: x, global(x), 01's outside name as a Label, and c(p1, .., pk), c being 20 to 27.
+-- Templates, where N outside names are defined: x, global(x), 01's outside name as a Label, c(p1, .., pk), c being 20 to 27, and 02's Unit of a text.
 -- Fill: E; L ⊢ pi : Bi for each place, as many templates as places.
 mutual
   pub data Sorted (N : ℕ) (L : List ℕ) : Template → ℕ → Type 0 where
@@ -63,6 +65,7 @@ mutual
         → c ≤ 0x27
         → Fill N L ts (constructor c .params)
         → Sorted N L (make c ts) (constructor c .result)
+    by-unit : Sorted N L Table.unit unit
 
   pub data Fill (N : ℕ) (L : List ℕ) : Templates → List ℕ → Type 0 where
     fill-none : Fill N L none []
@@ -72,7 +75,7 @@ mutual
         → Fill N L ts Bs
         → Fill N L (more t ts) (B ∷ Bs)
 
--- items: "x", ide(B) where B ∈ {Var, Binder, Label}, 01's number, local, and x(p1, .., pk)
+-- items: "x", ide(B) where B ∈ {Var, Binder, Label}, 01's number, 02's pattern place of a sort, local, and x(p1, .., pk)
 pub data ItemSorted (G : Scope) (L : List ℕ) : Item → ℕ → Type 0 where
   by-keyword : {k : ℕ}
       → k < G .keywords
@@ -82,6 +85,9 @@ pub data ItemSorted (G : Scope) (L : List ℕ) : Item → ℕ → Type 0 where
       → B ≤ label
       → ItemSorted G L (terminal (ide B)) B
   by-number : ItemSorted G L (terminal number) num
+  by-place : {B : ℕ}
+      → B ≤ num
+      → ItemSorted G L (terminal (place B)) B
   by-local : ItemSorted G L local binder
   by-call : {n : ℕ} {S : Signature} {ts : Templates}
       → Newest (G .env) n S

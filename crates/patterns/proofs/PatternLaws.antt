@@ -5,24 +5,24 @@ use mathlib.Core.Bool.{Bool, true, false, not, _||_, true≢false}
 use mathlib.Core.List.{List, [], _∷_}
 use native.Mathlib.Omega.{arith}
 use lib.Dec.{eqb}
-use borrow.Author.Tests.{eqb-true}
+use borrow.Author.Tests.{eqb-true, leb-true}
 use lib.Bits.{bitOr, or-zero-r}
 use lib.ListN.{length, getD, set, replicate, length-set}
 use Rattle.kinds.specs.Kinds.{hasKind, only}
-use Rattle.grammar.specs.SortTests.{isIdeSort}
-use Rattle.grammar.specs.Table.{keyword, ide, number, Item, terminal, local, call}
+use Rattle.grammar.specs.SortTests.{isSort, isIdeSort}
+use Rattle.grammar.specs.Table.{keyword, ide, number, place, Item, terminal, local, call}
 use Rattle.grammar.specs.Lookup.{fieldAt, fieldsAt}
 use Rattle.productions.specs.Normal.{Production}
 use Rattle.productions.specs.Index.{itemsOf, productionAt, productionsBy}
 use Rattle.productions.specs.declared.Terminal.{Terminal}
-use Rattle.productions.specs.declared.Terminal.the-variants.{Keyword, Ide, Number}
+use Rattle.productions.specs.declared.Terminal.the-variants.{Keyword, Ide, Number, Place}
 use Rattle.productions.specs.declared.Symbol.{Symbol}
 use Rattle.productions.specs.declared.Symbol.the-variants.{Read, Local, Call}
 use Rattle.productions.specs.declared.SymbolStep.the-variants.{Done, Past}
 use Rattle.productions.specs.Symbols.{terminalIn, symbolOf, withSymbol, symbolStep}
 use Rattle.productions.proofs.SymbolLaws.{stepped, step-less, items-end}
 use Rattle.firsts.specs.FirstSets.{rounds, overAll, isNullable, joined, gather, firstStep, setsOf}
-use Rattle.firsts.specs.Patterns.{onlyIf, patternOf, patternSets}
+use Rattle.firsts.specs.Patterns.{onlyIf, placeBit, patternOf, patternSets}
 use Rattle.firsts.proofs.StepLaws.{Over, over-start, over-next, over-end, join-past}
 use Rattle.patterns.specs.Grown.{Grown}
 
@@ -36,6 +36,19 @@ bit-known sort e t b = rw (sym e ∙ t) b
 pub bit-unknown : (sort : ℕ) {known : Bool} → known ≡ isIdeSort sort → known ≡ false → 0 ≡ onlyIf (isIdeSort sort) sort
 bit-unknown sort e t = rw (sym e ∙ t) refl
 
+-- A place's sort is small,
+pub sort-small : (sort : ℕ) {known : Bool} → known ≡ isSort sort → known ≡ true → sort ≤ 6
+sort-small sort e t = leb-true sort 6 (sym e ∙ t)
+
+-- so that it has its bit,
+pub place-known : (sort : ℕ) {known : Bool} → known ≡ isSort sort → known ≡ true → {bit : ℕ} → bit ≡ only (placeBit sort)
+    → bit ≡ onlyIf (isSort sort) (placeBit sort)
+place-known sort e t b = rw (sym e ∙ t) b
+
+-- and what is none has nothing.
+pub place-unknown : (sort : ℕ) {known : Bool} → known ≡ isSort sort → known ≡ false → 0 ≡ onlyIf (isSort sort) (placeBit sort)
+place-unknown sort e t = rw (sym e ∙ t) refl
+
 module _ {read : Terminal} where
   -- A keyword gives nothing,
   pub pattern-keyword : {k : ℕ} → read ≡ Keyword k → 0 ≡ patternOf (terminal (terminalIn read))
@@ -45,9 +58,14 @@ module _ {read : Terminal} where
   pub pattern-ide : {sort : ℕ} → read ≡ Ide sort → {bit : ℕ} → bit ≡ onlyIf (isIdeSort sort) sort → bit ≡ patternOf (terminal (terminalIn read))
   pattern-ide e b = rw e b
 
-  -- a number nothing.
+  -- a number nothing,
   pub pattern-number : read ≡ Number → 0 ≡ patternOf (terminal (terminalIn read))
   pattern-number e = rw e refl
+
+  -- a place its own.
+  pub pattern-place : {sort : ℕ} → read ≡ Place sort → {bit : ℕ} → bit ≡ onlyIf (isSort sort) (placeBit sort)
+      → bit ≡ patternOf (terminal (terminalIn read))
+  pattern-place e b = rw e b
 
 module _ (sets : List ℕ) (found : ℕ) {symbol : Symbol} where
   -- A terminal gives what it reads a variable at,
@@ -83,6 +101,7 @@ item-by : (sets : List ℕ) (found : ℕ) (item : Item) → joined patternOf set
 item-by sets found (terminal (keyword k)) = refl
 item-by sets found (terminal (ide s)) = refl
 item-by sets found (terminal number) = refl
+item-by sets found (terminal (place s)) = refl
 item-by sets found local = refl
 item-by sets found (call n ts) = refl
 

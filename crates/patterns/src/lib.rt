@@ -17,14 +17,17 @@ use productions::items::item_at;
 ghost use mathlib.Core.Path.{_≡_};
 ghost use lib.Bits.{bitOr};
 ghost use lib.ListN.{getD, set};
-ghost use Rattle.grammar.specs.SortTests.{isIdeSort};
+ghost use Rattle.grammar.specs.SortTests.{isSort, isIdeSort};
 ghost use Rattle.grammar.specs.Table.{terminal};
 ghost use Rattle.grammar.specs.Lookup.{fieldsAt};
 ghost use Rattle.productions.specs.Index.{itemsOf, productionAt, productionsBy};
 ghost use Rattle.productions.specs.Symbols.{terminalIn, withSymbol};
 ghost use Rattle.firsts.specs.FirstSets.{isNullable, joined, gather, firstStep, overAll};
-ghost use Rattle.firsts.specs.Patterns.{onlyIf, patternOf, patternSets};
+ghost use Rattle.firsts.specs.Patterns.{onlyIf, placeBit, patternOf, patternSets};
 ghost use Rattle.patterns.specs.Grown.{Grown};
+
+// The bit of a pattern place of sort 0.
+const PLACE_BIT: u8 = 8;
 
 // The bit of an ide of a sort, of one that the layout passes.
 fn ide_bit(sort: u8) -> u64
@@ -32,6 +35,14 @@ fn ide_bit(sort: u8) -> u64
 {
     let known = Sort::is_ide_code(sort);
     if known { only(sort) } else { 0 }
+}
+
+// The bit of a pattern place of a sort, of one that the layout passes.
+fn place_bit(sort: u8) -> u64
+    ensures { λ r. ⌜ r ≡ onlyIf (isSort sort) (placeBit sort) ⌝ }
+{
+    let known = Sort::is_code(sort);
+    if known { only(PLACE_BIT + sort) } else { 0 }
 }
 
 // What a terminal gives by itself.
@@ -42,6 +53,7 @@ fn pattern_of(t: Terminal) -> u64
         Terminal::Keyword(_) => 0,
         Terminal::Ide(sort) => ide_bit(sort),
         Terminal::Number => 0,
+        Terminal::Place(sort) => place_bit(sort),
     }
 }
 

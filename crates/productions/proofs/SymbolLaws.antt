@@ -7,14 +7,14 @@ use native.Mathlib.Omega.{arith}
 use lib.Dec.{eqb}
 use borrow.Author.Tests.{eq-eqb, ne-eqb, eqb-true}
 use lib.ListN.{length, getD, drop, List·getD-map}
-use Rattle.grammar.specs.Table.{keyword, ide, number, kindOf, Item, terminal, local, call}
+use Rattle.grammar.specs.Table.{keyword, ide, number, place, kindOf, Item, terminal, local, call}
 use Rattle.grammar.specs.declared.FieldSpan.{FieldSpan}
 use Rattle.grammar.specs.Lookup.{fieldAt, valueIn, fieldsAt}
 use Rattle.grammar.proofs.LookupLaws.{field-lies, Walk, walk-field, walk-end}
 use Rattle.decoding.specs.Prefix.{templatesOf, found}
 use Rattle.decoding.specs.Decode.{itemOf}
 use Rattle.productions.specs.declared.Terminal as Code
-use Rattle.productions.specs.declared.Terminal.the-variants.{Keyword, Ide, Number}
+use Rattle.productions.specs.declared.Terminal.the-variants.{Keyword, Ide, Number, Place}
 use Rattle.productions.specs.declared.Symbol.{Symbol}
 use Rattle.productions.specs.declared.Symbol.the-variants.{Read, Local, Call}
 use Rattle.productions.specs.declared.SymbolStep.{SymbolStep}
@@ -26,7 +26,7 @@ use Rattle.productions.specs.Index.{itemsOf}
 
 -- by its kind and operand
 abbrev symbols : ℕ → List Symbol
-symbols k = Read (Keyword k) ∷ Read (Ide k) ∷ Read Number ∷ Local ∷ Call k ∷ []
+symbols k = Read (Keyword k) ∷ Read (Ide k) ∷ Read Number ∷ Local ∷ Call k ∷ Read (Place k) ∷ []
 
 symbol-by : (value : List ℕ) → symbolOf (itemOf value) ≡ getD (symbols (getD value 1 0)) (getD value 0 0) (Read Number)
 unfolding itemOf
@@ -34,7 +34,8 @@ symbol-by value =
     sym
     (List·getD-map symbolOf
     (terminal (keyword (getD value 1 0))
-    ∷ terminal (ide (getD value 1 0)) ∷ terminal number ∷ local ∷ call (getD value 1 0) (found (templatesOf (drop 2 value))) ∷ [])
+    ∷ terminal (ide (getD value 1 0))
+    ∷ terminal number ∷ local ∷ call (getD value 1 0) (found (templatesOf (drop 2 value))) ∷ terminal (place (getD value 1 0)) ∷ [])
     (getD value 0 0)
     (terminal number))
 
@@ -48,20 +49,27 @@ symbol-is value kind operand code ek eo e =
 pub symbol-other : (value : List ℕ) (kind operand : ℕ) → kind ≡ getD value 0 0 → operand ≡ getD value 1 0 → (kind ≡ 0 → ⊥) → (kind ≡ 1 → ⊥)
     → (kind ≡ 3 → ⊥)
     → (kind ≡ 4 → ⊥)
+    → (kind ≡ 5 → ⊥)
     → Read Number ≡ symbolOf (itemOf value)
-symbol-other value kind operand ek eo n0 n1 n3 n4 = sym (other kind n0 n1 n3 n4) ∙ symbol-is value kind operand kind ek eo refl
+symbol-other value kind operand ek eo n0 n1 n3 n4 n5 = sym (other kind n0 n1 n3 n4 n5) ∙ symbol-is value kind operand kind ek eo refl
   where
-    other : (code : ℕ) → (code ≡ 0 → ⊥) → (code ≡ 1 → ⊥) → (code ≡ 3 → ⊥) → (code ≡ 4 → ⊥) → getD (symbols operand) code (Read Number) ≡ Read Number
-    other zero a b c d = absurd (a refl)
-    other (suc zero) a b c d = absurd (b refl)
-    other (suc (suc zero)) a b c d = refl
-    other (suc (suc (suc zero))) a b c d = absurd (c refl)
-    other (suc (suc (suc (suc zero)))) a b c d = absurd (d refl)
-    other (suc (suc (suc (suc (suc code))))) a b c d = refl
+    other : (code : ℕ) → (code ≡ 0 → ⊥) → (code ≡ 1 → ⊥) → (code ≡ 3 → ⊥) → (code ≡ 4 → ⊥) → (code ≡ 5 → ⊥)
+        → getD (symbols operand) code (Read Number) ≡ Read Number
+    other zero a b c d e = absurd (a refl)
+    other (suc zero) a b c d e = absurd (b refl)
+    other (suc (suc zero)) a b c d e = refl
+    other (suc (suc (suc zero))) a b c d e = absurd (c refl)
+    other (suc (suc (suc (suc zero)))) a b c d e = absurd (d refl)
+    other (suc (suc (suc (suc (suc zero))))) a b c d e = absurd (e refl)
+    other (suc (suc (suc (suc (suc (suc code)))))) a b c d e = refl
 
 -- the kind of a keyword
 pub keyword-kind : {t : Code.Terminal} {k : ℕ} → t ≡ Keyword k → k + 2 ≡ kindOf (terminalIn t)
 keyword-kind e = rw e refl
+
+-- the kind of a pattern place
+pub place-kind : {t : Code.Terminal} {s : ℕ} → t ≡ Place s → 65 + s ≡ kindOf (terminalIn t)
+place-kind e = rw e refl
 
 -- ------------------------------------------------------------------ what stands at an offset
 

@@ -1,7 +1,6 @@
 -- The normalized grammar of a sequence: 001, section 4.2, gseq ⇝ g; document 01, "Normalizing".
 use Prim.Native.Nat.{ℕ}
-use mathlib.Core.Bool.{true, false}
-use mathlib.Core.List.{List, [], _∷_, _++_}
+use mathlib.Core.{Bool.true, Bool.false, List.List, List.[], List._∷_, List._++_}
 use lib.Dec.{eqb}
 use Rattle.grammar.specs.Table.{Template, Item, Alternative, Mode, add, extend, update, Definition}
 

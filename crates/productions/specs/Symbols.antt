@@ -3,12 +3,12 @@ use Prim.Native.Nat.{ℕ}
 use mathlib.Core.Bool.{true, false}
 use mathlib.Core.List.{List}
 use lib.Dec.{eqb}
-use Rattle.grammar.specs.Table.{none, Terminal, keyword, ide, number, Item, terminal, local, call}
+use Rattle.grammar.specs.Table.{none, Terminal, keyword, ide, number, place, Item, terminal, local, call}
 use Rattle.grammar.specs.declared.FieldSpan.{FieldSpan}
 use Rattle.grammar.specs.Lookup.{valueIn}
 use Rattle.decoding.specs.Decode.{itemOf}
 use Rattle.productions.specs.declared.Terminal as Code
-use Rattle.productions.specs.declared.Terminal.the-variants.{Keyword, Ide, Number}
+use Rattle.productions.specs.declared.Terminal.the-variants.{Keyword, Ide, Number, Place}
 use Rattle.productions.specs.declared.Symbol.{Symbol}
 use Rattle.productions.specs.declared.Symbol.the-variants.{Read, Local, Call}
 use Rattle.productions.specs.declared.SymbolStep.{SymbolStep}
@@ -19,12 +19,14 @@ abbrev pub asRead : Terminal → Code.Terminal
 asRead (keyword k) = Keyword k
 asRead (ide s) = Ide s
 asRead number = Number
+asRead (place s) = Place s
 
 -- and back
 abbrev pub terminalIn : Code.Terminal → Terminal
 terminalIn (Keyword k) = keyword k
 terminalIn (Ide s) = ide s
 terminalIn Number = number
+terminalIn (Place s) = place s
 
 -- an item's symbol
 abbrev pub symbolOf : Item → Symbol

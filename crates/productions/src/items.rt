@@ -7,10 +7,12 @@ use grammar::codes::IDE_ITEM;
 use grammar::codes::ITEM_TAG;
 use grammar::codes::KEYWORD_ITEM;
 use grammar::codes::LOCAL_ITEM;
+use grammar::codes::PLACE_ITEM;
 use grammar::field_at;
 use grammar::reader::byte;
 use kinds::KEYWORD_KIND;
 use kinds::NUMBER_KIND;
+use kinds::VARIABLE_KIND;
 use kinds::WORD_KIND;
 ghost use mathlib.Core.Path.{_≡_};
 ghost use Rattle.grammar.specs.Table.{kindOf};
@@ -29,6 +31,7 @@ fn symbol(v: &[u8]) -> Symbol
         IDE_ITEM => Symbol::Read(Terminal::Ide(operand)),
         LOCAL_ITEM => Symbol::Local,
         CALL_ITEM => Symbol::Call(operand),
+        PLACE_ITEM => Symbol::Read(Terminal::Place(operand)),
         _ => Symbol::Read(Terminal::Number),
     }
 }
@@ -54,5 +57,6 @@ pub fn kind_of(t: Terminal) -> u32
         Terminal::Keyword(k) => k as u32 + KEYWORD_KIND,
         Terminal::Ide(_) => WORD_KIND,
         Terminal::Number => NUMBER_KIND,
+        Terminal::Place(s) => VARIABLE_KIND + s as u32,
     }
 }

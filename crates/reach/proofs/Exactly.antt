@@ -11,7 +11,7 @@ use lib.ListN.{length, getD, set, replicate, length-set, length-replicate, getD-
 use lib.Seq.{getD-set-same, getD-set-other, set-out}
 use Rattle.kinds.specs.Kinds.{hasKind, only, keywordKind, wordKind, numberKind}
 use Rattle.kinds.proofs.KindsLaws.{has-none, has-join}
-use Rattle.grammar.specs.Table.{Templates, Terminal, keyword, ide, number, kindOf, Item, terminal, local, call}
+use Rattle.grammar.specs.Table.{Templates, Terminal, keyword, ide, number, place, kindOf, Item, terminal, local, call}
 use Rattle.decoding.specs.Within.{Among, among-first, among-later}
 use Rattle.productions.specs.Normal.{Production}
 use Rattle.firsts.specs.FirstSets.{overAll, openingOf, callOf}
@@ -226,13 +226,14 @@ module _ (g : List Production) where
           })),
     )
       where
-        by-kind : (t : Terminal) → kindOf t ≡ keywordKind k → t ≡ keyword k
-        by-kind (keyword j) e = let z : j ≡ k = omega (arith, e) in ap keyword z
-        by-kind (ide s) e = absurd (omega (arith, e))
-        by-kind number e = absurd (omega (arith, e))
+        by-kind : (t : Terminal) → kindOf t < 64 → kindOf t ≡ keywordKind k → t ≡ keyword k
+        by-kind (keyword j) l e = let z : j ≡ k = omega (arith, e) in ap keyword z
+        by-kind (ide s) l e = absurd (omega (arith, e))
+        by-kind number l e = absurd (omega (arith, e))
+        by-kind (place s) l e = absurd (omega arith)
 
         read : (item : Item) (kind : ℕ) → kind ≡ keywordKind k → Reads item kind → (item ≡ terminal (keyword k)) × IsKind (keywordKind k)
-        read _ _ e (reads {t = t} l) = (ap terminal (by-kind t e), omega (arith, l, e))
+        read _ _ e (reads {t = t} l) = (ap terminal (by-kind t l e), omega (arith, l, e))
 
         sound : (n : ℕ) × (hasKind (reachedBy (notes callOf g) start) n ≡ true) × (hasKind (getD (notes openingOf g) n 0) (keywordKind k) ≡ true)
             → KeywordReached g start k

@@ -11,11 +11,11 @@ use Rattle.judgements.specs.Judgements.{Sorted, Fill, fill-none, fill-more}
 use Rattle.judgements.specs.Judgements as Judgements
 use Rattle.expansion.specs.declared.State.{State}
 use Rattle.expansion.specs.Expansion.{Input, cell, build, buildAll}
-use Rattle.expansion.specs.Figure3.{Value, Constructs, Gives, by-variable, by-global, by-label, by-constructor, GiveAll, give-none, give-more}
+use Rattle.expansion.specs.Figure3.{Value, Constructs, Gives, by-variable, by-global, by-label, by-constructor, by-unit, GiveAll, give-none, give-more}
 use Rattle.expansion.specs.Costs.{rowsOf, rowsOfAll}
 use Rattle.expansion.proofs.CellLaws.{cell-by}
 use Rattle.expansion.proofs.Endings.{Ends, ends-after, ends-map, Made, Full, nothing-made, made-trans, full-more}
-use Rattle.expansion.proofs.Shows.{IsCode, Shows, shows-var, shows-label, ShowAll, show-none, show-more, shows-later, all-later}
+use Rattle.expansion.proofs.Shows.{IsCode, Shows, shows-var, shows-label, shows-unit, ShowAll, show-none, show-more, shows-later, all-later}
 use Rattle.expansion.proofs.Shows.{shows-bound, row-grown, row-shows, outside-named}
 
 module _ (spell : ℕ → List ℕ) (rows : ℕ) where
@@ -59,6 +59,7 @@ module _ (spell : ℕ → List ℕ) (rows : ℕ) where
       build-ends (Table.outsideVar n) state cells by-global (Judgements.by-global l) small room fit a =
           (nothing-made state cells fit, shows-var (outside-named spell n (omega arith)))
       build-ends (Table.outsideLabel n) state cells by-label w small room fit a = (nothing-made state cells fit, shows-label)
+      build-ends Table.unit state cells by-unit w small room fit a = (nothing-made state cells fit, shows-unit)
       build-ends (Table.make c ts) {value = value} {xs = xs} state cells (by-constructor {vs = vs} g k) (Judgements.by-constructor lo hi w) small room fit a =
           let n : ℕ = rowsOfAll ts in
           ends-after (BuiltAll n state cells vs) (Full rows (state .made + n)) (Built (n + 1) state cells value)

@@ -95,6 +95,7 @@ module _ (rows : ℕ) where
       build-leaves (Table.variable i) values s cells h = stays s s cells refl h
       build-leaves (Table.outsideVar n) values s cells h = stays s s cells refl h
       build-leaves (Table.outsideLabel n) values s cells h = stays s s cells refl h
+      build-leaves Table.unit values s cells h = stays s s cells refl h
       build-leaves (Table.make c ts) values s cells h =
           leaves-after rows (s .made) cells (buildAll ts input values s cells) (λ vs. cell input c vs) (build-all-leaves ts values s cells h)
           (λ vs s′ cells′ l. cell-leaves c vs s′ cells′ l)

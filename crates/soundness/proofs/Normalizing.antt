@@ -13,7 +13,7 @@ use Rattle.grammar.specs.Written.{WrittenAlternative, WrittenDefinition, Writte
 use Rattle.decoding.specs.Within.{Each, each-none, each-more, AlternativeWithin, DefinitionWithin, Within, Among, among-first, among-later}
 use Rattle.judgements.specs.Scopes.{Env, entryOf}
 use Rattle.judgements.specs.Judgements.{Newest, newest-first, newest-later, Undeclared, absent-empty, absent-entry, ItemSorted, by-keyword, by-ide, by-number}
-use Rattle.judgements.specs.Judgements.{by-local, by-call, Body, by-result, by-binding, Defines, no-definition, by-add, by-extend, by-update, scope}
+use Rattle.judgements.specs.Judgements.{by-place, by-local, by-call, Body, by-result, by-binding, Defines, no-definition, by-add, by-extend, by-update, scope}
 use Rattle.judgements.specs.Elaboration.{Bodies, no-alternative, by-choice, Ok, ok-empty, ok-definition, Sequence, no-grammar, by-grammar, Elaborates, scopeOf}
 use Rattle.judgements.proofs.Environments.{newest-defined, newest-signature, absent-undefined}
 use Rattle.judgements.proofs.Elaborated.{body-sorted, made-within}
@@ -101,6 +101,7 @@ module _ (keywords outsides : ℕ) where
   item-more m (by-keyword l) = by-keyword l
   item-more m (by-ide l u) = by-ide l u
   item-more m by-number = by-number
+  item-more m (by-place l) = by-place l
   item-more m by-local = by-local
   item-more m (by-call w f) = by-call (m _ _ w) f
 

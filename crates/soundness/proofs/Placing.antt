@@ -17,7 +17,7 @@ use Rattle.productions.specs.Normal.{Production}
 use Rattle.terms.specs.Term.{Name, Term, Fields}
 use Rattle.terms.specs.Occurrences.{isWordName, isWorded, isWordedFields}
 use Rattle.expansion.specs.Figure3.{Value, unit, var, binder, label, num, term, fields, Constructs, Bound, bound-first, bound-later, Gives, by-variable}
-use Rattle.expansion.specs.Figure3.{by-global, by-label, by-constructor, GiveAll, give-none, give-more, as-var, as-binder, as-label, ReadsAs, by-keyword}
+use Rattle.expansion.specs.Figure3.{by-global, by-label, by-constructor, by-unit, GiveAll, give-none, give-more, as-var, as-binder, as-label, ReadsAs, by-keyword}
 use Rattle.expansion.specs.Figure3.{by-ide, by-number, by-local, Derives, by-end, by-terminal, by-call, Parses}
 use Rattle.expansion.specs.Figure3 as Figure3
 use Rattle.soundness.specs.Places.{Given, word-at, fresh-name, number-at, outside-name, outside-label, namedIn, namedInAll, givenAt, givenIn}
@@ -84,6 +84,7 @@ module _ (given : List Given) (spell : ℕ → List ℕ) where
       gives-from (Table.variable i) a (by-variable b) = bound-from each b
       gives-from (Table.outsideVar n) a by-global = from-var (var-outside (first-of a))
       gives-from (Table.outsideLabel n) a by-label = from-label (label-outside (first-of a))
+      gives-from Table.unit a by-unit = from-unit
       gives-from (Table.make c ts) a (by-constructor g k) = constructs-from k (all-from ts a g)
 
       all-from : (ts : Templates) {vs : List Value} → Each (Among given) (namedInAll ts) → GiveAll spell M ts vs → Each From vs
@@ -141,6 +142,7 @@ module _ {g : List Production} (fit-all : FitAll g) (tokens : List Token) (spell
     named-known (Table.outsideVar n) (Judgements.by-global l) = each-more (supplied-outside l) each-none
     named-known (Table.outsideLabel n) (Judgements.by-label l) = each-more (supplied-label l) each-none
     named-known (Table.make c ts) (Judgements.by-constructor l u f) = all-known ts f
+    named-known Table.unit w = each-none
 
     all-known : {L Bs : List ℕ} (ts : Templates) → Fill N L ts Bs → Each Known (namedInAll ts)
     all-known none fill-none = each-none

@@ -14,7 +14,7 @@ use Rattle.answers.specs.declared.Refusal.{Refusal}
 use Rattle.answers.specs.Refusals.{refusal}
 use Rattle.grammar.specs.Sorts.{Signature}
 use Rattle.grammar.specs.Sorts as Sorts
-use Rattle.grammar.specs.Table.{Template, none, Terminal, keyword, ide, number, kindOf, Item, terminal, call}
+use Rattle.grammar.specs.Table.{Template, none, Terminal, keyword, ide, number, place, kindOf, Item, terminal, call}
 use Rattle.decoding.specs.Within.{Each, each-none, each-more, ItemWithin, call-within}
 use Rattle.judgements.specs.Judgements.{Newest, Fits, Sorted, ItemSorted, Body, by-result, by-binding}
 use Rattle.judgements.specs.Judgements as Judgements
@@ -251,6 +251,8 @@ module _ {g : List Production} (setting : Setting g) where
     item-sound names-left state cells Judgements.by-number z m h a =
         take-ends provides number state cells
         (λ e. taken-as _ _ e (omega arith) h typed-num shows-num (λ is M′ t j d. by-terminal (by-number e) d))
+    item-sound names-left state cells (Judgements.by-place {B = B} l) z m h a =
+        take-ends provides (place B) state cells (λ e. absurd (omega (arith, e, setting .formula (state .at))))
     item-sound names-left {M = M} state cells Judgements.by-local z m h a =
         record {
           value = binder (Rattle.terms.specs.Term.fresh (state .fresh));

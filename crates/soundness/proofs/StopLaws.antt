@@ -85,6 +85,7 @@ module _ (lent : Input) where
     build-stays (Table.variable i) values state cells = refl
     build-stays (Table.outsideVar n) values state cells = refl
     build-stays (Table.outsideLabel n) values state cells = refl
+    build-stays Table.unit values state cells = refl
     build-stays (Table.make c ts) values state cells =
         stays-after state (buildAll ts lent values state cells) (λ vs. cell lent c vs) (build-all-stays ts values state cells)
         (λ vs s′ c′. cell-stays c vs s′ c′)
@@ -176,7 +177,7 @@ module _ {g : List Production} (setting : Setting g) where
       -- an item does
       pub item-bounded : {item : Item} {A : ℕ} {L : List ℕ} (xs : List ℕ) (state : State) (cells : List ℕ) → ItemSorted (F .scope) L item A → ItemWithin item
           → state .at ≤ length tokens → Bounded (runItem called lent item xs state cells)
-      item-bounded {item = terminal t} xs state cells w z h = take-bounded provides t state cells (sorted-kind F w)
+      item-bounded {item = terminal t} xs state cells w z h = take-bounded provides t state cells (sorted-kind F z w)
       item-bounded {item = local} xs state cells w z h = h
       item-bounded {item = call n ts} xs state cells w (call-within l ws) h =
           bounded-after (buildAll ts lent xs state cells) (λ vs. called n vs)

@@ -140,7 +140,7 @@ module _ {g : List Production} (setting : Setting g) where
         → state .at ≤ length tokens → Kept rows (names-left + 1) state cells → ShowAll spell (state .made) cells xs M
         → Ends Fine (StopsAt opened M (item ∷ is) state) (runItem (runCall depth lent) within item xs state cells)
     item-halts names-left {item = terminal t} {M = M} is state cells w z m b h a =
-        take-halts inside opened M is t state cells (reads (sorted-kind F w)) b
+        take-halts inside opened M is t state cells (reads (sorted-kind F z w)) b
     item-halts names-left {item = local} is state cells w z m b h a = tt
     item-halts names-left {item = call _ _} {M = M} {xs = xs} is state cells (Judgements.by-call {n = n} {S = S} {ts = ts} w f) (call-within l ws) m b h a =
         let vs = give-all-exist spell m ts f in

@@ -7,7 +7,7 @@ use lib.ListN.{length}
 use Rattle.grammar.specs.Sorts.{Signature, constructorSignatures, constructor}
 use Rattle.grammar.specs.Table.{Template, Templates, none, more, kindOf, Item, terminal}
 use Rattle.grammar.specs.Table as Table
-use Rattle.decoding.specs.Within.{Each, TemplateWithin, ItemWithin, Among}
+use Rattle.decoding.specs.Within.{Each, TemplateWithin, keyword-within, ide-within, number-within, ItemWithin, terminal-within, Among}
 use Rattle.judgements.specs.CheckSorts.{signatureOf}
 use Rattle.judgements.specs.Scopes.{Scope}
 use Rattle.judgements.specs.Judgements.{Has, has-first, has-later, Newest, Fits, fits-equal, fits-binder, Sorted, Fill, fill-none, fill-more, ItemSorted, Body}
@@ -17,7 +17,7 @@ use Rattle.judgements.proofs.Environments.{newest-signature}
 use Rattle.tokens.specs.declared.Token.{Token}
 use Rattle.productions.specs.Normal.{Production}
 use Rattle.firsts.specs.Rules.{Of}
-use Rattle.expansion.specs.Figure3.{Value, Constructs, Bound, bound-first, bound-later, Gives, by-variable, by-global, by-label, by-constructor, GiveAll}
+use Rattle.expansion.specs.Figure3.{Value, Constructs, Bound, bound-first, bound-later, Gives, by-variable, by-global, by-label, by-constructor, by-unit, GiveAll}
 use Rattle.expansion.specs.Figure3.{give-none, give-more, Taken, taken-opened, taken-nullable, as-var, as-binder, as-label, ReadsAs, by-keyword, by-ide}
 use Rattle.expansion.specs.Figure3.{by-number, by-local, Derives, by-end, by-terminal, by-call}
 use Rattle.expansion.specs.Figure3 as Figure3
@@ -91,6 +91,7 @@ module _ (spell : ℕ → List ℕ) {outsides : ℕ} {M : List Value} {L : List 
     gives-exists (Table.variable i) (Judgements.by-variable h) = let b = bound-exists matches h in (b .0, by-variable (b .1), b .2)
     gives-exists (Table.outsideVar n) (Judgements.by-global h) = (_, by-global, typed-var)
     gives-exists (Table.outsideLabel n) (Judgements.by-label h) = (_, by-label, typed-label)
+    gives-exists Table.unit Judgements.by-unit = (_, by-unit, typed-unit)
     gives-exists (Table.make c ts) (Judgements.by-constructor l h f) =
         let r = give-all-exist ts f in
         let k = constructs-exists c l h (r .2) in
@@ -110,6 +111,7 @@ module _ (spell : ℕ → List ℕ) {outsides : ℕ} {M : List Value} {L : List 
     gives-typed (Table.variable i) (Judgements.by-variable h) (by-variable b) = bound-typed matches h b
     gives-typed (Table.outsideVar n) (Judgements.by-global h) by-global = typed-var
     gives-typed (Table.outsideLabel n) (Judgements.by-label h) by-label = typed-label
+    gives-typed Table.unit Judgements.by-unit by-unit = typed-unit
     gives-typed (Table.make c ts) (Judgements.by-constructor l h f) (by-constructor g k) = constructs-typed k
 
     give-all-typed : {Bs : List ℕ} (ts : Templates) {vs : List Value} → Fill outsides L ts Bs → GiveAll spell M ts vs → Matches vs Bs
@@ -144,12 +146,12 @@ pub record FitAll (g : List Production) : Type 0 where
   -- each production fits it
   pub each : (p : Production) → Among g p → Fit scope p
 
--- a sorted terminal reads a kind
+-- a sorted terminal within the ranges reads a kind
 pub sorted-kind : {g : List Production} (fit-all : FitAll g) {L : List ℕ} {t : Table.Terminal} {A : ℕ}
-    → ItemSorted (fit-all .scope) L (terminal t) A → kindOf t < 64
-sorted-kind fit-all (Judgements.by-keyword l) = omega (arith, l, fit-all .keywordCount)
-sorted-kind fit-all (Judgements.by-ide l u) = omega arith
-sorted-kind fit-all Judgements.by-number = omega arith
+    → ItemWithin (terminal t) → ItemSorted (fit-all .scope) L (terminal t) A → kindOf t < 64
+sorted-kind fit-all (terminal-within (keyword-within k)) (Judgements.by-keyword l) = omega (arith, l, fit-all .keywordCount)
+sorted-kind fit-all (terminal-within (ide-within k h)) s = omega arith
+sorted-kind fit-all (terminal-within number-within) s = omega arith
 
 -- what a terminal gives has its sort
 terminal-typed : {g : List Production} {spell : ℕ → List ℕ} {scope : Scope} {L : List ℕ} {s s′ : List Token} {i i′ : ℕ} {p : Item} {value : Value} {A : ℕ}

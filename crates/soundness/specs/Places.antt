@@ -41,6 +41,7 @@ unfoldable mutual
   namedIn (Table.outsideVar n) = outside-name n ∷ []
   namedIn (Table.outsideLabel n) = outside-label n ∷ []
   namedIn (Table.make c ts) = namedInAll ts
+  namedIn Table.unit = []
 
   pub namedInAll : Templates → List Given
   namedInAll none = []

@@ -31,16 +31,17 @@ module _ (kind operand : ℕ) (ts : Templates) where
   item-is : (code : ℕ) → kind ≡ code → itemBy code operand ts ≡ itemBy kind operand ts
   item-is code e = ap (λ (n : ℕ). itemBy n operand ts) (sym e)
 
-  item-other : (kind ≡ 0 → ⊥) → (kind ≡ 1 → ⊥) → (kind ≡ 3 → ⊥) → (kind ≡ 4 → ⊥) → terminal number ≡ itemBy kind operand ts
-  item-other n0 n1 n3 n4 = sym (other kind n0 n1 n3 n4)
+  item-other : (kind ≡ 0 → ⊥) → (kind ≡ 1 → ⊥) → (kind ≡ 3 → ⊥) → (kind ≡ 4 → ⊥) → (kind ≡ 5 → ⊥) → terminal number ≡ itemBy kind operand ts
+  item-other n0 n1 n3 n4 n5 = sym (other kind n0 n1 n3 n4 n5)
     where
-      other : (code : ℕ) → (code ≡ 0 → ⊥) → (code ≡ 1 → ⊥) → (code ≡ 3 → ⊥) → (code ≡ 4 → ⊥) → itemBy code operand ts ≡ terminal number
-      other zero a b c d = absurd (a refl)
-      other (suc zero) a b c d = absurd (b refl)
-      other (suc (suc zero)) a b c d = refl
-      other (suc (suc (suc zero))) a b c d = absurd (c refl)
-      other (suc (suc (suc (suc zero)))) a b c d = absurd (d refl)
-      other (suc (suc (suc (suc (suc code))))) a b c d = refl
+      other : (code : ℕ) → (code ≡ 0 → ⊥) → (code ≡ 1 → ⊥) → (code ≡ 3 → ⊥) → (code ≡ 4 → ⊥) → (code ≡ 5 → ⊥) → itemBy code operand ts ≡ terminal number
+      other zero a b c d e = absurd (a refl)
+      other (suc zero) a b c d e = absurd (b refl)
+      other (suc (suc zero)) a b c d e = refl
+      other (suc (suc (suc zero))) a b c d e = absurd (c refl)
+      other (suc (suc (suc (suc zero)))) a b c d e = absurd (d refl)
+      other (suc (suc (suc (suc (suc zero))))) a b c d e = absurd (e refl)
+      other (suc (suc (suc (suc (suc (suc code)))))) a b c d e = refl
 
   module _ (callee : ℕ → List ℕ → Run ℕ) (input : Input) (values : List ℕ) (state : State) (cells : List ℕ) where
     runs : {item : Item} → item ≡ itemBy kind operand ts → {result : Result ℕ} → result ≡ runItem callee input item values state cells
@@ -74,11 +75,16 @@ module _ (kind operand : ℕ) (ts : Templates) where
           elim (eqb (nextToken input state .kind) token-kind) [ true ↦ done x (tokenTaken state) cells | false ↦ misfit (only token-kind) state cells ])
           e
 
+      -- Kind 5: a pattern place.
+      pub place-read : kind ≡ 5 → {result : Result ℕ} → result ≡ Expansion.takeToken input (65 + operand) (λ x. value) state cells
+          → result ≡ runItem callee input (itemBy kind operand ts) values state cells
+      place-read e f = runs (item-is 5 e) (f ∙ retaken (65 + operand) value (λ x. x) value-is)
+
       -- Any other kind but 4: a number.
-      pub number-read : (kind ≡ 0 → ⊥) → (kind ≡ 1 → ⊥) → (kind ≡ 3 → ⊥) → (kind ≡ 4 → ⊥) → {result : Result ℕ}
+      pub number-read : (kind ≡ 0 → ⊥) → (kind ≡ 1 → ⊥) → (kind ≡ 3 → ⊥) → (kind ≡ 4 → ⊥) → (kind ≡ 5 → ⊥) → {result : Result ℕ}
           → result ≡ Expansion.takeToken input 1 (λ x. value) state cells
           → result ≡ runItem callee input (itemBy kind operand ts) values state cells
-      number-read n0 n1 n3 n4 f = runs (item-other n0 n1 n3 n4) (f ∙ retaken 1 value (λ x. x) value-is)
+      number-read n0 n1 n3 n4 n5 f = runs (item-other n0 n1 n3 n4 n5) (f ∙ retaken 1 value (λ x. x) value-is)
 
     -- a call, after its arguments
     call-read : kind ≡ 4 → {result : Result (List ℕ)} → buildAll ts input values state cells ≡ result

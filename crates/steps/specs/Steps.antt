@@ -7,7 +7,7 @@ use lib.ListN.{length, getD}
 use Rattle.answers.specs.declared.Refusal.{Refusal}
 use Rattle.answers.specs.Refusals.{refusal}
 use Rattle.grammar.specs.Limits.{most}
-use Rattle.grammar.specs.Table.{Templates, none, keyword, ide, number, Item, terminal, local, call}
+use Rattle.grammar.specs.Table.{Templates, none, keyword, ide, number, place, Item, terminal, local, call}
 use Rattle.tokens.specs.declared.Token.{Token}
 use Rattle.scanner.specs.Rooms.{tokensIn, TokensFit}
 use Rattle.expansion.specs.declared.State.{State}
@@ -118,7 +118,8 @@ pub record GivesFresh (s : State) (r : Outcome) : Type 0 where
 -- the item with a kind and an operand, and the templates of a call
 abbrev pub itemBy : ℕ → ℕ → Templates → Item
 itemBy kind operand ts =
-    getD (terminal (keyword operand) ∷ terminal (ide operand) ∷ terminal number ∷ local ∷ call operand ts ∷ []) kind (terminal number)
+    getD (terminal (keyword operand) ∷ terminal (ide operand) ∷ terminal number ∷ local ∷ call operand ts ∷ terminal (place operand) ∷ []) kind
+    (terminal number)
 
 -- what an item that is no call answers
 pub record ReadsItem (tokens : List ℕ) (kind operand : ℕ) (s : State) (r : Outcome) : Type 0 where

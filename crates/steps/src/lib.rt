@@ -14,9 +14,11 @@ use grammar::codes::IDE_ITEM;
 use grammar::codes::ITEM_TAG;
 use grammar::codes::KEYWORD_ITEM;
 use grammar::codes::LOCAL_ITEM;
+use grammar::codes::PLACE_ITEM;
 use grammar::limits::MOST_VARIABLES;
 use kinds::KEYWORD_KIND;
 use kinds::NUMBER_KIND;
+use kinds::VARIABLE_KIND;
 use scanner::room::TOKEN;
 use scanner::room::value_at;
 use spellings::wide_byte;
@@ -98,6 +100,7 @@ fn read_item(tokens: &[u32], kind: u8, operand: u8, s: State) -> Outcome
         KEYWORD_ITEM => take(tokens, operand as u32 + KEYWORD_KIND, 0, s),
         IDE_ITEM => take_ide(tokens, operand, s),
         LOCAL_ITEM => fresh_name(s),
+        PLACE_ITEM => take(tokens, VARIABLE_KIND + operand as u32, value, s),
         _ => take(tokens, NUMBER_KIND, value, s),
     }
 }

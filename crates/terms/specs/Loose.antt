@@ -1,7 +1,6 @@
 -- The first fresh variable under no binder made with it: refusal 23. Document 01, "Printing" and cause 23.
 use Prim.Native.Nat.{ℕ, suc}
-use mathlib.Core.Bool.{Bool, true, false, _||_}
-use mathlib.Core.List.{List, [], _∷_}
+use mathlib.Core.{Bool.Bool, Bool.true, Bool.false, Bool._||_, List.List, List.[], List._∷_}
 use Rattle.terms.specs.Term.{Name, word, fresh, outside, Term, Fields, variable, function, apply, rcd, dot, number, nil, cons}
 use Rattle.terms.specs.Rename.{belongs}
 

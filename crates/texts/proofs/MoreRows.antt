@@ -13,7 +13,7 @@ use Rattle.answers.specs.declared.Refusal.{Refusal}
 use Rattle.answers.specs.Refusals.{refusal}
 use Rattle.kinds.specs.Kinds.{only}
 use Rattle.grammar.specs.Sorts.{constructor}
-use Rattle.grammar.specs.Table.{Template, Templates, variable, outsideVar, outsideLabel, make, none, more, Terminal, kindOf, Item, terminal, local, call}
+use Rattle.grammar.specs.Table.{Template, Templates, variable, outsideVar, outsideLabel, make, unit, none, more, Terminal, kindOf, Item, terminal, local, call}
 use Rattle.terms.specs.Cells.{columns, column, rowNumbers}
 use Rattle.tokens.specs.declared.Token.{Token}
 use Rattle.expansion.specs.declared.State.{State}
@@ -206,6 +206,7 @@ module _ (P : ℕ → Type 0) (rows rows′ : ℕ) (fewer : rows ≤ rows′) wh
       build-alike (variable i) M s cells cells′ h = both-done h
       build-alike (outsideVar n) M s cells cells′ h = both-done h
       build-alike (outsideLabel n) M s cells cells′ h = both-done h
+      build-alike unit M s cells cells′ h = both-done h
       build-alike (make c ts) M s cells cells′ h = after-alike _ _ (all-alike ts M s cells cells′ h) (λ vs. cell-alike c vs)
 
       all-alike : (ts : Templates) (M : List ℕ) → Widens (buildAll ts lent M) (buildAll ts lent′ M)

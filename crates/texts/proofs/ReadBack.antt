@@ -11,13 +11,14 @@ use Rattle.spellings.proofs.BytesLaws.{every-at}
 use Rattle.grammar.specs.Sorts.{constructor}
 use Rattle.grammar.proofs.SortLaws.{results}
 use Rattle.grammar.specs.Table.{Template, Templates, variable, outsideVar, outsideLabel, make, none, more}
+use Rattle.grammar.specs.Table as Table
 use Rattle.terms.specs.Cells.{nameBase, outsideName}
 use Rattle.judgements.specs.Judgements.{Has, has-first, has-later, Fits, fits-equal, fits-binder, Sorted, Fill, fill-none, fill-more}
 use Rattle.judgements.specs.Judgements as Judgements
 use Rattle.copying.specs.RowTemplates.{isVariableName, isRowSort, valueTemplate, columnTemplates, rowTemplate, textTemplate}
 use Rattle.tokens.specs.Variables.{variableName}
-use Rattle.copying.proofs.ValueLaws.{at-variable, at-row, at-name, at-plain}
-use Rattle.texts.proofs.Showing.{ShowsTemplate, ColumnsShow, shows-variable, shows-var, shows-label, shows-make, no-column, one-column}
+use Rattle.copying.proofs.ValueLaws.{at-variable, at-row, at-name, at-unit, at-plain}
+use Rattle.texts.proofs.Showing.{ShowsTemplate, ColumnsShow, shows-variable, shows-var, shows-label, shows-unit, shows-make, no-column, one-column}
 
 -- a variable that has a sort is one of the environment's
 pub has-below : {L : List ℕ} {i B : ℕ} → Has L i B → i < length L
@@ -56,6 +57,8 @@ module _ {N : ℕ} {L : List ℕ} (few : N ≤ nameBase) (short : length L ≤ n
         at-name (λ q. rowTemplate depth cells q) 1 (outsideName n) (no-variable (outsideName n) (omega arith)) refl refl ∙ ap outsideVar number
     read-back (outsideLabel n) {depth = depth} l d shows-label (Judgements.by-label h) fits-equal =
         at-plain (λ q. rowTemplate depth cells q) 3 n (no-variable n (omega arith)) refl refl refl
+    read-back Table.unit {depth = depth} l d shows-unit Judgements.by-unit fits-equal =
+        at-unit (λ q. rowTemplate depth cells q) 0 0 refl refl refl refl
     read-back (make c ts) {depth = zero} l d (shows-make h e cs) w f = absurd (omega arith)
     read-back (make c ts) {depth = suc k} {B = B} l d (shows-make {row = row} h e cs) (Judgements.by-constructor lo hi w) f =
         at-row (λ q. rowTemplate (suc k) cells q) B row (no-variable row (omega arith)) (row-place (result-sort c hi) f)

@@ -6,7 +6,7 @@ use mathlib.Core.List.{List, [], _∷_, _++_, append-assoc}
 use native.Mathlib.Omega.{arith}
 use lib.ListN.{length, getD, take, drop, length-append, List·getD-append}
 use lib.Seq.{sets-eq, length-take-le, getD-append-add, getD-at}
-use Rattle.grammar.specs.Table.{Template, Templates, variable, outsideVar, outsideLabel, make, none, more}
+use Rattle.grammar.specs.Table.{Template, Templates, variable, outsideVar, outsideLabel, make, unit, none, more}
 use Rattle.grammar.proofs.ReaderLaws.{arity-few}
 use Rattle.terms.specs.Cells.{columns, column, outsideName}
 use Rattle.judgements.specs.Judgements.{Sorted, Fill, fill-none, fill-more}
@@ -17,7 +17,6 @@ use Rattle.expansion.specs.Costs.{rowsOf, rowsOfAll}
 use Rattle.expansion.proofs.CellLaws.{withRow, filled, Row, cell-by}
 use Rattle.expansion.proofs.Endings.{Ends, ends-after, ends-map, Made, Full, nothing-made, made-trans, full-more}
 use Rattle.expansion.proofs.Shows.{Agree, IsCode, Grown, row-grown}
-use Rattle.copying.specs.RowTemplates.{unitTemplate}
 use Rattle.tokens.specs.Variables.{variableName}
 use Rattle.texts.specs.Substitution.{substitute, substituteAll, templateList}
 
@@ -29,6 +28,7 @@ mutual
     shows-variable : {made n : ℕ} → ShowsTemplate cells made (variableName n) (variable n)
     shows-var : {made n : ℕ} → ShowsTemplate cells made (outsideName n) (outsideVar n)
     shows-label : {made n : ℕ} → ShowsTemplate cells made n (outsideLabel n)
+    shows-unit : {made : ℕ} → ShowsTemplate cells made 0 unit
     shows-make : {made row c : ℕ} {ts : Templates} → row < made → column cells row 0 ≡ c → ColumnsShow cells row 1 ts
         → ShowsTemplate cells made row (make c ts)
 
@@ -44,6 +44,7 @@ shows-more : {made made′ : ℕ} {cells : List ℕ} {x : ℕ} (t : Template) �
 shows-more (variable n) l shows-variable = shows-variable
 shows-more (outsideVar n) l shows-var = shows-var
 shows-more (outsideLabel n) l shows-label = shows-label
+shows-more unit l shows-unit = shows-unit
 shows-more {made′ = made′} (make c ts) l (shows-make {row = row} h e cs) = shows-make {made = made′} {row = row} (omega arith) e cs
 
 fewer : {made made′ : ℕ} {cells cells′ : List ℕ} → made ≤ made′ → Agree made′ cells cells′ → Agree made cells cells′
@@ -56,6 +57,7 @@ mutual
   shows-agree (variable n) a shows-variable = shows-variable
   shows-agree (outsideVar n) a shows-var = shows-var
   shows-agree (outsideLabel n) a shows-label = shows-label
+  shows-agree unit a shows-unit = shows-unit
   shows-agree {made = made} (make c ts) a (shows-make {row = row} h e cs) =
       shows-make {made = made} h (a .same (row * columns + 0) (omega arith) ∙ e) (columns-agree ts h a cs)
 
@@ -84,8 +86,8 @@ all-later g (show-more h hs) = show-more (shows-later g h) (all-later g hs)
 
 -- a variable's value is shown at its place; past the last it is a Unit
 shows-bound : {made : ℕ} {cells : List ℕ} {xs : List ℕ} {M : List Template} (i : ℕ) → ShowTemplates made cells xs M
-    → ShowsTemplate cells made (getD xs i 0) (getD M i unitTemplate)
-shows-bound i show-none = shows-label
+    → ShowsTemplate cells made (getD xs i 0) (getD M i unit)
+shows-bound i show-none = shows-unit
 shows-bound zero (show-more h hs) = h
 shows-bound (suc i) (show-more h hs) = shows-bound i hs
 
@@ -169,6 +171,7 @@ module _ (input : Input) where
     build-ends (variable i) state cells w room fit a = (nothing-made state cells fit, shows-bound i a)
     build-ends (outsideVar n) state cells w room fit a = (nothing-made state cells fit, shows-var)
     build-ends (outsideLabel n) state cells w room fit a = (nothing-made state cells fit, shows-label)
+    build-ends unit state cells w room fit a = (nothing-made state cells fit, shows-unit)
     build-ends {M = M} (make c ts) {xs = xs} state cells (Judgements.by-constructor lo hi w) room fit a =
         let n : ℕ = rowsOfAll ts in
         let u : Templates = substituteAll M ts in

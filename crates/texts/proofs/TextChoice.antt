@@ -1,8 +1,8 @@
 -- The rule that the run of a text chooses is of the production that the rules take; and in a grammar that passes, the production that the rules take is the one
 -- chosen.
-use Prim.Native.Nat.{ℕ, zero, suc, _+_, _-_, _≤_, _<_}
+use Prim.Native.Nat.{ℕ, zero, suc, _-_, _≤_, _<_}
 use mathlib.Core.Path.{_≡_, refl, sym, ap, subst, _∙_}
-use mathlib.Core.Logic.{_↔_, _⊎_, inl, inr, ⊎-elim}
+use mathlib.Core.Logic.{_⊎_, inl, inr, ⊎-elim}
 use mathlib.Core.Bool.{Bool, true, false, _&&_, _||_, true≢false, and-eq-true-iff}
 use mathlib.Core.List.{List, [], _∷_, map}
 use native.Mathlib.Omega.{arith}
@@ -20,20 +20,20 @@ use Rattle.tokens.specs.declared.Token.{Token}
 use Rattle.tokens.specs.Tokens.{endToken}
 use Rattle.productions.specs.Normal.{Production}
 use Rattle.decoding.specs.Within.{Among}
-use Rattle.firsts.specs.Rules.{Of, First, first-own, first-call, first-past, Reads, reads}
-use Rattle.firsts.specs.Patterns.{patternOf, patternsIn, ReadsAt, reads-at, opensIdeOf, opensIde, opensPlace}
+use Rattle.firsts.specs.Rules.{Of, First, Reads, reads}
+use Rattle.firsts.specs.Patterns.{patternsIn, ReadsAt, reads-at, ReadsPlace, opensIdeOf, opensIde, opensPlace}
 use Rattle.firsts.proofs.FirstsTheorems.{production-opens-exactly, production-nullable-exactly}
-use Rattle.firsts.proofs.FirstSetsExactly.{items-exactly, reads-at-exactly}
+use Rattle.firsts.proofs.FirstSetsExactly.{first-holds, first-as, ides-exactly, places-exactly}
 use Rattle.firsts.proofs.Rounds.{or-left, or-right, or-split}
 use Rattle.clashes.specs.CheckFirsts.{checkFirsts}
 use Rattle.clashes.proofs.ClashTheorems.{one-production}
 use Rattle.expansion.specs.Figure3.{Next, next}
 use Rattle.expansion.specs.TextTokens.{isTextKind, isOpened, isPlaced}
 use Rattle.expansion.specs.Expansion.{Rule, readyFor, Choice, unfit, chosen, firstRule, choice}
-use Rattle.expansion.proofs.AsBefore.{opened-as-before, opened-variable, placed-variable, placed-never, nothing-found}
+use Rattle.expansion.proofs.AsBefore.{opened-as-before, opened-variable, placed-variable, placed-never}
 use Rattle.expansion.proofs.Choosing.{nextKind, kind-next, Found, Missing, first-rule, rule}
 use Rattle.texts.specs.Reading.{readyText, asOutside}
-use Rattle.texts.specs.ReadingRules.{TextOpened, opened-kind, opened-ide, TextTaken, taken-opened, taken-nullable}
+use Rattle.texts.specs.ReadingRules.{TextOpened, opened-kind, opened-ide, TextPlaced, TextTaken, taken-opened, taken-place, taken-nullable}
 
 -- ------------------------------------------------------------------ the kind of the next token
 
@@ -46,20 +46,6 @@ is-next (t ∷ s) e l = subst (Next (t ∷ s)) e next
 
 -- ------------------------------------------------------------------ what stands first
 
--- what holds of all that items give by themselves holds of what stands first
-first-holds : {g : List Production} {own : Item → ℕ → Type 0} {K : Type 0} {is : List Item} {number : ℕ}
-    → ((item : Item) → own item number → K) → First g own is number → K
-first-holds h (first-own {i = i} o) = h i o
-first-holds h (first-call o f) = first-holds h f
-first-holds h (first-past z f) = first-holds h f
-
--- where items give one number they give another
-first-as : {g : List Production} {own other : Item → ℕ → Type 0} {is : List Item} {number number′ : ℕ}
-    → ((item : Item) → own item number → other item number′) → First g own is number → First g other is number′
-first-as h (first-own {i = i} o) = first-own (h i o)
-first-as h (first-call o f) = first-call o (first-as h f)
-first-as h (first-past z f) = first-past z (first-as h f)
-
 kind-small : {kind : ℕ} (item : Item) → Reads item kind → kind < 64
 kind-small _ (reads l) = l
 
@@ -71,49 +57,69 @@ ide-as-word _ (reads-at {s = s} l h) = reads {t = ide s} (omega arith)
 
 -- ------------------------------------------------------------------ the choice
 
+-- Of a nonterminal no two productions open with pattern places of one sort: what 13 asks of places (document 02, C-14).
+abbrev pub OnePlace : List Production → Type 0
+OnePlace g =
+    (n sort : ℕ) (p q : Production) → Of g n p → Of g n q → First g ReadsPlace (p .items) sort → First g ReadsPlace (q .items) sort → p ≡ q
+
 -- A production that is taken is one of its nonterminal.
 pub taken-of : {g : List Production} {nonterminal : ℕ} {s : List Token} {p : Production} → TextTaken g nonterminal s p → Of g nonterminal p
 taken-of (taken-opened o h) = o
-taken-of (taken-nullable o h z) = o
+taken-of (taken-place o h z) = o
+taken-of (taken-nullable o h i z) = o
 
 module _ (g : List Production) where
-  -- what reads a variable first in items, exactly
-  patterns-are : (is : List Item) (sort : ℕ) → (hasKind (patternsIn g is) sort ≡ true) ↔ First g ReadsAt is sort
-  patterns-are is sort = items-exactly patternOf ReadsAt reads-at-exactly g is sort
-
   -- what a choice answers: the rule of the production taken, or that none is
   pub data TextPicks (nonterminal : ℕ) (s : List Token) (given-choice : Choice) : Type 0 where
     picks : (p : Production) → TextTaken g nonterminal s p → given-choice ≡ chosen (rule g p) → TextPicks nonterminal s given-choice
     picks-none : ((p : Production) → TextTaken g nonterminal s p → ⊥) → given-choice ≡ unfit → TextPicks nonterminal s given-choice
 
-  -- two searches, one behind the other, where a test tells what is opened
-  module _ (s : List Token) (opens : Rule → Bool) (opened-passes : (p : Production) → TextOpened g s p → opens (rule g p) ≡ true)
-      (passes-opened : (p : Production) → opens (rule g p) ≡ true → TextOpened g s p) (nonterminal : ℕ) (small : nonterminal < 64) where
+  -- three searches, one behind the other, where tests tell what is opened and what has a place
+  module _ (s : List Token) (opens places : Rule → Bool) (opened-passes : (p : Production) → TextOpened g s p → opens (rule g p) ≡ true)
+      (passes-opened : (p : Production) → opens (rule g p) ≡ true → TextOpened g s p)
+      (placed-passes : (p : Production) → TextPlaced g s p → places (rule g p) ≡ true)
+      (passes-placed : (p : Production) → places (rule g p) ≡ true → TextPlaced g s p) (nonterminal : ℕ) (small : nonterminal < 64) where
+    abbrev third : Choice
+    third = firstRule (λ r. r .nullable) nonterminal (map (rule g) g) unfit
+
     abbrev second : Choice
-    second = firstRule (λ r. r .nullable) nonterminal (map (rule g) g) unfit
+    second = firstRule places nonterminal (map (rule g) g) third
+
+    -- what a search answers
+    abbrev Searched : (Rule → Bool) → Choice → Type 0
+    Searched test other = Found (rule g) (λ p. refl) test nonterminal other g ⊎ Missing (rule g) (λ p. refl) test nonterminal other g
 
     of-it : {p : Production} → Among g p → p .nonterminal ≡ nonterminal → Of g nonterminal p
     of-it m o = record { member = m; owned = o; small = small }
 
-    none-taken : Missing (rule g) (λ p. refl) opens nonterminal second g → Missing (rule g) (λ p. refl) (λ r. r .nullable) nonterminal unfit g
-        → (p : Production) → TextTaken g nonterminal s p → ⊥
-    none-taken m k p (taken-opened o h) = m .none-passed p (o .member) (o .owned) (opened-passes p h)
-    none-taken m k p (taken-nullable o i z) = k .none-passed p (o .member) (o .owned) (production-nullable-exactly g p .1 z)
+    none-opened : Missing (rule g) (λ p. refl) opens nonterminal second g → (q : Production) → Of g nonterminal q → TextOpened g s q → ⊥
+    none-opened m q o h = m .none-passed q (o .member) (o .owned) (opened-passes q h)
+
+    none-placed : Missing (rule g) (λ p. refl) places nonterminal third g → (q : Production) → Of g nonterminal q → TextPlaced g s q → ⊥
+    none-placed m q o h = m .none-passed q (o .member) (o .owned) (placed-passes q h)
+
+    none-taken : Missing (rule g) (λ p. refl) opens nonterminal second g → Missing (rule g) (λ p. refl) places nonterminal third g
+        → Missing (rule g) (λ p. refl) (λ r. r .nullable) nonterminal unfit g → (p : Production) → TextTaken g nonterminal s p → ⊥
+    none-taken m j k p (taken-opened o h) = none-opened m p o h
+    none-taken m j k p (taken-place o i h) = none-placed j p o h
+    none-taken m j k p (taken-nullable o i h z) = k .none-passed p (o .member) (o .owned) (production-nullable-exactly g p .1 z)
 
     searches-pick : TextPicks nonterminal s (firstRule opens nonterminal (map (rule g) g) second)
     searches-pick =
-        go (first-rule (rule g) (λ p. refl) opens nonterminal second g) (first-rule (rule g) (λ p. refl) (λ r. r .nullable) nonterminal unfit g)
+        go (first-rule (rule g) (λ p. refl) opens nonterminal second g) (first-rule (rule g) (λ p. refl) places nonterminal third g)
+        (first-rule (rule g) (λ p. refl) (λ r. r .nullable) nonterminal unfit g)
       where
-        go : Found (rule g) (λ p. refl) opens nonterminal second g ⊎ Missing (rule g) (λ p. refl) opens nonterminal second g
-            → Found (rule g) (λ p. refl) (λ r. r .nullable) nonterminal unfit g ⊎ Missing (rule g) (λ p. refl) (λ r. r .nullable) nonterminal unfit g
+        go : Searched opens second → Searched places third → Searched (λ r. r .nullable) unfit
             → TextPicks nonterminal s (firstRule opens nonterminal (map (rule g) g) second)
-        go (inl f) k = picks (f .production) (taken-opened (of-it (f .member) (f .of)) (passes-opened (f .production) (f .passed))) (f .answer)
-        go (inr m) (inl f) =
-            picks (f .production)
-            (taken-nullable (of-it (f .member) (f .of)) (λ q o h. m .none-passed q (o .member) (o .owned) (opened-passes q h))
-            (production-nullable-exactly g (f .production) .0 (f .passed)))
+        go (inl f) j k = picks (f .production) (taken-opened (of-it (f .member) (f .of)) (passes-opened (f .production) (f .passed))) (f .answer)
+        go (inr m) (inl f) k =
+            picks (f .production) (taken-place (of-it (f .member) (f .of)) (none-opened m) (passes-placed (f .production) (f .passed)))
             (m .answer ∙ f .answer)
-        go (inr m) (inr k) = picks-none (none-taken m k) (m .answer ∙ k .answer)
+        go (inr m) (inr j) (inl f) =
+            picks (f .production)
+            (taken-nullable (of-it (f .member) (f .of)) (none-opened m) (none-placed j) (production-nullable-exactly g (f .production) .0 (f .passed)))
+            (m .answer ∙ j .answer ∙ f .answer)
+        go (inr m) (inr j) (inr k) = picks-none (none-taken m j k) (m .answer ∙ j .answer ∙ k .answer)
 
   -- ---------------------------------------------------------------- what is opened
 
@@ -128,13 +134,13 @@ module _ (g : List Production) where
   ide-opened : (s : List Token) (A : ℕ) → nextKind s ≡ variableKind A → (p : Production) → opensIde (patternsIn g (p .items)) A ≡ true → TextOpened g s p
   unfolding opensIde
   ide-opened s A e p h =
-      ⊎-elim (λ k. ⊎-elim (at var) (at binder) (or-split (opensIdeOf (patternsIn g (p .items)) A var) k)) (at label)
+      ⊎-elim (λ k. ⊎-elim (at var (omega arith)) (at binder (omega arith)) (or-split (opensIdeOf (patternsIn g (p .items)) A var) k)) (at label (omega arith))
       (or-split (opensIdeOf (patternsIn g (p .items)) A var || opensIdeOf (patternsIn g (p .items)) A binder) h)
     where
-      at : (B : ℕ) → opensIdeOf (patternsIn g (p .items)) A B ≡ true → TextOpened g s p
-      at B f =
+      at : (B : ℕ) → B ≤ label → opensIdeOf (patternsIn g (p .items)) A B ≡ true → TextOpened g s p
+      at B l f =
           let k = and-eq-true-iff (hasKind (patternsIn g (p .items)) B) (fits A B) .0 f in
-          opened-ide A (is-next s e (λ q. omega arith)) (patterns-are (p .items) B .0 (k .0)) (k .1)
+          opened-ide A (is-next s e (λ q. omega arith)) (ides-exactly g (p .items) B l .0 (k .0)) (k .1)
 
   opened-passes : (s : List Token) → nextKind s < outsideKind → (p : Production) → TextOpened g s p
       → isOpened (nextKind s) (rule g p .first) (patternsIn g (p .items)) ≡ true
@@ -148,7 +154,7 @@ module _ (g : List Production) where
       let k = first-holds ide-sort f in
       opened-variable (nextKind s) (omega arith) (λ z. omega arith) (rule g p .first) (patternsIn g (p .items))
       ∙ ap (opensIde (patternsIn g (p .items))) q
-      ∙ opens-one (patternsIn g (p .items)) A B (k .0) (k .1) (and-eq-true-iff _ _ .1 (patterns-are (p .items) B .1 f, w))
+      ∙ opens-one (patternsIn g (p .items)) A B (k .0) (k .1) (and-eq-true-iff _ _ .1 (ides-exactly g (p .items) B (k .1) .1 f, w))
 
   passes-opened : (s : List Token) → nextKind s < outsideKind → (p : Production)
       → isOpened (nextKind s) (rule g p .first) (patternsIn g (p .items)) ≡ true → TextOpened g s p
@@ -165,26 +171,38 @@ module _ (g : List Production) where
       let k = first-holds kind-small f in
       opened-kind (is-next s refl (λ z. omega arith)) f)
 
-  -- no item is a place
-  none-placed : (kind : ℕ) (is : List Item) → kind < outsideKind → isPlaced kind (patternsIn g is) ≡ false
+  -- ---------------------------------------------------------------- what has a place
+
+  placed-passes : (s : List Token) → nextKind s < outsideKind → (p : Production) → TextPlaced g s p → isPlaced (nextKind s) (patternsIn g (p .items)) ≡ true
   unfolding opensPlace
-  none-placed kind is small =
-      by-test (isTextKind kind)
+  placed-passes s small p h =
+      let e = next-is (h .token) in
+      let q : nextKind s - 65 ≡ h .sort = omega arith in
+      placed-variable (nextKind s) (omega arith) (λ z. omega arith) (patternsIn g (p .items))
+      ∙ ap (opensPlace (patternsIn g (p .items))) q ∙ places-exactly g (p .items) (h .sort) .1 (h .first)
+
+  passes-placed : (s : List Token) → nextKind s < outsideKind → (p : Production) → isPlaced (nextKind s) (patternsIn g (p .items)) ≡ true → TextPlaced g s p
+  unfolding opensPlace
+  passes-placed s small p h =
+      by-test (isTextKind (nextKind s))
       (λ e.
-      let l = ltb-true noKind kind e in
-      placed-variable kind (omega arith) (λ z. omega arith) (patternsIn g is)
-      ∙ by-test (hasKind (patternsIn g is) (8 + (kind - 65)))
-      (λ h. absurd (omega (arith, first-holds ide-sort (patterns-are is (8 + (kind - 65)) .0 h) .1))) (λ h. h))
-      (λ e. placed-never kind (patternsIn g is) (ltb-false noKind kind e))
+      let l = ltb-true noKind (nextKind s) e in
+      record {
+        sort = sortOfKind (nextKind s);
+        token = is-next s (omega arith) (λ q. omega arith);
+        first =
+            places-exactly g (p .items) (sortOfKind (nextKind s)) .0
+            (sym (placed-variable (nextKind s) (omega arith) (λ z. omega arith) (patternsIn g (p .items))) ∙ h);
+      })
+      (λ e. absurd (true≢false (sym h ∙ placed-never (nextKind s) (patternsIn g (p .items)) (ltb-false noKind (nextKind s) e))))
 
   -- The choice by the next kind picks the production that the tokens take.
   pub choice-picks : (nonterminal : ℕ) → nonterminal < 64 → (s : List Token) → nextKind s < outsideKind
       → TextPicks nonterminal s (choice (readyText g) nonterminal (nextKind s))
   unfolding readyFor
   choice-picks nonterminal l s small =
-      subst (λ c. TextPicks nonterminal s (firstRule (λ r. isOpened (nextKind s) (r .first) (patternsIn g (r .items))) nonterminal (map (rule g) g) c))
-      (sym (nothing-found (λ r. none-placed (nextKind s) (r .items) small) nonterminal (map (rule g) g) _))
-      (searches-pick s (λ r. isOpened (nextKind s) (r .first) (patternsIn g (r .items))) (opened-passes s small) (passes-opened s small) nonterminal l)
+      searches-pick s (λ r. isOpened (nextKind s) (r .first) (patternsIn g (r .items))) (λ r. isPlaced (nextKind s) (patternsIn g (r .items)))
+      (opened-passes s small) (passes-opened s small) (placed-passes s small) (passes-placed s small) nonterminal l
 
   -- an outside name is chosen for as a word is
   outside-choice : (nonterminal : ℕ) (t : Token) → choice (readyText g) nonterminal (asOutside t .kind) ≡ choice (readyText g) nonterminal (t .kind)
@@ -234,7 +252,7 @@ module _ (g : List Production) where
 
   -- ---------------------------------------------------------------- one production is taken at most
 
-  module _ (passed : checkFirsts g ≡ ok tt) where
+  module _ (passed : checkFirsts g ≡ ok tt) (one-place : OnePlace g) where
     opened-one : {nonterminal : ℕ} {s : List Token} {p other : Production} → Of g nonterminal p → Of g nonterminal other → TextOpened g s p
         → TextOpened g s other → p ≡ other
     opened-one {nonterminal} {s} {p} {other} o k (opened-kind {k = kind} t f) (opened-kind u h) =
@@ -247,9 +265,16 @@ module _ (g : List Production) where
     -- The tokens of a text take one production at most.
     pub taken-one : {nonterminal : ℕ} {s : List Token} {p other : Production} → TextTaken g nonterminal s p → TextTaken g nonterminal s other → p ≡ other
     taken-one (taken-opened o h) (taken-opened k i) = opened-one o k h i
-    taken-one {p = p} (taken-opened o h) (taken-nullable k i z) = absurd (i p o h)
-    taken-one {other = other} (taken-nullable o h z) (taken-opened k j) = absurd (h other k j)
-    taken-one {nonterminal} {s} {p} {other} (taken-nullable o h z) (taken-nullable k j y) = one-production g passed nonterminal p other o k .1 z y
+    taken-one {p = p} (taken-opened o h) (taken-place k i y) = absurd (i p o h)
+    taken-one {p = p} (taken-opened o h) (taken-nullable k i j z) = absurd (i p o h)
+    taken-one {other = other} (taken-place o h z) (taken-opened k j) = absurd (h other k j)
+    taken-one {nonterminal} {s} {p} {other} (taken-place o h z) (taken-place k i y) =
+        let q : y .sort ≡ z .sort = omega (arith, next-is (z .token), next-is (y .token)) in
+        one-place nonterminal (z .sort) p other o k (z .first) (subst (First g ReadsPlace (other .items)) q (y .first))
+    taken-one {p = p} (taken-place o h z) (taken-nullable k i j y) = absurd (j p o z)
+    taken-one {other = other} (taken-nullable o h i z) (taken-opened k j) = absurd (h other k j)
+    taken-one {other = other} (taken-nullable o h i z) (taken-place k j y) = absurd (i other k y)
+    taken-one {nonterminal} {s} {p} {other} (taken-nullable o h i z) (taken-nullable k j l y) = one-production g passed nonterminal p other o k .1 z y
 
     taken-chosen : {nonterminal : ℕ} {s : List Token} {p : Production} {given-choice : Choice} → TextTaken g nonterminal s p
         → TextPicks nonterminal s given-choice → given-choice ≡ chosen (rule g p)

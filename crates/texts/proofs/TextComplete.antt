@@ -32,11 +32,12 @@ use Rattle.expansion.specs.Figure3.{by-end, by-terminal, by-call}
 use Rattle.expansion.specs.Costs.{rowsOf, rowsIn}
 use Rattle.copying.specs.RowTemplates.{textTemplate}
 use Rattle.texts.specs.Reading.{TextContext, lexiconFor, rowsLeft, asOutside, hasNumber, isScanned, otherWords, runText, reading, readingOf, checkReading}
-use Rattle.texts.specs.ReadingRules.{TextReads, by-keyword, by-variable, by-global, by-label, TextDerives, ReadText, rowsRead}
+use Rattle.texts.specs.ReadingRules.{TextReads, by-keyword, by-variable, by-place, by-global, by-label, TextDerives, ReadText, rowsRead}
 use Rattle.texts.proofs.TextSorts.{AllNamed, text-sorted}
 use Rattle.texts.proofs.TextSetting.{TextSetting}
-use Rattle.texts.proofs.TextReading.{read-standing}
+use Rattle.texts.proofs.TextReading.{read-sorted}
 use Rattle.texts.proofs.TextRun.{Finished, text-run}
+use Rattle.texts.proofs.TextChoice.{OnePlace}
 use Rattle.texts.proofs.TextScan.{tiled-named, text-setting}
 use Rattle.texts.proofs.TextAccepted.{TextPlace}
 
@@ -63,6 +64,9 @@ terminal-front (by-keyword {t = t} e) =
     let h : Readable t = record { no-number = λ z. omega (arith, e, z); outside = λ z. absurd (omega (arith, e, z)) } in
     front-more h front-none
 terminal-front (by-variable {t = t} A n e f w) =
+    let h : Readable t = record { no-number = λ z. omega (arith, e, z); outside = λ z. absurd (omega (arith, e, z)) } in
+    front-more h front-none
+terminal-front (by-place {t = t} n e f) =
     let h : Readable t = record { no-number = λ z. omega (arith, e, z); outside = λ z. absurd (omega (arith, e, z)) } in
     front-more h front-none
 terminal-front (by-global {t = t} e l) = let h : Readable t = record { no-number = λ z. omega (arith, e, z); outside = λ z. l } in front-more h front-none
@@ -109,7 +113,7 @@ tiled-none (past-token l s d) (all-more h hs) = tiled-none d hs ∙ stands-none 
 -- ------------------------------------------------------------------ the whole text
 
 module _ {G : Scope} {P : TextContext} {L : List ℕ} {n : ℕ} {S : Signature} (place : TextPlace G P L n S) (passed : checkFirsts (P .productions) ≡ ok tt)
-    (bs : List ℕ) (short : length bs ≤ longestFormula) where
+    (one-place : OnePlace (P .productions)) (bs : List ℕ) (short : length bs ≤ longestFormula) where
   -- the strict run of a text that the rules read gives its template
   reads-so : {t : Template} (read : ReadText P L n bs t) → length (read .words) ≡ 0 → hasNumber (read .tokens) ≡ false
       → readingOf (S .result) (runText P n (map asOutside (read .tokens))) ≡ reading (record { template = t; made = rowsRead read; isFresh = false })
@@ -123,10 +127,10 @@ module _ {G : Scope} {P : TextContext} {L : List ℕ} {n : ℕ} {S : Signature} 
       subst (λ N. AllNamed N L (read .tokens)) (sym (place .outsides-are)) (tiled-named (lexiconFor P L n) few (place .sorts) (read .tiled) none-other) in
       let cells : List ℕ = replicate (rowsLeft P * columns) 0 in
       let room : rowsLeft P * columns ≤ length cells = omega (arith, length-replicate {A = ℕ} (rowsLeft P * columns) 0) in
-      let k = text-run setting passed n S cells (place .newest) room (read .derived) (read .affords) in
+      let k = text-run setting passed one-place n S cells (place .newest) room (read .derived) (read .affords) in
       let fresh : ltb 1 (k .state .fresh) ≡ false = le-ltb 1 (k .state .fresh) (omega (arith, k .holds .1)) in
       let same : textTemplate (k .state .made) (k .cells) (S .result) (k .value) ≡ t =
-      read-standing setting (k .cells) t (omega (arith, place .outsides-are, place .few-outsides)) (place .short)
+      read-sorted setting (k .cells) t (omega (arith, place .outsides-are, place .few-outsides)) (place .short)
       (omega (arith, k .holds .2, read .affords .few-rows)) (k .holds .0)
       (text-sorted (place .all) L (place .newest) (place .without) names (read .derived)) in
       let made : k .state .made ≡ rowsRead read = k .holds .2 in

@@ -15,9 +15,9 @@ use Rattle.answers.specs.Refusals.{refusal}
 use Rattle.kinds.specs.Kinds.{only, wordKind, numberKind, keywordKind, noKind}
 use Rattle.kinds.specs.TextKinds.{variableKind, outsideKind, sortOfKind}
 use Rattle.grammar.specs.Limits.{most}
-use Rattle.grammar.specs.Sorts.{Signature, unit, var, binder, label}
+use Rattle.grammar.specs.Sorts.{Signature, var, binder, label, num}
 use Rattle.grammar.specs.SortTests.{fits}
-use Rattle.grammar.specs.Table.{Template, Templates, variable, outsideVar, outsideLabel, none, keyword, ide, number, Item, terminal, local, call}
+use Rattle.grammar.specs.Table.{Template, Templates, variable, outsideVar, outsideLabel, unit, none, keyword, ide, number, place, Item, terminal, local, call}
 use Rattle.terms.specs.Cells.{columns, nameBase, freshName}
 use Rattle.tokens.specs.declared.Token.{Token}
 use Rattle.tokens.specs.Tokens.{endToken}
@@ -39,15 +39,14 @@ use Rattle.expansion.proofs.AsBefore.{terminal-met, terminal-unmet}
 use Rattle.expansion.proofs.CallLaws.{inner, call-full, call-unfit, call-chosen}
 use Rattle.expansion.proofs.Endings.{Ends, ends-after, ends-map, Made, Full}
 use Rattle.expansion.proofs.Shows.{Grown, grown-not, grown-trans}
-use Rattle.copying.specs.RowTemplates.{unitTemplate, rowTemplate, textTemplate}
-use Rattle.copying.proofs.ValueLaws.{at-unit}
+use Rattle.copying.specs.RowTemplates.{textTemplate}
 use Rattle.texts.specs.Substitution.{substitute, substituteAll, templateList}
 use Rattle.texts.specs.Reading.{readyText, asOutside}
-use Rattle.texts.specs.ReadingRules.{TextTaken, TextReads, by-keyword, by-variable, by-global, by-label, TextDerives}
-use Rattle.texts.proofs.Showing.{ShowsTemplate, shows-variable, shows-var, shows-label, ShowTemplates, show-none, all-later}
+use Rattle.texts.specs.ReadingRules.{TextTaken, TextReads, by-keyword, by-variable, by-place, by-global, by-label, TextDerives}
+use Rattle.texts.proofs.Showing.{ShowsTemplate, shows-variable, shows-var, shows-label, shows-unit, ShowTemplates, show-none, all-later}
 use Rattle.texts.proofs.ReadBack.{read-back}
 use Rattle.texts.proofs.TextChoice.{takes, taken-of}
-use Rattle.texts.proofs.TextSorts.{Standing, standing-sorted, standing-unit, AllNamed, text-sorted}
+use Rattle.texts.proofs.TextSorts.{SortedAt, AllNamed, text-sorted}
 use Rattle.texts.proofs.TextSetting.{TextSetting, Kept, as-many, same-value, kind-before, was-word, no-word, outsideValue, outside-value, variable-value}
 use Rattle.texts.proofs.TextSetting.{all-and, strictInput, Provides, provides-whole, provides-inner, next-is, choice-is, built, built-all}
 
@@ -178,6 +177,16 @@ module _ {G : Scope} {g : List Production} (setting : TextSetting G g) where
           (subst (λ y. ShowsTemplate cells (s .made) y (variable (setting .name (s .at)))) (sym n) shows-variable)
           (by-variable (sortOfKind kind) (setting .name (s .at)) (omega arith) n f)
 
+      -- one where a pattern place of its sort is read
+      place-stepped : (B : ℕ) → B ≤ num → asOutside (here s) .kind ≡ variableKind B
+          → Stepped depth (terminal (place B)) M s cells (here s .value) (tokenTaken s) cells
+      place-stepped B l e =
+          let q : here s .kind ≡ variableKind B = kind-before (here s) e (λ z. omega arith) in
+          let n : here s .value ≡ variableName (setting .name (s .at)) = setting .named (s .at) (omega arith) in
+          taken-as depth (terminal (place B)) M s cells (here s .value) (variable (setting .name (s .at))) (λ z. omega arith) kept
+          (subst (λ y. ShowsTemplate cells (s .made) y (variable (setting .name (s .at)))) (sym n) shows-variable)
+          (by-place (setting .name (s .at)) q n)
+
       -- an outside name
       outside-stepped : (B : ℕ) → var ≤ B → B ≤ label → (B ≡ binder → ⊥) → here s .kind ≡ wordKind
           → Stepped depth (terminal (ide B)) M s cells (outsideValue B (here s .value)) (tokenTaken s) cells
@@ -301,11 +310,13 @@ module _ {G : Scope} {g : List Production} (setting : TextSetting G g) where
         take-ends provides (Stepped depth (terminal (keyword k)) M s cells) (keywordKind k) (λ v. 0) s cells
         (λ e.
         let q : here s .kind ≡ keywordKind k = kind-before (here s) e (λ z. omega (arith, setting .few-keywords)) in
-        taken-as depth (terminal (keyword k)) M s cells 0 unitTemplate (λ z. omega (arith, setting .few-keywords)) kept shows-label (by-keyword q))
+        taken-as depth (terminal (keyword k)) M s cells 0 unit (λ z. omega (arith, setting .few-keywords)) kept shows-unit (by-keyword q))
     item-ends (terminal (ide B)) {M = M} s cells (Judgements.by-ide l h) kept a = ide-ends provides depth M s cells kept B l h
     item-ends (terminal number) {M = M} s cells w kept a =
         take-ends provides (Stepped depth (terminal number) M s cells) numberKind (λ v. v) s cells
         (λ e. absurd (setting .no-number (s .at) (kind-before (here s) e (λ z. omega arith))))
+    item-ends (terminal (place B)) {M = M} s cells (Judgements.by-place l) kept a =
+        take-ends provides (Stepped depth (terminal (place B)) M s cells) (variableKind B) (λ v. v) s cells (place-stepped provides depth M s cells kept B l)
     item-ends local s cells w kept a =
         record {
           value = outsideLabel (freshName (s .fresh));
@@ -509,10 +520,9 @@ module _ {G : Scope} {g : List Production} (setting : TextSetting G g) where
       (λ r z. z)
 
   -- What a number shows that stands at a sort is read off the rows, a Unit too.
-  pub read-standing : {L : List ℕ} {made x B : ℕ} (cells : List ℕ) (t : Template) → G .outsides ≤ nameBase → length L ≤ nameBase → made ≤ nameBase
-      → ShowsTemplate cells made x t → Standing (G .outsides) L t B → textTemplate made cells B x ≡ t
-  read-standing cells t few short small h (standing-sorted w f) = read-back few short cells t (omega arith) small h w f
-  read-standing {made = made} cells _ few short small shows-label standing-unit = at-unit (λ q. rowTemplate made cells q) unit 0 refl refl refl refl
+  pub read-sorted : {L : List ℕ} {made x B : ℕ} (cells : List ℕ) (t : Template) → G .outsides ≤ nameBase → length L ≤ nameBase → made ≤ nameBase
+      → ShowsTemplate cells made x t → SortedAt (G .outsides) L t B → textTemplate made cells B x ≡ t
+  read-sorted cells t few short small h (A, w, f) = read-back few short cells t (omega arith) small h w f
 
   -- The template that is read off the cells of a text's run is the one that the rules derive from all its tokens, within the limits.
   pub text-read : {L : List ℕ} (n : ℕ) (S : Signature) (cells : List ℕ) → Newest (G .env) n S → S .params ≡ [] → rows * columns ≤ length cells
@@ -523,5 +533,5 @@ module _ {G : Scope} {g : List Production} (setting : TextSetting G g) where
       let r : Reads n x s cells′ = subst (Ends (Reads n) Any) runs (run-reads n S cells newest room) in
       let d : ReadWithin n (r .value) (s .made) = r .derived f in
       let q : textTemplate (s .made) cells′ (S .result) x ≡ r .value =
-      read-standing cells′ (r .value) few-names short (omega (arith, r .few)) (r .shows) (text-sorted (setting .all) L newest e names (d .rule)) in
+      read-sorted cells′ (r .value) few-names short (omega (arith, r .few)) (r .shows) (text-sorted (setting .all) L newest e names (d .rule)) in
       subst (λ t. ReadWithin n t (s .made)) (sym q) d

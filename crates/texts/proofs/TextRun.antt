@@ -16,7 +16,7 @@ use Rattle.kinds.specs.Kinds.{wordKind, keywordKind, noKind}
 use Rattle.kinds.specs.TextKinds.{variableKind, outsideKind, sortOfKind}
 use Rattle.grammar.specs.Sorts.{Signature, var, label}
 use Rattle.grammar.specs.SortTests.{fits}
-use Rattle.grammar.specs.Table.{Template, Templates, variable, none, keyword, ide, Terminal, Item, terminal, local, call}
+use Rattle.grammar.specs.Table.{Template, Templates, variable, none, keyword, ide, place, Terminal, Item, terminal, local, call}
 use Rattle.terms.specs.Cells.{columns, outsideName}
 use Rattle.tokens.specs.declared.Token.{Token}
 use Rattle.tokens.specs.Tokens.{endToken}
@@ -40,9 +40,9 @@ use Rattle.expansion.proofs.Endings.{Ends, Made, Full}
 use Rattle.expansion.proofs.Shows.{Grown, grown-not, grown-trans}
 use Rattle.texts.specs.Substitution.{substitute, substituteAll, templateList}
 use Rattle.texts.specs.Reading.{readyText, asOutside}
-use Rattle.texts.specs.ReadingRules.{TextTaken, TextReads, by-keyword, by-variable, by-global, by-label, TextDerives}
-use Rattle.texts.proofs.Showing.{ShowsTemplate, shows-variable, shows-var, shows-label, ShowTemplates, show-none, all-later}
-use Rattle.texts.proofs.TextChoice.{taken-of, chooses}
+use Rattle.texts.specs.ReadingRules.{TextTaken, TextReads, by-keyword, by-variable, by-place, by-global, by-label, TextDerives}
+use Rattle.texts.proofs.Showing.{ShowsTemplate, shows-variable, shows-var, shows-label, shows-unit, ShowTemplates, show-none, all-later}
+use Rattle.texts.proofs.TextChoice.{OnePlace, taken-of, chooses}
 use Rattle.texts.proofs.TextSetting.{TextSetting, Kept, as-many, same-value, kept-token, outside-token, outside-value, variable-value, all-and}
 use Rattle.texts.proofs.TextSetting.{strictInput, Provides, provides-whole, provides-inner, next-is, choice-is, built, built-all}
 
@@ -55,6 +55,7 @@ isCall (call n ts) = true
 no-call : {ts ts′ : List Token} {i i′ : ℕ} {p : Item} {v : Template} → TextReads ts i p ts′ i′ v → isCall p ≡ false
 no-call (by-keyword e) = refl
 no-call (by-variable A n e f w) = refl
+no-call (by-place n e f) = refl
 no-call (by-global e l) = refl
 no-call (by-label e l) = refl
 
@@ -91,7 +92,7 @@ meets-outside : (B : ℕ) → eqb B 2 ≡ false → meetsIde outsideKind B ≡ t
 unfolding meetsIde
 meets-outside B e = rw (e, meetsIde) refl
 
-module _ {G : Scope} {g : List Production} (setting : TextSetting G g) (passed : checkFirsts g ≡ ok tt) where
+module _ {G : Scope} {g : List Production} (setting : TextSetting G g) (passed : checkFirsts g ≡ ok tt) (one-place : OnePlace g) where
   abbrev tokens : List Token
   tokens = setting .tokens
 
@@ -155,7 +156,7 @@ module _ {G : Scope} {g : List Production} (setting : TextSetting G g) (passed :
         record {
           number = 0;
           is = take-done s cells (keywordKind k) (λ v. 0) t (next-token s e ∙ kept-token t (λ q. omega arith)) h;
-          shows = shows-label;
+          shows = shows-unit;
           behind = first-left s e .1;
         }
     terminal-done C (terminal (ide B)) xs s cells e (by-variable {t = t} A n h f w) =
@@ -166,6 +167,13 @@ module _ {G : Scope} {g : List Production} (setting : TextSetting G g) (passed :
           is =
               ide-done s cells B t (next-token s e ∙ kept-token t (λ q. omega arith)) (ap (λ k. meetsIde k B) h ∙ meets-variable A B (omega arith) w)
               ∙ ap (λ x. done x (tokenTaken s) cells) (variable-value (t .kind) B (t .value) o);
+          shows = subst (λ y. ShowsTemplate cells (s .made) y (variable n)) (sym f) shows-variable;
+          behind = first-left s e .1;
+        }
+    terminal-done C (terminal (place B)) xs s cells e (by-place {t = t} n h f) =
+        record {
+          number = t .value;
+          is = take-done s cells (variableKind B) (λ v. v) t (next-token s e ∙ kept-token t (λ q. omega arith)) h;
           shows = subst (λ y. ShowsTemplate cells (s .made) y (variable n)) (sym f) shows-variable;
           behind = first-left s e .1;
         }
@@ -207,7 +215,7 @@ module _ {G : Scope} {g : List Production} (setting : TextSetting G g) (passed :
       ≡ after (runItems (runCall depth lent) (inner lent s) (p .items) xs (callBegun s) cells) (λ M. build (p .result) (inner lent s) M)
   call-runs depth n {lent} provides xs s cells p l t =
       call-chosen depth lent n xs s cells (rule g p) (lt-ltb (s .calls) mostCalls l)
-      (choice-is setting provides s n ∙ chooses g passed tokens (s .at) (setting .small (s .at)) t)
+      (choice-is setting provides s n ∙ chooses g passed one-place tokens (s .at) (setting .small (s .at)) t)
 
   -- items that are run, from any numbers that show M
   abbrev Runs : ℕ → List Item → Template → List Token → List Token → List Template → List Template → ℕ → ℕ → Type 0

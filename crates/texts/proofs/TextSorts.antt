@@ -1,17 +1,15 @@
 -- A text's template has the sort of its nonterminal, under the sorts of the alternative's variables: 001's Theorem 1 for texts ("This result is
 -- generalized in the full paper to parsers derived from incremental pattern-based grammar definitions").
-use Prim.Native.Nat.{ℕ, zero, suc, _-_, _<_}
-use mathlib.Core.Path.{_≡_, refl, sym, subst}
-use mathlib.Core.Bool.{Bool, true, false, true≢false, not, _&&_, and-eq-true-iff}
+use Prim.Native.Nat.{ℕ, _<_}
+use mathlib.Core.Path.{_≡_, sym, subst}
 use mathlib.Core.List.{List, [], _∷_, _++_}
-use lib.Dec.{eqb}
 use lib.ListN.{getD}
-use Rattle.spellings.specs.Bytes.{every}
 use Rattle.kinds.specs.Kinds.{wordKind}
 use Rattle.kinds.specs.TextKinds.{variableKind}
 use Rattle.grammar.specs.Limits.{most}
-use Rattle.grammar.specs.Sorts.{Signature, gives, unit, constructorSignatures, constructor}
+use Rattle.grammar.specs.Sorts.{Signature}
 use Rattle.grammar.specs.Table.{Template, Templates, variable, outsideVar, outsideLabel, make, none, more, Item, call}
+use Rattle.grammar.specs.Table as Table
 use Rattle.tokens.specs.declared.Token.{Token}
 use Rattle.tokens.specs.Variables.{variableName}
 use Rattle.productions.specs.Normal.{Production}
@@ -22,70 +20,45 @@ use Rattle.judgements.specs.Judgements.{Body, by-result, by-binding}
 use Rattle.judgements.specs.Judgements as Judgements
 use Rattle.judgements.proofs.TemplateSorts.{fits-rule}
 use Rattle.expansion.specs.Figure3.{by-end, by-terminal, by-call}
-use Rattle.copying.specs.RowTemplates.{unitTemplate}
 use Rattle.texts.specs.Substitution.{substitute, substituteAll, templateList}
-use Rattle.texts.specs.ReadingRules.{TextReads, by-keyword, by-variable, by-global, by-label, TextDerives}
+use Rattle.texts.specs.ReadingRules.{TextReads, by-keyword, by-variable, by-place, by-global, by-label, TextDerives}
 use Rattle.texts.proofs.TextChoice.{taken-of}
 
 fits-trans : {A B C : ℕ} → Fits A B → Fits B C → Fits A C
 fits-trans fits-equal g = g
 fits-trans fits-binder fits-equal = fits-binder
 
--- ------------------------------------------------------------------ templates that stand at a sort
+-- ------------------------------------------------------------------ templates at places of a sort
 
--- a template that may stand where B is asked: one of a table, or what a keyword gives
-pub data Standing (N : ℕ) (L : List ℕ) : Template → ℕ → Type 0 where
-  standing-sorted : {t : Template} {A B : ℕ} → Sorted N L t A → Fits A B → Standing N L t B
-  standing-unit : Standing N L unitTemplate unit
+-- a template of a sort that fits where B is asked
+abbrev pub SortedAt : ℕ → List ℕ → Template → ℕ → Type 0
+SortedAt N L t B = (A : ℕ) × Sorted N L t A × Fits A B
 
 -- templates for variables of these sorts
 pub data Filled (N : ℕ) (L : List ℕ) : List Template → List ℕ → Type 0 where
   filled-none : Filled N L [] []
-  filled-more : {t : Template} {B : ℕ} {M : List Template} {G : List ℕ} → Standing N L t B → Filled N L M G → Filled N L (t ∷ M) (B ∷ G)
+  filled-more : {t : Template} {B : ℕ} {M : List Template} {G : List ℕ} → SortedAt N L t B → Filled N L M G → Filled N L (t ∷ M) (B ∷ G)
 
-filled-and : {N : ℕ} {L : List ℕ} {t : Template} {B : ℕ} {M : List Template} {G : List ℕ} → Filled N L M G → Standing N L t B
+filled-and : {N : ℕ} {L : List ℕ} {t : Template} {B : ℕ} {M : List Template} {G : List ℕ} → Filled N L M G → SortedAt N L t B
     → Filled N L (M ++ (t ∷ [])) (G ++ (B ∷ []))
 filled-and filled-none s = filled-more s filled-none
 filled-and (filled-more h hs) s = filled-more h (filled-and hs s)
 
-filled-at : {N : ℕ} {L : List ℕ} {M : List Template} {G : List ℕ} {i B : ℕ} → Filled N L M G → Has G i B → Standing N L (getD M i unitTemplate) B
+filled-at : {N : ℕ} {L : List ℕ} {M : List Template} {G : List ℕ} {i B : ℕ} → Filled N L M G → Has G i B → SortedAt N L (getD M i Table.unit) B
 filled-at (filled-more h hs) has-first = h
 filled-at (filled-more h hs) (has-later k) = filled-at hs k
 
-standing-for : {N : ℕ} {L : List ℕ} {t : Template} {A B : ℕ} → Standing N L t A → Fits A B → Standing N L t B
-standing-for (standing-sorted h f) g = standing-sorted h (fits-trans f g)
-standing-for standing-unit fits-equal = standing-unit
+fits-at : {N : ℕ} {L : List ℕ} {t : Template} {A B : ℕ} → SortedAt N L t A → Fits A B → SortedAt N L t B
+fits-at (C, h, f) g = (C, h, fits-trans f g)
 
-standing : {N : ℕ} {L : List ℕ} {t : Template} {A : ℕ} → Sorted N L t A → Standing N L t A
-standing h = standing-sorted h fits-equal
+at-its : {N : ℕ} {L : List ℕ} {t : Template} {A : ℕ} → Sorted N L t A → SortedAt N L t A
+at-its {A = A} h = (A, h, fits-equal)
 
--- ------------------------------------------------------------------ constructors take no Unit
-
-abbrev isNoUnit : ℕ → Bool
-isNoUnit sort = not (eqb sort unit)
-
-unfoldable takeNoUnit : List Signature → Bool
-takeNoUnit [] = true
-takeNoUnit (S ∷ Ss) = every isNoUnit (S .params) && takeNoUnit Ss
-
-none-at : (Ss : List Signature) (place : ℕ) → takeNoUnit Ss ≡ true → every isNoUnit (getD Ss place (gives [] unit) .params) ≡ true
-unfolding takeNoUnit every
-none-at [] zero e = refl
-none-at [] (suc place) e = refl
-none-at (S ∷ Ss) zero e = and-eq-true-iff (every isNoUnit (S .params)) (takeNoUnit Ss) .0 e .0
-none-at (S ∷ Ss) (suc place) e = none-at Ss place (and-eq-true-iff (every isNoUnit (S .params)) (takeNoUnit Ss) .0 e .1)
-
-places-no-unit : (code : ℕ) → every isNoUnit (constructor code .params) ≡ true
-unfolding constructor constructorSignatures takeNoUnit every
-places-no-unit code = none-at constructorSignatures (code - 0x20) refl
-
--- templates that stand at places none of which asks for a Unit fill them
-fill-of : {N : ℕ} {L : List ℕ} (ts : Templates) {Bs : List ℕ} → Filled N L (templateList ts) Bs → every isNoUnit Bs ≡ true → Fill N L ts Bs
-unfolding templateList every
-fill-of none filled-none e = fill-none
-fill-of (more t ts) (filled-more {B = B} {G = Bs} (standing-sorted h f) hs) e =
-    fill-more h f (fill-of ts hs (and-eq-true-iff (isNoUnit B) (every isNoUnit Bs) .0 e .1))
-fill-of (more t ts) (filled-more standing-unit hs) e = absurd (true≢false (sym e))
+-- templates of sorts that fit their places fill them
+fill-of : {N : ℕ} {L : List ℕ} (ts : Templates) {Bs : List ℕ} → Filled N L (templateList ts) Bs → Fill N L ts Bs
+unfolding templateList
+fill-of none filled-none = fill-none
+fill-of (more t ts) (filled-more (A, h, f) hs) = fill-more h f (fill-of ts hs)
 
 -- ------------------------------------------------------------------ templates put in for variables
 
@@ -93,18 +66,19 @@ module _ {N : ℕ} {L : List ℕ} {M : List Template} {G : List ℕ} (filled : F
   mutual
     unfolding substitute templateList
 
-    -- Templates of their sorts put in for its variables, a template stands at its sort.
-    pub substitute-sorted : (t : Template) {A : ℕ} → Sorted N G t A → Standing N L (substitute M t) A
+    -- Templates of their sorts put in for its variables, a template keeps its sort.
+    pub substitute-sorted : (t : Template) {A : ℕ} → Sorted N G t A → SortedAt N L (substitute M t) A
     substitute-sorted (variable i) (Judgements.by-variable h) = filled-at filled h
-    substitute-sorted (outsideVar n) (Judgements.by-global l) = standing (Judgements.by-global l)
-    substitute-sorted (outsideLabel n) (Judgements.by-label l) = standing (Judgements.by-label l)
+    substitute-sorted (outsideVar n) (Judgements.by-global l) = at-its (Judgements.by-global l)
+    substitute-sorted (outsideLabel n) (Judgements.by-label l) = at-its (Judgements.by-label l)
     substitute-sorted (make c ts) (Judgements.by-constructor low high fs) =
-        standing (Judgements.by-constructor low high (fill-of (substituteAll M ts) (substitute-all-sorted ts fs) (places-no-unit c)))
+        at-its (Judgements.by-constructor low high (fill-of (substituteAll M ts) (substitute-all-sorted ts fs)))
+    substitute-sorted Table.unit Judgements.by-unit = at-its Judgements.by-unit
 
     -- So do templates at their places.
     pub substitute-all-sorted : (ts : Templates) {Bs : List ℕ} → Fill N G ts Bs → Filled N L (templateList (substituteAll M ts)) Bs
     substitute-all-sorted none fill-none = filled-none
-    substitute-all-sorted (more t ts) (fill-more h f fs) = filled-more (standing-for (substitute-sorted t h) f) (substitute-all-sorted ts fs)
+    substitute-all-sorted (more t ts) (fill-more h f fs) = filled-more (fits-at (substitute-sorted t h) f) (substitute-all-sorted ts fs)
 
 -- ------------------------------------------------------------------ tokens and productions
 
@@ -144,18 +118,19 @@ record Ended (N : ℕ) (L : List ℕ) (s : List Token) (M : List Template) (t : 
 module _ {G : Scope} {g : List Production} (all : AllSorted G g) (L : List ℕ) where
   -- a terminal's value has the sort of its item
   terminal-sorted : {s s₁ : List Token} {i i₁ : ℕ} {p : Item} {v : Template} {A : ℕ} {Γ : List ℕ} → TextReads s i p s₁ i₁ v → ItemSorted G Γ p A
-      → AllNamed (G .outsides) L s → Standing (G .outsides) L v A × AllNamed (G .outsides) L s₁
-  terminal-sorted (by-keyword e) (Judgements.by-keyword l) (named-more h hs) = (standing-unit, hs)
+      → AllNamed (G .outsides) L s → SortedAt (G .outsides) L v A × AllNamed (G .outsides) L s₁
+  terminal-sorted (by-keyword e) (Judgements.by-keyword l) (named-more h hs) = (at-its Judgements.by-unit, hs)
   terminal-sorted (by-variable {B = B} A n e f fit) (Judgements.by-ide l u) (named-more h hs) =
-      (standing-sorted (Judgements.by-variable (h .variable-named A n e f)) (fits-rule A B fit), hs)
-  terminal-sorted (by-global e l) (Judgements.by-ide m u) (named-more h hs) = (standing (Judgements.by-global (h .outside-named e l)), hs)
-  terminal-sorted (by-label e l) (Judgements.by-ide m u) (named-more h hs) = (standing (Judgements.by-label (h .outside-named e l)), hs)
+      ((A, Judgements.by-variable (h .variable-named A n e f), fits-rule A B fit), hs)
+  terminal-sorted (by-place {B = B} n e f) (Judgements.by-place l) (named-more h hs) = (at-its (Judgements.by-variable (h .variable-named B n e f)), hs)
+  terminal-sorted (by-global e l) (Judgements.by-ide m u) (named-more h hs) = (at-its (Judgements.by-global (h .outside-named e l)), hs)
+  terminal-sorted (by-label e l) (Judgements.by-ide m u) (named-more h hs) = (at-its (Judgements.by-label (h .outside-named e l)), hs)
 
   -- what an alternative gives where its items have ended
   result-sorted : {s : List Token} {M : List Template} {t v : Template} {B : ℕ} → Ended (G .outsides) L s M t B → v ≡ substitute M t
-      → Standing (G .outsides) L v B
+      → SortedAt (G .outsides) L v B
   result-sorted {t = t} {B = B} e f =
-      subst (λ u. Standing (G .outsides) L u B) (sym f) (standing-for (substitute-sorted (e .filled) t (e .sorted)) (e .fits))
+      subst (λ u. SortedAt (G .outsides) L u B) (sym f) (fits-at (substitute-sorted (e .filled) t (e .sorted)) (e .fits))
 
   items-sorted : {M M′ : List Template} {s s′ : List Token} {i i′ : ℕ} {ps : List Item} {Γ : List ℕ} {t : Template} {B : ℕ}
       → TextDerives g M s i ps s′ i′ M′ → Body G Γ ps t B → Filled (G .outsides) L M Γ → AllNamed (G .outsides) L s
@@ -171,9 +146,9 @@ module _ {G : Scope} {g : List Production} (all : AllSorted G g) (L : List ℕ) 
       items-sorted d (all .production-sorted _ S p newest (taken-of t)) (subst (λ xs. Filled (G .outsides) L xs (S .params)) (sym vs) arguments) named in
       items-sorted d′ b (filled-and filled (result-sorted e v)) (e .left)
 
-  -- The template of a text stands at the declared sort of the nonterminal that it is read from.
+  -- The template of a text has a sort that fits the declared sort of the nonterminal that it is read from.
   pub text-sorted : {n : ℕ} {S : Signature} {tokens : List Token} {t : Template} → Newest (G .env) n S → S .params ≡ [] → AllNamed (G .outsides) L tokens
-      → TextDerives g [] tokens 1 (call n none ∷ []) [] 1 (t ∷ []) → Standing (G .outsides) L t (S .result)
+      → TextDerives g [] tokens 1 (call n none ∷ []) [] 1 (t ∷ []) → SortedAt (G .outsides) L t (S .result)
   unfolding substitute
   text-sorted {n} {S} {t = t} newest e named d =
       let whole =
@@ -181,4 +156,4 @@ module _ {G : Scope} {g : List Production} (all : AllSorted G g) (L : List ℕ) 
       (by-binding {t = variable 0} (Judgements.by-call newest (subst (Fill (G .outsides) [] none) (sym e) fill-none))
       (by-result (Judgements.by-variable has-first) fits-equal))
       filled-none named in
-      standing-for (substitute-sorted (whole .filled) (variable 0) (whole .sorted)) (whole .fits)
+      fits-at (substitute-sorted (whole .filled) (variable 0) (whole .sorted)) (whole .fits)

@@ -9,6 +9,7 @@ use lib.ListN.{length, getD}
 use borrow.Author.Tests.{eq-eqb}
 use Rattle.grammar.specs.Sorts.{constructor, arity, unit}
 use Rattle.grammar.specs.Table.{Template, Templates, variable, outsideVar, outsideLabel, make, none, more}
+use Rattle.grammar.specs.Table as Table
 use Rattle.grammar.proofs.ReaderLaws.{getD-past}
 use Rattle.terms.specs.Cells.{column, nameBase, rowsLent}
 use Rattle.judgements.specs.Judgements.{Fits, fits-equal, Sorted, Fill, fill-none, fill-more}
@@ -17,7 +18,7 @@ use Rattle.expansion.specs.declared.State.{State}
 use Rattle.expansion.specs.Expansion.{Input, build}
 use Rattle.templates.specs.Built.{Holds, withMade}
 use Rattle.copying.specs.RowTemplates.{isRowSort}
-use Rattle.texts.proofs.Showing.{ShowsTemplate, ColumnsShow, shows-variable, shows-var, shows-label, shows-make, no-column, one-column}
+use Rattle.texts.proofs.Showing.{ShowsTemplate, ColumnsShow, shows-variable, shows-var, shows-label, shows-unit, shows-make, no-column, one-column}
 use Rattle.texts.proofs.ReadBack.{has-below, read-back}
 use Rattle.copying.specs.Hanging.{isRowAt, IsPart, VariableBelow, Hangs, hangs, HangsAt}
 use Rattle.copying.specs.Copies.{copied, CopiesText}
@@ -69,6 +70,7 @@ module _ {N : ℕ} {L : List ℕ} (few : N ≤ nameBase) (short : length L ≤ n
         stands-leaf (λ e. omega arith) (rw (eq-eqb (x / nameBase) 4 (omega arith)) (no-row (isRowSort B)))
     stands (outsideVar n) l shows-var (Judgements.by-global h) fits-equal = stands-leaf (λ e. absurd (omega arith)) refl
     stands (outsideLabel n) l shows-label (Judgements.by-label h) fits-equal = stands-leaf (λ e. absurd (omega arith)) refl
+    stands Table.unit l shows-unit Judgements.by-unit fits-equal = stands-leaf (λ e. absurd (omega arith)) refl
     stands (make c ts) l (shows-make {row = row} h e cs) (Judgements.by-constructor lo hi w) f =
         record {
           variable = λ k. absurd (omega arith);

@@ -18,7 +18,7 @@ use Rattle.texts.specs.Reading.{readyText, asOutside}
 use Rattle.texts.proofs.Showing.{shows-agree}
 use Rattle.texts.proofs.TextSorts.{AllNamed, text-sorted}
 use Rattle.texts.proofs.TextSetting.{TextSetting, strictInput}
-use Rattle.texts.proofs.TextReading.{Reads, run-reads, read-standing}
+use Rattle.texts.proofs.TextReading.{Reads, run-reads, read-sorted}
 use Rattle.texts.proofs.MoreRows.{Again, more-rows-done}
 
 module _ {G : Scope} {g : List Production} (setting : TextSetting G g) (rows′ : ℕ) (fewer : setting .rows ≤ rows′) where
@@ -51,6 +51,6 @@ module _ {G : Scope} {g : List Production} (setting : TextSetting G g) (rows′ 
         left = again .left;
         is = again .is;
         same =
-            read-standing setting (again .left) (r .value) few-names short few (shows-agree (r .value) (again .agree) (r .shows)) w
-            ∙ sym (read-standing setting d (r .value) few-names short few (r .shows) w);
+            read-sorted setting (again .left) (r .value) few-names short few (shows-agree (r .value) (again .agree) (r .shows)) w
+            ∙ sym (read-sorted setting d (r .value) few-names short few (r .shows) w);
       }

@@ -10,7 +10,7 @@ use Rattle.kinds.specs.TextKinds.{variableKind}
 use Rattle.grammar.specs.Limits.{most}
 use Rattle.grammar.specs.Sorts.{var, label}
 use Rattle.grammar.specs.SortTests.{fits}
-use Rattle.grammar.specs.Table.{Template, variable, outsideVar, outsideLabel, none, keyword, ide, Item, terminal, call}
+use Rattle.grammar.specs.Table.{Template, variable, outsideVar, outsideLabel, unit, none, keyword, ide, place, Item, terminal, call}
 use Rattle.terms.specs.Term.{largestTerm}
 use Rattle.tokens.specs.declared.Token.{Token}
 use Rattle.tokens.specs.Tokens.{mostTokens}
@@ -18,10 +18,9 @@ use Rattle.tokens.specs.Variables.{variableName}
 use Rattle.tokens.specs.Tiling.{Tiled}
 use Rattle.productions.specs.Normal.{Production}
 use Rattle.firsts.specs.Rules.{Of, NullItems, First, Reads}
-use Rattle.firsts.specs.Patterns.{ReadsAt}
+use Rattle.firsts.specs.Patterns.{ReadsAt, ReadsPlace}
 use Rattle.expansion.specs.Figure3.{Next, _⊢⟨_∣_⟩_⇒⟨_∣_⟩_}
 use Rattle.expansion.specs.Costs.{rowsOf, rowsIn, Affords}
-use Rattle.copying.specs.RowTemplates.{unitTemplate}
 use Rattle.texts.specs.Substitution.{substitute, substituteAll, templateList}
 use Rattle.texts.specs.Reading.{TextContext, lexiconFor, rowsLeft}
 
@@ -39,31 +38,47 @@ pub data TextOpened (g : List Production) (s : List Token) (p : Production) : Ty
       → fits A B ≡ true
       → TextOpened g s p
 
--- the alternative of n that opens with the next token; else the nullable one
+-- the next token is a `$` variable of exactly the sort of a pattern place that p opens with
+pub record TextPlaced (g : List Production) (s : List Token) (p : Production) : Type 0 where
+  pub sort : ℕ
+  pub token : Next s (variableKind sort)
+  pub first : First g ReadsPlace (p .items) sort
+
+-- the alternative of n that opens with the next token; else the one with a place for it; else the nullable one
 pub data TextTaken (g : List Production) (n : ℕ) (s : List Token) : Production → Type 0 where
   taken-opened : {p : Production}
       → Of g n p
       → TextOpened g s p
       → TextTaken g n s p
+  taken-place : {p : Production}
+      → Of g n p
+      → ((q : Production) → Of g n q → TextOpened g s q → ⊥)
+      → TextPlaced g s p
+      → TextTaken g n s p
   taken-nullable : {p : Production}
       → Of g n p
       → ((q : Production) → Of g n q → TextOpened g s q → ⊥)
+      → ((q : Production) → Of g n q → TextPlaced g s q → ⊥)
       → NullItems g (p .items)
       → TextTaken g n s p
 
 -- ------------------------------------------------------------------ terminals and items
 
--- terminals of a text: a keyword gives Unit; a `$` variable stands at an ide that it fits, an outside name at Var or Label. No rule reads a number (26) or a
--- word at a Binder (27), and none makes a fresh name (28): the counter i stays.
+-- terminals of a text: a keyword gives Unit; a `$` variable stands at an ide that it fits or at a pattern place of exactly its sort, an outside name at Var or
+-- Label. No rule reads a number (26) or a word at a Binder (27), and none makes a fresh name (28): the counter i stays.
 pub data TextReads : List Token → ℕ → Item → List Token → ℕ → Template → Type 0 where
   by-keyword : {t : Token} {s : List Token} {i k : ℕ}
       → t .kind ≡ keywordKind k
-      → TextReads (t ∷ s) i (terminal (keyword k)) s i unitTemplate
+      → TextReads (t ∷ s) i (terminal (keyword k)) s i unit
   by-variable : {t : Token} {s : List Token} {i B : ℕ} (A n : ℕ)
       → t .kind ≡ variableKind A
       → t .value ≡ variableName n
       → fits A B ≡ true
       → TextReads (t ∷ s) i (terminal (ide B)) s i (variable n)
+  by-place : {t : Token} {s : List Token} {i B : ℕ} (n : ℕ)
+      → t .kind ≡ variableKind B
+      → t .value ≡ variableName n
+      → TextReads (t ∷ s) i (terminal (place B)) s i (variable n)
   by-global : {t : Token} {s : List Token} {i : ℕ}
       → t .kind ≡ wordKind
       → t .value < most .outsides

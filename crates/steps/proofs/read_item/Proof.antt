@@ -38,13 +38,25 @@ returns-4 : tie.Need-returns-4
 returns-4 c =
     let value-at-place = c .before .before in
     let entry-place = value-at-place .before .before in
+    record {
+      reads =
+          λ C I ts M cells et.
+          laws.place-read _ _ ts C I M (entry-place .args .s) cells (entry-place .args .tokens .now) et (value-at-place .value-at .ensures .0)
+          (c .before .match .keys4) (c .take2 .ensures .takes I cells et);
+      spends = c .take2 .ensures .spends;
+    }
+
+returns-5 : tie.Need-returns-5
+returns-5 c =
+    let value-at-place = c .before .before in
+    let entry-place = value-at-place .before .before in
     let other = c .before .match .rest in
     record {
       reads =
           λ C I ts M cells et.
           laws.number-read _ _ ts C I M (entry-place .args .s) cells (entry-place .args .tokens .now) et (value-at-place .value-at .ensures .0)
-          (other .0 .0 .1) (other .0 .1) (other .1) (entry-place .pre .no-call) (c .take2 .ensures .takes I cells et);
-      spends = c .take2 .ensures .spends;
+          (other .0 .0 .0 .1) (other .0 .0 .1) (other .0 .1) (entry-place .pre .no-call) (other .1) (c .take3 .ensures .takes I cells et);
+      spends = c .take3 .ensures .spends;
     }
 
 -- the function meets its contract
@@ -57,8 +69,11 @@ read-item-spec =
     (λ c κs. search needs)
     (λ c κs. search needs)
     (λ c κs. search needs)
+    (λ c. search needs)
+    (λ c κs. search needs)
     (λ c κs. search needs)
     returns
     returns-2
     returns-3
-    returns-4)
+    returns-4
+    returns-5)

@@ -37,7 +37,10 @@ returns-5 c = cc (laws.item-call _ _ _ _ _ (called c .before .before .byte .ensu
     (c .before .before .before .part .ensures))
 
 returns-6 : tie.Need-returns-6
-returns-6 c = search laws.item-other
+returns-6 c = search laws.item-place
+
+returns-7 : tie.Need-returns-7
+returns-7 c = search laws.item-other
 
 -- the function meets its contract
 pub check-item-spec : {M : Type 1} → statement M
@@ -55,4 +58,5 @@ check-item-spec =
     returns-4
     (λ c. search needs)
     returns-5
-    returns-6)
+    returns-6
+    returns-7)

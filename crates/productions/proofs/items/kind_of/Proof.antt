@@ -7,6 +7,9 @@ use Rattle.productions.proofs.items.kind_of.Tie as tie
 returns : tie.Need-returns
 returns c = search laws.keyword-kind
 
+returns-4 : tie.Need-returns-4
+returns-4 c = search laws.place-kind
+
 -- the function meets its contract
 pub kind-of-spec : {M : Type 1} → statement M
 kind-of-spec =
@@ -17,6 +20,10 @@ kind-of-spec =
     (λ c. search needs)
     (λ c. search needs)
     (λ c. search needs)
+    (λ c. search needs)
+    (λ c. search needs)
+    (λ c. search needs)
     returns
     (λ c. search needs)
-    (λ c. search needs))
+    (λ c. search needs)
+    returns-4)

@@ -17,10 +17,13 @@ returns-4 : tie.Need-returns-4
 returns-4 c = laws.symbol-is _ _ _ 4 (c .before .before .byte .ensures) (c .before .byte2 .ensures) (c .match .keys4)
 
 returns-5 : tie.Need-returns-5
-returns-5 c = search laws.symbol-other
+returns-5 c = laws.symbol-is _ _ _ 5 (c .before .before .byte .ensures) (c .before .byte2 .ensures) (c .match .keys5)
+
+returns-6 : tie.Need-returns-6
+returns-6 c = search laws.symbol-other
 
 -- the function meets its contract
 pub symbol-spec : {M : Type 1} → statement M
 symbol-spec =
     tie.close
-    (tie.spec (λ c κs. search needs) (λ c κs. search needs) returns returns-2 returns-3 returns-4 returns-5)
+    (tie.spec (λ c κs. search needs) (λ c κs. search needs) returns returns-2 returns-3 returns-4 returns-5 returns-6)
