@@ -11,7 +11,8 @@ use borrow.Author.Tests.{eqb-true, leb-true}
 use Rattle.spellings.proofs.BytesLaws.{by-test}
 use Rattle.answers.specs.Refusals.{refusal}
 use Rattle.decoding.proofs.RefusalNumbers.{isLayoutNumber, decode-answers}
-use Rattle.clashes.specs.Clashes.{Never, Lowest, LowestOr64, LeftRecursive, Shares, Clashes}
+use Rattle.clashes.specs.Clashes.{Never, Lowest, LeftRecursive, Clashes}
+use Rattle.clashes.specs.Named.{Names}
 use Rattle.answers.specs.declared.Refusal.{Refusal}
 use Rattle.answers.specs.declared.Verdict.{Verdict}
 use Rattle.answers.specs.declared.Verdict.the-variants.{Passed, Refused}
@@ -192,7 +193,7 @@ module _ (bs : List ℕ) (bytes : (place : ℕ) → getD bs place 0 < 256) where
   -- that any two of it share.
   pub refused-13 : (nonterminal kind : ℕ) → (check bs ≡ Refused (refusal 13 nonterminal kind 0))
       ↔ ((laid : Laid bs) × Never (LeftRecursive (grammarOf (laid .table))) × Lowest (Clashes (grammarOf (laid .table))) nonterminal
-      × LowestOr64 (Shares (grammarOf (laid .table)) nonterminal) kind)
+      × Names (grammarOf (laid .table)) nonterminal kind)
   refused-13 nonterminal kind =
       let k = refused-over-11 (refusal 13 nonterminal kind 0) (omega arith) in (
         λ h. let p = k .0 h in let q = clash-lowest (grammarOf (p .0 .table)) nonterminal kind .0 (p .1) in (p .0, q .0, q .1, q .2),

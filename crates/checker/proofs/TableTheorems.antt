@@ -25,7 +25,8 @@ use Rattle.productions.specs.Normal.{Production}
 use Rattle.clashes.specs.CheckFirsts.{checkFirsts}
 use Rattle.firsts.specs.FirstSets.{nullables, firstSets, leftCalls}
 use Rattle.firsts.specs.Rules.{Nullable, Opens, LeftReaches}
-use Rattle.clashes.specs.Clashes.{Never, Lowest, LowestOr64, LeftRecursive, Shares, Clashes}
+use Rattle.clashes.specs.Clashes.{Never, Lowest, LeftRecursive, Clashes}
+use Rattle.clashes.specs.Named.{Names}
 use Rattle.firsts.proofs.FirstsTheorems as firsts
 use Rattle.clashes.proofs.ClashTheorems as clashes
 use Rattle.checker.specs.Check.{check}
@@ -74,11 +75,11 @@ module _ (g : List Production) where
   pub left-recursion-lowest : (nonterminal : ℕ) → (checkFirsts g ≡ bad (refusal 12 nonterminal 0 0)) ↔ Lowest (LeftRecursive g) nonterminal
   left-recursion-lowest = clashes.left-recursion-lowest g
 
-  -- 13 is given exactly if none does, `nonterminal` is the lowest nonterminal of which two alternatives share a kind or are both nullable, and `kind` the
-  -- lowest kind that any two of it share, 64 if none.
+  -- 13 is given exactly if none does, `nonterminal` is the lowest nonterminal of which two alternatives clash, and `kind` the lowest kind that any two of it
+  -- share; else 65 plus the lowest sort of a pattern place that they share; 64 if they share neither.
   pub clash-lowest : (nonterminal kind : ℕ)
       → (checkFirsts g ≡ bad (refusal 13 nonterminal kind 0))
-      ↔ (Never (LeftRecursive g) × Lowest (Clashes g) nonterminal × LowestOr64 (Shares g nonterminal) kind)
+      ↔ (Never (LeftRecursive g) × Lowest (Clashes g) nonterminal × Names g nonterminal kind)
   clash-lowest = clashes.clash-lowest g
 
 -- ------------------------------------------------------------------ 4. passing
@@ -108,11 +109,11 @@ module _ (bs : List ℕ) where
   refused-12 = passing.refused-12 bs
 
   -- 13 is given, with `nonterminal` and `kind`, exactly if they are one where none does, `nonterminal` is the lowest nonterminal of which two
-  -- alternatives share a kind or are both nullable, and `kind` the lowest kind that any two of it share, 64 if none.
+  -- alternatives clash, and `kind` what 13 names for it.
   pub refused-13 : ((place : ℕ) → getD bs place 0 < 256) → (nonterminal kind : ℕ)
       → (check bs ≡ Refused (refusal 13 nonterminal kind 0))
       ↔ ((laid : Laid bs) × Never (LeftRecursive (grammarOf (laid .table))) × Lowest (Clashes (grammarOf (laid .table))) nonterminal
-      × LowestOr64 (Shares (grammarOf (laid .table)) nonterminal) kind)
+      × Names (grammarOf (laid .table)) nonterminal kind)
   refused-13 = passing.refused-13 bs
 
   -- ------------------------------------------------------------------ 5. the call

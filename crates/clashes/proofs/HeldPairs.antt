@@ -1,25 +1,21 @@
 -- In a room that holds a grammar, the search for a clash by the links is the search over the productions themselves.
 use Prim.Native.Nat.{ℕ, zero, suc, _+_, _-_, _<_, _≤_}
 use mathlib.Core.Path.{_≡_, refl, sym, ap, _∙_}
-use mathlib.Core.Bool.{Bool, true, false, and-false}
+use mathlib.Core.Bool.{Bool, true, false, _&&_, _||_, and-false}
 use mathlib.Core.List.{List, [], _∷_, map}
 use native.Mathlib.Omega.{arith}
 use lib.Bits.{bitOr, or-zero-r}
-use lib.Count.{trailingZeros}
 use lib.Dec.{eqb, ltb}
 use lib.ListN.{length, getD, drop, length-drop}
 use lib.Seq.{drop-cons}
-use borrow.Author.Tests.{eqb-true, lt-ltb, ltb-true}
+use borrow.Author.Tests.{eqb-true, lt-ltb}
 use Rattle.spellings.proofs.BytesLaws.{by-test}
-use Rattle.answers.specs.Refusals.{refusal}
-use Rattle.answers.specs.Checked.{Checked, ok, bad}
 use Rattle.productions.specs.Normal.{Production}
 use Rattle.productions.specs.Index.{Place, productionAt, productionsAt}
 use Rattle.productions.specs.Room.{Entry, noEntry, HoldsEntries, placeFrom, isOf, firstPlaceIn, firstIn, nextPlaceIn, nullableIn}
 use Rattle.productions.proofs.RoomLaws.{first-place-in, first-in, next-place-in, nullable-in}
-use Rattle.clashes.specs.CheckFirsts.{sharedBy, clash, lowest, clashing, noClash, anyWith, anyPair, joinWith, joinPairs}
-use Rattle.clashes.specs.Pairs.{afterIn, linked, sharedIn, clashIn, clashingIn, allSharedIn, noClashIn}
-use Rattle.firsts.specs.Room.{entryAt}
+use Rattle.clashes.specs.CheckFirsts.{bothOf, sharedBy, lowest, anyWith, anyPair, joinWith, joinPairs}
+use Rattle.clashes.specs.Pairs.{afterIn, linked, sharedIn, clashIn, clashingIn, allSharedIn}
 use Rattle.clashes.proofs.PairsLaws.{linked-next, linked-none}
 
 -- ------------------------------------------------------------------ the places of a nonterminal's productions
@@ -75,9 +71,25 @@ module _ {sets : List ℕ} {es : List Entry} {room : List ℕ} (held : HoldsEntr
 
 -- ------------------------------------------------------------------ two productions
 
-module _ (bs : List ℕ) (nulls : ℕ) {sets : List ℕ} {es : List Entry} {room : List ℕ} (held : HoldsEntries sets es room) where
+-- the entry of the production at a place, with the set and the nullability that are given for it
+abbrev pub entryBy : List ℕ → (Production → ℕ) → (Production → Bool) → Place → Entry
+entryBy bs set-of null-of p =
+    record {
+      nonterminal = p .nonterminal;
+      start = p .start;
+      first = set-of (productionAt bs (p .nonterminal) (p .start));
+      nullable = null-of (productionAt bs (p .nonterminal) (p .start));
+      patterns = 0;
+    }
+
+-- two productions of n share something of these sets, or are both nullable
+abbrev pub clashBy : (Production → ℕ) → (Production → Bool) → ℕ → Production → Production → Bool
+clashBy set-of null-of n p q = bothOf n p q && (ltb 0 (sharedBy set-of n p q) || (null-of p && null-of q))
+
+module _ (bs : List ℕ) (set-of : Production → ℕ) (null-of : Production → Bool) {sets : List ℕ} {es : List Entry} {room : List ℕ}
+    (held : HoldsEntries sets es room) where
   abbrev entry : Place → Entry
-  entry = entryAt bs nulls sets
+  entry = entryBy bs set-of null-of
 
   abbrev production : Place → Production
   production p = productionAt bs (p .nonterminal) (p .start)
@@ -85,7 +97,7 @@ module _ (bs : List ℕ) (nulls : ℕ) {sets : List ℕ} {es : List Entry} {room
   -- the production at a place of the room
   record At (row : ℕ) (place : Place) : Type 0 where
     inside : row < length es
-    here : getD es row noEntry ≡ entryAt bs nulls sets place
+    here : getD es row noEntry ≡ entryBy bs set-of null-of place
 
   read-first : {row : ℕ} {place : Place} → At row place → firstIn room row ≡ entry place .first
   read-first {row} a = first-in held row (a .inside) ∙ rw (a .here) refl
@@ -96,31 +108,31 @@ module _ (bs : List ℕ) (nulls : ℕ) {sets : List ℕ} {es : List Entry} {room
   module _ (nonterminal : ℕ) where
     module _ {row place : ℕ} {at-place other : Place} (at-first : At row at-place) (at-other : At place other)
         (own : eqb (at-place .nonterminal) nonterminal ≡ true) (own′ : eqb (other .nonterminal) nonterminal ≡ true) where
-      shared-own : sharedIn room row place ≡ sharedBy nulls sets nonterminal (production at-place) (production other)
+      shared-own : sharedIn room row place ≡ sharedBy set-of nonterminal (production at-place) (production other)
       unfolding productionAt
       shared-own = rw (own, own′, sharedBy) (rw (read-first at-first, read-first at-other) refl)
 
-      clash-own : clashIn room row place ≡ clash nulls sets nonterminal (production at-place) (production other)
+      clash-own : clashIn room row place ≡ clashBy set-of null-of nonterminal (production at-place) (production other)
       unfolding productionAt
       clash-own = rw (own, own′, sharedBy) (rw (read-first at-first, read-first at-other, read-nullable at-first, read-nullable at-other) refl)
 
     shared-off : (place other : Place) → eqb (other .nonterminal) nonterminal ≡ false
-        → sharedBy nulls sets nonterminal (production place) (production other) ≡ 0
+        → sharedBy set-of nonterminal (production place) (production other) ≡ 0
     unfolding productionAt
     shared-off place other e = rw (e, and-false (eqb (place .nonterminal) nonterminal), sharedBy) refl
 
     clash-off : (place other : Place) → eqb (other .nonterminal) nonterminal ≡ false
-        → clash nulls sets nonterminal (production place) (production other) ≡ false
+        → clashBy set-of null-of nonterminal (production place) (production other) ≡ false
     unfolding productionAt
     clash-off place other e = rw (e, and-false (eqb (place .nonterminal) nonterminal)) refl
 
     shared-none : (place : Place) (other : Production) → eqb (place .nonterminal) nonterminal ≡ false
-        → sharedBy nulls sets nonterminal (production place) other ≡ 0
+        → sharedBy set-of nonterminal (production place) other ≡ 0
     unfolding productionAt
     shared-none place other e = rw (e, sharedBy) refl
 
     clash-none : (place : Place) (other : Production) → eqb (place .nonterminal) nonterminal ≡ false
-        → clash nulls sets nonterminal (production place) other ≡ false
+        → clashBy set-of null-of nonterminal (production place) other ≡ false
     unfolding productionAt
     clash-none place other e = rw e refl
 
@@ -140,7 +152,7 @@ module _ (bs : List ℕ) (nulls : ℕ) {sets : List ℕ} {es : List Entry} {room
 
     module _ {row : ℕ} {place : Place} (at-place : At row place) (own : eqb (place .nonterminal) nonterminal ≡ true) where
       any-with : (ps : List Place) (index : ℕ) → drop index es ≡ map entry ps
-          → anyWith (clashIn room row) (ownPlaces nonterminal (map entry ps) index) ≡ anyWith (clash nulls sets nonterminal (production place))
+          → anyWith (clashIn room row) (ownPlaces nonterminal (map entry ps) index) ≡ anyWith (clashBy set-of null-of nonterminal (production place))
           (productionsAt bs ps)
       unfolding anyWith ownPlaces
       any-with [] index h = refl
@@ -154,7 +166,7 @@ module _ (bs : List ℕ) (nulls : ℕ) {sets : List ℕ} {es : List Entry} {room
 
       join-with : (ps : List Place) (index found : ℕ) → drop index es ≡ map entry ps
           → joinWith (sharedIn room row) (ownPlaces nonterminal (map entry ps) index) found
-          ≡ joinWith (sharedBy nulls sets nonterminal (production place)) (productionsAt bs ps) found
+          ≡ joinWith (sharedBy set-of nonterminal (production place)) (productionsAt bs ps) found
       unfolding joinWith ownPlaces
       join-with [] index found h = refl
       join-with (q ∷ ps) index found h =
@@ -164,13 +176,13 @@ module _ (bs : List ℕ) (nulls : ℕ) {sets : List ℕ} {es : List Entry} {room
           (rw (shared-own at-place (f .0) own t) (join-with ps (index + 1) _ (f .1))))
           (λ t. rw (t, ownPlaces)
           (join-with ps (index + 1) found (f .1)
-          ∙ ap (joinWith (sharedBy nulls sets nonterminal (production place)) (productionsAt bs ps))
+          ∙ ap (joinWith (sharedBy set-of nonterminal (production place)) (productionsAt bs ps))
           (sym (ap (bitOr found) (shared-off place q t) ∙ or-zero-r found))))
 
     -- ------------------------------------------------------------------ all pairs
 
     any-pairs : (ps : List Place) (place : ℕ) → drop place es ≡ map entry ps
-        → anyPair (clashIn room) (ownPlaces nonterminal (map entry ps) place) ≡ anyPair (clash nulls sets nonterminal) (productionsAt bs ps)
+        → anyPair (clashIn room) (ownPlaces nonterminal (map entry ps) place) ≡ anyPair (clashBy set-of null-of nonterminal) (productionsAt bs ps)
     unfolding anyPair ownPlaces
     any-pairs [] place h = refl
     any-pairs (q ∷ ps) place h =
@@ -179,10 +191,10 @@ module _ (bs : List ℕ) (nulls : ℕ) {sets : List ℕ} {es : List Entry} {room
         by-test (eqb (q .nonterminal) nonterminal)
         (λ t. rw (t, ownPlaces)
         (rw (any-with (f .0) t ps (place + 1) (f .1), rest) refl))
-        (λ t. rw (t, ownPlaces, none-with (clash nulls sets nonterminal (production q)) (λ r. clash-none q r t) (productionsAt bs ps)) rest)
+        (λ t. rw (t, ownPlaces, none-with (clashBy set-of null-of nonterminal (production q)) (λ r. clash-none q r t) (productionsAt bs ps)) rest)
 
     join-pairs : (ps : List Place) (place found : ℕ) → drop place es ≡ map entry ps
-        → joinPairs (sharedIn room) (ownPlaces nonterminal (map entry ps) place) found ≡ joinPairs (sharedBy nulls sets nonterminal) (productionsAt bs ps) found
+        → joinPairs (sharedIn room) (ownPlaces nonterminal (map entry ps) place) found ≡ joinPairs (sharedBy set-of nonterminal) (productionsAt bs ps) found
     unfolding joinPairs ownPlaces
     join-pairs [] place found h = refl
     join-pairs (q ∷ ps) place found h =
@@ -190,11 +202,11 @@ module _ (bs : List ℕ) (nulls : ℕ) {sets : List ℕ} {es : List Entry} {room
         by-test (eqb (q .nonterminal) nonterminal)
         (λ t. rw (t, ownPlaces)
         (join-pairs ps (place + 1) (joinWith (sharedIn room place) (ownPlaces nonterminal (map entry ps) (place + 1)) found) (f .1)
-        ∙ ap (joinPairs (sharedBy nulls sets nonterminal) (productionsAt bs ps)) (join-with (f .0) t ps (place + 1) found (f .1))))
+        ∙ ap (joinPairs (sharedBy set-of nonterminal) (productionsAt bs ps)) (join-with (f .0) t ps (place + 1) found (f .1))))
         (λ t. rw (t, ownPlaces)
         (join-pairs ps (place + 1) found (f .1)
-        ∙ ap (joinPairs (sharedBy nulls sets nonterminal) (productionsAt bs ps))
-        (sym (nothing-with (sharedBy nulls sets nonterminal (production q)) (λ r. shared-none q r t) (productionsAt bs ps) found))))
+        ∙ ap (joinPairs (sharedBy set-of nonterminal) (productionsAt bs ps))
+        (sym (nothing-with (sharedBy set-of nonterminal (production q)) (λ r. shared-none q r t) (productionsAt bs ps) found))))
 
     -- the productions of `nonterminal`, by its links
     own-linked : nonterminal < 64 → linked room (firstPlaceIn room nonterminal) ≡ ownPlaces nonterminal es 0
@@ -208,32 +220,17 @@ lowest-same (suc count) start test other h =
     let rest = lowest-same count (start + 1) test other (λ i l. h i (omega arith)) in
     by-test (other start) (λ t. rw (h start (omega arith), t, lowest) refl) (λ t. rw (h start (omega arith), t, lowest) rest)
 
--- ------------------------------------------------------------------ refusal 13
+-- ------------------------------------------------------------------ all productions
 
-module _ (bs : List ℕ) (nulls : ℕ) {sets : List ℕ} (places : List Place) {room : List ℕ}
-    (held : HoldsEntries sets (map (entryAt bs nulls sets) places) room) where
-  clashing-is : clashingIn room ≡ clashing nulls sets (productionsAt bs places)
+module _ (bs : List ℕ) (set-of : Production → ℕ) (null-of : Production → Bool) (places : List Place) {sets room : List ℕ}
+    (held : HoldsEntries sets (map (entryBy bs set-of null-of) places) room) where
+  -- The lowest nonterminal with a clash by the links is the lowest one by the productions,
+  pub clashing-is : clashingIn room ≡ lowest 64 (λ n. anyPair (clashBy set-of null-of n) (productionsAt bs places)) 0
   clashing-is =
       lowest-same 64 0 _ _
-      (λ n small. ap (anyPair (clashIn room)) (own-linked bs nulls held n small) ∙ any-pairs bs nulls held n places 0 refl)
+      (λ n small. ap (anyPair (clashIn room)) (own-linked bs set-of null-of held n small) ∙ any-pairs bs set-of null-of held n places 0 refl)
 
-  shared-is : (nonterminal : ℕ) → nonterminal < 64 → allSharedIn room nonterminal ≡ joinPairs (sharedBy nulls sets nonterminal) (productionsAt bs places) 0
+  -- and so is what any two productions of a nonterminal share.
+  pub shared-is : (nonterminal : ℕ) → nonterminal < 64 → allSharedIn room nonterminal ≡ joinPairs (sharedBy set-of nonterminal) (productionsAt bs places) 0
   shared-is nonterminal small =
-      rw (own-linked bs nulls held nonterminal small) (join-pairs bs nulls held nonterminal places 0 0 refl)
-
-  -- The answer by the links is the answer by the productions.
-  pub no-clash-is : noClashIn room ≡ noClash nulls sets (productionsAt bs places)
-  unfolding noClashIn noClash
-  no-clash-is =
-      let n : ℕ = clashing nulls sets (productionsAt bs places) in
-      ap (λ k. answer (ltb k 64) k (allSharedIn room k)) clashing-is ∙ by (ltb n 64) refl
-    where
-      answer : Bool → ℕ → ℕ → Checked (Unit {0})
-      answer b n s = elim b [ true ↦ bad (refusal 13 n (trailingZeros 64 s) 0) | false ↦ ok tt ]
-
-      by : (test : Bool) → ltb (clashing nulls sets (productionsAt bs places)) 64 ≡ test
-          → answer test (clashing nulls sets (productionsAt bs places)) (allSharedIn room (clashing nulls sets (productionsAt bs places)))
-          ≡ answer test (clashing nulls sets (productionsAt bs places))
-          (joinPairs (sharedBy nulls sets (clashing nulls sets (productionsAt bs places))) (productionsAt bs places) 0)
-      by true t = ap (answer true _) (shared-is _ (ltb-true _ 64 t))
-      by false t = refl
+      rw (own-linked bs set-of null-of held nonterminal small) (join-pairs bs set-of null-of held nonterminal places 0 0 refl)

@@ -1,3 +1,4 @@
+pub mod BothRooms
 pub mod CheckLaws
 pub mod ClashTheorems
 pub mod Clashing
@@ -8,3 +9,4 @@ pub mod OneChoice
 pub mod PairsLaws
 pub mod Refusals
 pub mod Searches
+pub mod SortsLaws

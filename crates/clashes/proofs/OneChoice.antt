@@ -1,10 +1,12 @@
--- In a grammar without clashes, two productions of one nonterminal that are opened by one kind are the same, and so are two that are nullable.
+-- In a grammar without clashes, two productions of one nonterminal that are opened by one kind are the same, and so are two with one pattern place and
+-- two that are nullable.
 use Prim.Native.Nat.{ℕ}
 use mathlib.Core.Path.{_≡_, refl}
 use mathlib.Core.Logic.{_⊎_, inl, inr}
 use mathlib.Core.List.{List, _∷_}
 use Rattle.productions.specs.Normal.{Production}
 use Rattle.decoding.specs.Within.{Among, among-first, among-later}
+use Rattle.firsts.specs.Patterns.{ReadsPlace}
 use Rattle.firsts.specs.Rules.{Of, NullItems, First, Reads}
 use Rattle.clashes.specs.Clashes.{Before, before-first, before-later, Two, Clashes, Never}
 
@@ -44,8 +46,14 @@ module _ (g : List Production) (none : Never (Clashes g)) {nonterminal : ℕ} {p
       one-of (λ r. First g Reads (r .items) kind)
       (λ r s w x y. none nonterminal (inl (kind, record { one = r; other = s; two = w; one-first = x; other-first = y }))) owned other-owned
 
+  -- one production opens with a place of one sort
+  pub one-placed : {sort : ℕ} → First g ReadsPlace (p .items) sort → First g ReadsPlace (other .items) sort → p ≡ other
+  one-placed {sort} =
+      one-of (λ r. First g ReadsPlace (r .items) sort)
+      (λ r s w x y. none nonterminal (inr (inl (sort, record { one = r; other = s; two = w; one-first = x; other-first = y })))) owned other-owned
+
   -- one production is nullable
   pub one-nullable : NullItems g (p .items) → NullItems g (other .items) → p ≡ other
   one-nullable =
-      one-of (λ r. NullItems g (r .items)) (λ r s w x y. none nonterminal (inr (record { one = r; other = s; two = w; one-null = x; other-null = y }))) owned
-      other-owned
+      one-of (λ r. NullItems g (r .items))
+      (λ r s w x y. none nonterminal (inr (inr (record { one = r; other = s; two = w; one-null = x; other-null = y })))) owned other-owned

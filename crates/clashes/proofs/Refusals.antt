@@ -6,7 +6,7 @@ use mathlib.Core.Logic.{_↔_, inl, inr}
 use mathlib.Core.List.{List}
 use native.Mathlib.Decide.{decLt}
 use native.Mathlib.Omega.{arith}
-use lib.Count.{trailingZeros, trailing-le}
+use lib.Count.{trailingZeros}
 use lib.Dec.{ltb}
 use lib.ListN.{getD}
 use borrow.Author.Tests.{ltb-true, ltb-false}
@@ -15,16 +15,20 @@ use Rattle.answers.specs.Refusals.{refusal}
 use Rattle.answers.specs.Checked.{Checked, ok, bad}
 use Rattle.kinds.specs.Kinds.{hasKind}
 use Rattle.kinds.proofs.KindsLaws.{lowest-has, lowest-first}
+use Rattle.kinds.specs.TextKinds.{variableKind}
 use Rattle.productions.specs.Normal.{Production}
 use Rattle.clashes.specs.CheckFirsts.{sharedBy, clash, anyPair, joinPairs, lowest, leftRecursive, clashing}
-use Rattle.firsts.specs.FirstSets.{callOf, nullables, firstSets, leftCalls}
+use Rattle.firsts.specs.FirstSets.{callOf, nullables, leftCalls}
 use Rattle.clashes.specs.CheckFirsts.{lowestShared, noLeftRecursion, noClash, checkFirsts}
 use Rattle.firsts.specs.Rules.{Calls}
+use Rattle.clashes.specs.Openings.{openingsOf}
 use Rattle.clashes.specs.FirstRefusals.{Says12, Says13, Says}
-use Rattle.clashes.specs.Clashes.{Shares, Clashes, Never, Lowest, LowestOr64, LeftRecursive}
+use Rattle.clashes.specs.Named.{Names, names-kind, names-place, names-neither}
+use Rattle.clashes.specs.Clashes.{Shares, SharesPlace, Clashes, Never, Lowest, LeftRecursive}
 use Rattle.firsts.proofs.FirstSetsExactly.{sets-exactly, calls-exactly}
+use Rattle.firsts.proofs.EqualSets.{some-kind, kind-positive}
 use Rattle.clashes.proofs.Searches.{lowest-passes, lowest-skips}
-use Rattle.clashes.proofs.Clashing.{kind-small, shared-exactly, clash-exactly, clash-small}
+use Rattle.clashes.proofs.Clashing.{kind-small, sort-small, shared-exactly, places-shared-exactly, clash-exactly, clash-small}
 
 -- ------------------------------------------------------------------ the lowest number that a relation holds of
 
@@ -51,26 +55,36 @@ lowest-one {P} {other} {number} x y = by (decLt other number) (decLt number othe
     by (no k) (yes l) = absurd (x .none-below number l (y .holds))
     by (no k) (no l) = omega arith
 
-lowest64-one : {P : ℕ → Type 0} {other number : ℕ} → LowestOr64 P other → LowestOr64 P number → other ≡ number
-lowest64-one (inl x) (inl y) = lowest-one x y
-lowest64-one {number = number} (inl x) (inr y) = absurd (y .1 _ (x .holds))
-lowest64-one (inr x) (inl y) = absurd (x .1 _ (y .holds))
-lowest64-one (inr x) (inr y) = x .0 ∙ sym (y .0)
+-- what 13 names is one number
+names-one : {g : List Production} {nonterminal kind other : ℕ} → Names g nonterminal kind → Names g nonterminal other → kind ≡ other
+names-one (names-kind x) (names-kind y) = lowest-one x y
+names-one (names-kind x) (names-place n y) = absurd (n _ (x .holds))
+names-one (names-kind x) (names-neither n m) = absurd (n _ (x .holds))
+names-one (names-place n x) (names-kind y) = absurd (n _ (y .holds))
+names-one (names-place n x) (names-place m y) = ap variableKind (lowest-one x y)
+names-one (names-place n x) (names-neither m k) = absurd (k _ (x .holds))
+names-one (names-neither n m) (names-kind y) = absurd (n _ (y .holds))
+names-one (names-neither n m) (names-place k y) = absurd (m _ (y .holds))
+names-one (names-neither n m) (names-neither k l) = refl
 
--- the lowest kind of a set of kinds
-kinds-lowest : (set : ℕ) (P : ℕ → Type 0) → ((kind : ℕ) → (hasKind set kind ≡ true) ↔ P kind) → ((kind : ℕ) → P kind → kind < 64)
-    → LowestOr64 P (trailingZeros 64 set)
-kinds-lowest set P exactly small = by (decLt (trailingZeros 64 set) 64)
-  where
-    by : Dec (trailingZeros 64 set < 64) → LowestOr64 P (trailingZeros 64 set)
-    by (yes h) =
-        inl
-        (record {
-          holds = exactly (trailingZeros 64 set) .0 (lowest-has 64 set h);
-          none-below = λ b l. fails (exactly b) (lowest-first 64 set b l);
-        })
-    by (no h) =
-        inr (omega (arith, trailing-le 64 set), λ b p. let l : b < 64 = small b p in fails (exactly b) (lowest-first 64 set b (omega arith)) p)
+-- the lowest number of a set that is not empty, and that one without numbers is empty
+module _ (set : ℕ) (P : ℕ → Type 0) (exactly : (kind : ℕ) → (hasKind set kind ≡ true) ↔ P kind) (small : (kind : ℕ) → P kind → kind < 64) where
+  set-lowest : 0 < set → Lowest P (trailingZeros 64 set)
+  set-lowest h = by (decLt (trailingZeros 64 set) 64)
+    where
+      by : Dec (trailingZeros 64 set < 64) → Lowest P (trailingZeros 64 set)
+      by (yes l) =
+          record {
+            holds = exactly (trailingZeros 64 set) .0 (lowest-has 64 set l);
+            none-below = λ b k. fails (exactly b) (lowest-first 64 set b k);
+          }
+      by (no l) =
+          let k = some-kind set h in
+          let b : k .0 < 64 = small (k .0) (exactly (k .0) .0 (k .1)) in
+          absurd (true≢false (sym (k .1) ∙ lowest-first 64 set (k .0) (omega arith)))
+
+  set-empty : set ≤ 0 → Never P
+  set-empty h kind p = let l = kind-positive set kind (exactly kind .1 p) in omega arith
 
 -- ------------------------------------------------------------------ what the check gives
 
@@ -79,7 +93,7 @@ module _ (g : List Production) where
   recursive = leftRecursive (leftCalls (nullables g) g)
 
   abbrev clashes : ℕ
-  clashes = clashing (nullables g) (firstSets (nullables g) g) g
+  clashes = clashing (openingsOf g) g
 
   reaches-itself : (nonterminal : ℕ) → nonterminal < 64 → (hasKind (getD (leftCalls (nullables g) g) nonterminal 0) nonterminal ≡ true)
       ↔ LeftRecursive g nonterminal
@@ -92,23 +106,54 @@ module _ (g : List Production) where
   none-recursive = found-none (λ n. hasKind (getD (leftCalls (nullables g) g) n 0) n) (LeftRecursive g) reaches-itself (λ n h. h .of .small)
 
   lowest-clash : clashes < 64 → Lowest (Clashes g) clashes
-  lowest-clash = found-lowest (λ n. anyPair (clash (nullables g) (firstSets (nullables g) g) n) g) (Clashes g) (clash-exactly g) (λ n h. clash-small g h)
+  lowest-clash = found-lowest (λ n. anyPair (clash (openingsOf g) n) g) (Clashes g) (clash-exactly g) (λ n h. clash-small g h)
 
   none-clashing : 64 ≤ clashes → Never (Clashes g)
-  none-clashing = found-none (λ n. anyPair (clash (nullables g) (firstSets (nullables g) g) n) g) (Clashes g) (clash-exactly g) (λ n h. clash-small g h)
+  none-clashing = found-none (λ n. anyPair (clash (openingsOf g) n) g) (Clashes g) (clash-exactly g) (λ n h. clash-small g h)
 
-  lowest-shared : (nonterminal : ℕ) → nonterminal < 64
-      → LowestOr64 (Shares g nonterminal) (lowestShared (nullables g) (firstSets (nullables g) g) g nonterminal)
-  lowest-shared nonterminal l =
-      kinds-lowest (joinPairs (sharedBy (nullables g) (firstSets (nullables g) g) nonterminal) g 0) (Shares g nonterminal) (shared-exactly g nonterminal l)
-      (λ b s. kind-small (s .one-first))
+  abbrev kindsShared : ℕ → ℕ
+  kindsShared nonterminal = joinPairs (sharedBy (openingsOf g .kinds) nonterminal) g 0
 
-  clash-says : Never (LeftRecursive g) → (test : Bool) → ltb clashes 64 ≡ test → Says g (noClash (nullables g) (firstSets (nullables g) g) g)
+  abbrev sortsShared : ℕ → ℕ
+  sortsShared nonterminal = joinPairs (sharedBy (openingsOf g .sorts) nonterminal) g 0
+
+  shared-names : (nonterminal : ℕ) → nonterminal < 64 → Names g nonterminal (lowestShared (openingsOf g) g nonterminal)
+  shared-names nonterminal l = by (ltb 0 (kindsShared nonterminal)) (ltb 0 (sortsShared nonterminal)) refl refl
+    where
+      some-kinds : ltb 0 (kindsShared nonterminal) ≡ true → Lowest (Shares g nonterminal) (trailingZeros 64 (kindsShared nonterminal))
+      some-kinds e =
+          set-lowest (kindsShared nonterminal) (Shares g nonterminal) (shared-exactly g nonterminal l) (λ k s. kind-small (s .one-first)) (ltb-true 0 _ e)
+
+      no-kinds : ltb 0 (kindsShared nonterminal) ≡ false → Never (Shares g nonterminal)
+      no-kinds e =
+          set-empty (kindsShared nonterminal) (Shares g nonterminal) (shared-exactly g nonterminal l) (λ k s. kind-small (s .one-first)) (ltb-false 0 _ e)
+
+      some-sorts : ltb 0 (sortsShared nonterminal) ≡ true → Lowest (SharesPlace g nonterminal) (trailingZeros 64 (sortsShared nonterminal))
+      some-sorts e =
+          set-lowest (sortsShared nonterminal) (SharesPlace g nonterminal) (places-shared-exactly g nonterminal l) (λ k s. sort-small (s .one-first))
+          (ltb-true 0 _ e)
+
+      no-sorts : ltb 0 (sortsShared nonterminal) ≡ false → Never (SharesPlace g nonterminal)
+      no-sorts e =
+          set-empty (sortsShared nonterminal) (SharesPlace g nonterminal) (places-shared-exactly g nonterminal l) (λ k s. sort-small (s .one-first))
+          (ltb-false 0 _ e)
+
+      by : (one other : Bool) → ltb 0 (kindsShared nonterminal) ≡ one → ltb 0 (sortsShared nonterminal) ≡ other
+          → Names g nonterminal
+          (elim one as (λ x. ℕ) [
+            | true ↦ trailingZeros 64 (kindsShared nonterminal)
+            | false ↦ elim other as (λ x. ℕ) [ true ↦ variableKind (trailingZeros 64 (sortsShared nonterminal)) | false ↦ 64 ]
+          ])
+      by true other e f = names-kind (some-kinds e)
+      by false true e f = names-place (no-kinds e) (some-sorts f)
+      by false false e f = names-neither (no-kinds e) (no-sorts f)
+
+  clash-says : Never (LeftRecursive g) → (test : Bool) → ltb clashes 64 ≡ test → Says g (noClash (openingsOf g) g)
   unfolding noClash
   clash-says none true e =
       let l : clashes < 64 = ltb-true clashes 64 e in
       rw (e, noClash)
-      (inr (record { nonterminal = clashes; kind = _; answer = refl; earlier = none; lowest = lowest-clash l; shared = lowest-shared clashes l }))
+      (inr (record { nonterminal = clashes; kind = _; answer = refl; earlier = none; lowest = lowest-clash l; shared = shared-names clashes l }))
   clash-says none false e = rw (e, noClash) (none, none-clashing (ltb-false clashes 64 e))
 
   -- the result says what it means
@@ -131,7 +176,7 @@ module _ (g : List Production) where
   same-13 : {cause given-refusal : Refusal} → Says13 g cause → Says13 g given-refusal → cause ≡ given-refusal
   same-13 x y =
       let n : x .nonterminal ≡ y .nonterminal = lowest-one (x .lowest) (y .lowest) in
-      let b : x .kind ≡ y .kind = lowest64-one (rw n at (x .shared)) (y .shared) in
+      let b : x .kind ≡ y .kind = names-one (rw n at (x .shared)) (y .shared) in
       cc (x .answer, y .answer)
 
   says-one : (checked other : Checked (Unit {0})) → Says g checked → Says g other → checked ≡ other
@@ -164,14 +209,14 @@ module _ (g : List Production) where
 
   -- 13 names the lowest clash, if none reaches itself
   pub given-13 : (nonterminal kind : ℕ) → (checkFirsts g ≡ bad (refusal 13 nonterminal kind 0))
-      ↔ (Never (LeftRecursive g) × Lowest (Clashes g) nonterminal × LowestOr64 (Shares g nonterminal) kind)
+      ↔ (Never (LeftRecursive g) × Lowest (Clashes g) nonterminal × Names g nonterminal kind)
   given-13 nonterminal kind = (
     λ e. by (check-exactly (bad (refusal 13 nonterminal kind 0)) .0 e),
     λ h. check-exactly (bad (refusal 13 nonterminal kind 0)) .1
         (inr (record { nonterminal = nonterminal; kind = kind; answer = refl; earlier = h .0; lowest = h .1; shared = h .2 })),
   )
     where
-      by : Says g (bad (refusal 13 nonterminal kind 0)) → Never (LeftRecursive g) × Lowest (Clashes g) nonterminal × LowestOr64 (Shares g nonterminal) kind
+      by : Says g (bad (refusal 13 nonterminal kind 0)) → Never (LeftRecursive g) × Lowest (Clashes g) nonterminal × Names g nonterminal kind
       by (inl h) = absurd (omega (arith, ap (λ (r : Refusal). r .number) (h .answer)))
       by (inr h) = (
         h .earlier,

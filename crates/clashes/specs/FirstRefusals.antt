@@ -7,7 +7,8 @@ use Rattle.answers.specs.declared.Refusal.{Refusal}
 use Rattle.answers.specs.Refusals.{refusal}
 use Rattle.answers.specs.Checked.{Checked, ok, bad}
 use Rattle.productions.specs.Normal.{Production}
-use Rattle.clashes.specs.Clashes.{Shares, Clashes, Never, Lowest, LowestOr64, LeftRecursive}
+use Rattle.clashes.specs.Clashes.{Clashes, Never, Lowest, LeftRecursive}
+use Rattle.clashes.specs.Named.{Names}
 
 -- 12: the lowest nonterminal that reaches itself
 pub record Says12 (g : List Production) (r : Refusal) : Type 0 where
@@ -15,14 +16,14 @@ pub record Says12 (g : List Production) (r : Refusal) : Type 0 where
   pub answer : r ≡ refusal 12 nonterminal 0 0
   pub lowest : Lowest (LeftRecursive g) nonterminal
 
--- 13: nothing for 12, the lowest nonterminal of which two productions clash, and the lowest kind that any two of it share, 64 if none
+-- 13: nothing for 12, the lowest nonterminal of which two productions clash, and what any two of it share
 pub record Says13 (g : List Production) (r : Refusal) : Type 0 where
   pub nonterminal : ℕ
   pub kind : ℕ
   pub answer : r ≡ refusal 13 nonterminal kind 0
   pub earlier : Never (LeftRecursive g)
   pub lowest : Lowest (Clashes g) nonterminal
-  pub shared : LowestOr64 (Shares g nonterminal) kind
+  pub shared : Names g nonterminal kind
 
 -- what a result of the check says of the grammar
 abbrev pub Says : List Production → Checked (Unit {0}) → Type 0

@@ -14,6 +14,7 @@ use Rattle.grammar.specs.Limits.{most}
 use Rattle.kinds.specs.Kinds.{hasKind}
 use Rattle.productions.specs.Room.{noPlace, firstPlaceIn, firstIn, nextPlaceIn, nullableIn}
 use Rattle.clashes.specs.declared.Seen.{Seen}
+use Rattle.clashes.specs.Openings.{lowestOf}
 use Rattle.clashes.specs.CheckFirsts.{lowest, anyPair, joinPairs}
 
 -- the place that the link at place i leads to; a link that does not lead on ends the search
@@ -73,3 +74,13 @@ unfoldable pub noClashIn : List ℕ → Checked (Unit {0})
 noClashIn room =
     let n : ℕ = clashingIn room in
     elim (ltb n (most .nonterminals)) [ true ↦ bad (refusal 13 n (trailingZeros 64 (allSharedIn room n)) 0) | false ↦ ok tt ]
+
+-- the lower of two numbers
+abbrev pub lowerOf : ℕ → ℕ → ℕ
+lowerOf a b = elim (ltb a b) [ true ↦ a | false ↦ b ]
+
+-- the same with the sorts of pattern places (document 02, C-14): the room `sorts` has them for the kinds, and no production in it is nullable
+unfoldable pub noClashWith : List ℕ → List ℕ → Checked (Unit {0})
+noClashWith room sorts =
+    let n : ℕ = lowerOf (clashingIn room) (clashingIn sorts) in
+    elim (ltb n (most .nonterminals)) [ true ↦ bad (refusal 13 n (lowestOf (allSharedIn room n) (allSharedIn sorts n)) 0) | false ↦ ok tt ]

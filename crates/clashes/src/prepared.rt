@@ -2,16 +2,19 @@
 use super::clash::clashing;
 use super::clash::left_recursive;
 use super::clash::shared;
+use super::sorts::check_sorts;
+use crate::Preparation;
 use answers::Verdict;
 use answers::causes::AMBIGUOUS;
 use answers::causes::LEFT_RECURSION;
 use answers::refuse;
-use firsts::items::gather;
 use firsts::nullable::nullables;
 use firsts::sets::sets_of;
 use grammar::limits::EACH_ALTERNATIVE;
 use grammar::limits::EACH_NONTERMINAL;
+use kinds::join;
 use kinds::lowest;
+use patterns::openings::opening;
 use productions::index::offset;
 use productions::index::root_of;
 use productions::room::ROOM;
@@ -24,10 +27,10 @@ ghost use Rattle.productions.specs.Index.{placesIn};
 ghost use Rattle.clashes.specs.Pairs.{PlacesBelow, noClashIn};
 ghost use Rattle.firsts.specs.SetCalls.{OwnersBelow};
 ghost use Rattle.firsts.specs.Room.{WholeIndex};
-ghost use Rattle.clashes.specs.CheckCalls.{roomFilled, FillRoom, OwnersSmall, BoundIndex, Prepared, FirstsChecked};
+ghost use Rattle.clashes.specs.CheckCalls.{Filled, FillRoom, OwnersSmall, BoundIndex, Prepared, FirstsChecked};
 
 // Writes the room of a grammar with these reached kinds, nullable nonterminals and first sets. The productions are laid from the last to the first, so
-// that each finds the next one of its nonterminal.
+// that each finds the next one of its nonterminal. What is told is the pattern places that stand first in productions.
 fn fill(
     table: &[u8],
     owners: &[u8; EACH_ALTERNATIVE],
@@ -37,20 +40,23 @@ fn fill(
     nulls: u64,
     sets: &[u64],
     room: &mut [u64],
-)
+) -> u64
     requires { ⌜ FillRoom (now table) m (now owners) (now starts) (now sets) (now room) ⌝ }
-    ensures { λ r. ⌜ now (room .exit)
-        ≡ roomFilled (now (table .entry)) m (now (owners .entry)) (now (starts .entry)) kinds nulls (now (sets .entry)) (now (room .entry)) ⌝ }
+    ensures { λ r. ⌜ Filled (now (table .entry)) m (now (owners .entry)) (now (starts .entry)) kinds nulls (now (sets .entry))
+        (now (room .entry)) (now (room .exit)) r ⌝ }
 {
     begin(room, kinds, sets);
+    let mut places: u64 = 0;
     let mut j = m;
     while 0 < j {
         j -= 1;
         let owner = owners[j];
         let start = offset(starts, j);
-        let found = gather(table, start, nulls, sets, sets);
+        let found = opening(table, start, nulls, sets);
         lay(room, j, owner, starts[j], found.kinds, found.nullable);
+        places = join(places, found.places);
     }
+    places
 }
 
 // One more than the highest nonterminal that has a production.
@@ -72,8 +78,8 @@ fn bound(owners: &[u8; EACH_ALTERNATIVE], m: usize) -> u8
     many
 }
 
-// The lowest nonterminal that is left recursive, `many` if there is none, with what an expansion needs of a grammar in the room; only
-// nonterminals below `many` have productions.
+// The lowest nonterminal that is left recursive, `many` if there is none, with what the search for a clash needs, and what an expansion needs of a grammar
+// in the room; only nonterminals below `many` have productions.
 fn prepare(
     table: &[u8],
     owners: &[u8; EACH_ALTERNATIVE],
@@ -81,7 +87,7 @@ fn prepare(
     m: usize,
     many: u8,
     room: &mut [u64; ROOM],
-) -> u8
+) -> Preparation
     requires { ⌜ BoundIndex many (now table) m (now owners) (now starts) ⌝ }
     ensures { λ r. ⌜ Prepared many (now (table .entry)) (placesIn m (now (owners .entry)) (now (starts .entry))) (now (room .entry)) (now (room .exit)) r ⌝ }
 {
@@ -90,8 +96,13 @@ fn prepare(
     let nulls = nullables(table, owners, starts, m, &mut sets, &mut calls);
     let kinds = reached_kinds(&sets, &calls, root_of(table));
     sets_of(table, owners, starts, m, many, nulls, &mut sets, &mut calls);
-    fill(table, owners, starts, m, kinds, nulls, &sets, room);
-    left_recursive(&calls, many)
+    let places = fill(table, owners, starts, m, kinds, nulls, &sets, room);
+    let recursive = left_recursive(&calls, many);
+    Preparation {
+        recursive,
+        nulls,
+        places,
+    }
 }
 
 // Whether two productions of one nonterminal clash: refusal 13.
@@ -109,7 +120,8 @@ fn check_clash(room: &[u64; ROOM], many: u8) -> Verdict
 }
 
 // Whether a grammar can be read by its next token: refusal 12 or 13, with what an expansion needs of it in the room. This rules out
-// that two nullable productions pass, and that a clash is told before left recursion, or with the kinds of one pair alone.
+// that two nullable productions pass, and that a clash is told before left recursion, or with the kinds of one pair alone. Pattern places are compared only
+// where one stands first in a production.
 pub fn check_firsts(
     table: &[u8],
     owners: &[u8; EACH_ALTERNATIVE],
@@ -121,10 +133,12 @@ pub fn check_firsts(
     ensures { λ r. ⌜ FirstsChecked (now (table .entry)) (placesIn m (now (owners .entry)) (now (starts .entry))) (now (room .entry)) (now (room .exit)) r ⌝ }
 {
     let many = bound(owners, m);
-    let n = prepare(table, owners, starts, m, many, room);
-    if n < many {
-        Verdict::Refused(refuse(LEFT_RECURSION, n as u64, 0, 0))
-    } else {
+    let found = prepare(table, owners, starts, m, many, room);
+    if found.recursive < many {
+        Verdict::Refused(refuse(LEFT_RECURSION, found.recursive as u64, 0, 0))
+    } else if found.places == 0 {
         check_clash(room, many)
+    } else {
+        check_sorts(table, owners, starts, m, many, found.nulls, room)
     }
 }

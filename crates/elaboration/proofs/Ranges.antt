@@ -5,7 +5,6 @@ use mathlib.Core.Path.{_≡_}
 use mathlib.Core.List.{List}
 use lib.ListN.{length}
 use Rattle.grammar.specs.Limits.{most}
-use Rattle.grammar.specs.Sorts.{unit}
 use Rattle.grammar.specs.Table.{Template}
 use Rattle.grammar.specs.Written.{WrittenResult, template, text, WrittenAlternative, WrittenDefinition, Written}
 use Rattle.decoding.specs.Within.{Each, each-none, each-more, TemplateWithin, ItemWithin, ResultWithin, template-within, AlternativeWithin, DefinitionWithin}

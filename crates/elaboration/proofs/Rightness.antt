@@ -10,7 +10,7 @@ use lib.ListN.{length}
 use borrow.Author.Tests.{eqb-true}
 use Rattle.answers.specs.Checked.{Checked, ok, bad, _>>_, need}
 use Rattle.grammar.specs.Limits.{most}
-use Rattle.grammar.specs.Sorts.{Signature, unit}
+use Rattle.grammar.specs.Sorts.{Signature}
 use Rattle.grammar.specs.Table.{Template, Item, Alternative, Definition}
 use Rattle.grammar.specs.Written.{WrittenResult, text, WrittenAlternative, WrittenDefinition, Written}
 use Rattle.decoding.specs.Within.{Each, each-none, each-more}

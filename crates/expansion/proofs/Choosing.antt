@@ -171,4 +171,4 @@ module _ (g : List Production) where
         (subst (First g Reads (other .items)) (sym (next-is (i .token)) ∙ next-is (h .token)) (i .first))
     taken-one {p = p} (taken-opened o h) (taken-nullable k i z) = absurd (i p o h)
     taken-one {other = other} (taken-nullable o h z) (taken-opened k i) = absurd (h other k i)
-    taken-one {nonterminal} {s} {p} {other} (taken-nullable o h z) (taken-nullable k i y) = one-production g passed nonterminal p other o k .1 z y
+    taken-one {nonterminal} {s} {p} {other} (taken-nullable o h z) (taken-nullable k i y) = one-production g passed nonterminal p other o k .2 z y

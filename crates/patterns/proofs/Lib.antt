@@ -1,2 +1,4 @@
+pub mod FitLaws
+pub mod OpeningLaws
 pub mod PatternLaws
 pub mod TextRoomLaws

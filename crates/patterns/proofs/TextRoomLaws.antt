@@ -1,34 +1,27 @@
--- Laws of making a room one for a text: the nullable nonterminals that the room has, the bound of what reads a variable first, and the room at the end.
+-- Laws of making a room one for a text: the nullable nonterminals that the room has, the links, and the room at the end.
 use Prim.Native.Nat.{ℕ, zero, suc, _+_, _*_, _<_, _≤_}
 use mathlib.Core.Path.{_≡_, refl, sym, ap, _∙_}
-use mathlib.Core.Bool.{Bool, true, false, false≢true, and-eq-true-iff}
+use mathlib.Core.Bool.{Bool, true, false, false≢true}
 use mathlib.Core.Logic.{⊎-elim}
-use mathlib.Core.List.{List, [], _∷_, _++_, map}
-use native.Mathlib.Decide.{ℕ-discrete, decLt}
+use mathlib.Core.List.{List, _++_, map}
+use native.Mathlib.Decide.{ℕ-discrete}
 use native.Mathlib.Omega.{arith}
-use lib.Bits.{bitOr, or-lt}
-use lib.Dec.{leb}
-use lib.Pow.{pow-mono}
-use lib.ListN.{length, getD, drop, replicate, length-map, length-replicate, getD-replicate, List·getD-eq-default}
-use lib.Seq.{set-out, getD-set-same, getD-set-other}
+use lib.Bits.{bitOr}
+use lib.ListN.{length, getD, drop, length-map}
 use Rattle.spellings.proofs.BytesLaws.{by-test}
-use borrow.Author.Tests.{leb-true}
 use Rattle.kinds.specs.Kinds.{hasKind, only}
-use Rattle.kinds.proofs.KindsLaws.{has-none, has-join, has-own, only-kind}
-use Rattle.grammar.specs.SortTests.{isSort, isIdeSort}
-use Rattle.grammar.specs.Table.{keyword, ide, number, Item, terminal, local, call}
-use Rattle.grammar.specs.Table as Table
+use Rattle.kinds.proofs.KindsLaws.{has-none, has-join, has-own}
 use Rattle.grammar.specs.Lookup.{fieldsAt}
 use Rattle.decoding.specs.Within.{Each}
 use Rattle.productions.specs.Normal.{Production}
 use Rattle.productions.specs.Index.{itemsOf, Place, placesOf, rootIn, productionAt, productionsBy, Whole}
 use Rattle.productions.specs.Room.{productionsAt, roomOf}
-use Rattle.productions.specs.Room.{Entry, noEntry, HoldsEntries, nullableIn, roomSize, linksAt, patternsBase, patternsMost, patterned, Patterned, PatternsAt}
+use Rattle.productions.specs.Room.{Entry, noEntry, HoldsEntries, nullableIn, roomSize, linksAt, patternsBase, patterned, Patterned, PatternsAt}
 use Rattle.productions.proofs.IndexLaws.{placeAt, map-at, place-among, among-place, length-places}
 use Rattle.productions.proofs.RoomLaws.{kinds-in, nullable-in, link-in, next-small}
 use Rattle.productions.proofs.RoomPatterns.{patterning-start, patterning-here, patterning-next, patterned-as, patterning-end}
-use Rattle.firsts.specs.FirstSets.{rounds, overAll, isNullable, allNullable, nullables, joined, gather, firstStep, setsOf}
-use Rattle.firsts.specs.Patterns.{onlyIf, placeBit, patternOf, patternSets, patternsIn}
+use Rattle.firsts.specs.FirstSets.{allNullable, nullables, gather}
+use Rattle.firsts.specs.Patterns.{patternOf, patternSets, patternsIn}
 use Rattle.firsts.specs.Reach.{kindsReached}
 use Rattle.firsts.specs.Room.{entryAt, productionsIn, tableRoomFor, HoldsFor}
 use Rattle.firsts.specs.Rules.{Nullable}
@@ -39,91 +32,10 @@ use Rattle.firsts.proofs.NullablesExactly.{nullable-exactly, null-items-exactly
 use Rattle.firsts.proofs.Rounds.{or-left, or-right, or-split}
 use Rattle.firsts.proofs.StepLaws.{length-sets}
 use Rattle.firsts.proofs.RoomEntries.{tableSets, tableEntries, table-entries}
+use Rattle.patterns.proofs.FitLaws.{gather-fits, sets-fit}
 use Rattle.patterns.specs.TextRoom.{nullsIn, patternAt, MayAdd, RoomAndIndex}
 
--- ------------------------------------------------------------------ the bound
-
--- a set that fits a link
-abbrev Fits : ℕ → Type 0
-Fits set = set < patternsMost
-
-or-fits : (set other : ℕ) → Fits set → Fits other → Fits (bitOr set other)
-or-fits set other s o = or-lt 15 set other s o
-
--- the set of one of the lowest 15 numbers fits
-only-fits : (bit : ℕ) → bit ≤ 14 → Fits (only bit)
-only-fits bit low = rw (only-kind bit (omega arith)) (omega (arith, pow-mono low))
-
-ide-fits : (sort : ℕ) (test : Bool) → isIdeSort sort ≡ test → Fits (onlyIf test sort)
-ide-fits sort false t = omega arith
-ide-fits sort true t = only-fits sort (omega (arith, leb-true sort 3 (and-eq-true-iff (leb 1 sort) (leb sort 3) .0 t .1)))
-
-place-fits : (sort : ℕ) (test : Bool) → isSort sort ≡ test → Fits (onlyIf test (placeBit sort))
-place-fits sort false t = omega arith
-place-fits sort true t = only-fits (placeBit sort) (omega (arith, leb-true sort 6 t))
-
--- What an item gives by itself fits.
-pub pattern-fits : (item : Item) → Fits (patternOf item)
-pattern-fits (terminal (keyword k)) = omega arith
-pattern-fits (terminal (ide s)) = ide-fits s (isIdeSort s) refl
-pattern-fits (terminal number) = omega arith
-pattern-fits (terminal (Table.place s)) = place-fits s (isSort s) refl
-pattern-fits local = omega arith
-pattern-fits (call n ts) = omega arith
-
--- sets that fit
-abbrev AllFit : List ℕ → Type 0
-AllFit sets = (nonterminal : ℕ) → Fits (getD sets nonterminal 0)
-
-module _ (nulls : ℕ) where
-  module _ (sets : List ℕ) (fit : AllFit sets) where
-    joined-fits : (item : Item) (found : ℕ) → Fits found → Fits (joined patternOf sets item found)
-    joined-fits (terminal t) found f = or-fits _ 0 (or-fits found _ f (pattern-fits (terminal t))) (omega arith)
-    joined-fits local found f = or-fits _ 0 (or-fits found 0 f (pattern-fits local)) (omega arith)
-    joined-fits (call n ts) found f = or-fits _ _ (or-fits found 0 f (pattern-fits (call n ts))) (fit n)
-
-    -- So does what items give,
-    pub gather-fits : (is : List Item) (found : ℕ) → Fits found → Fits (gather patternOf nulls sets is found)
-    unfolding gather
-    gather-fits [] found f = f
-    gather-fits (i ∷ is) found f =
-        by-test (isNullable nulls i) (λ t. rw (t, gather) (gather-fits is _ (joined-fits i found f))) (λ t. rw (t, gather) (joined-fits i found f))
-
-    step-fits : (p : Production) → AllFit (firstStep patternOf nulls p sets)
-    unfolding firstStep
-    step-fits p nonterminal = by (ℕ-discrete nonterminal (p .nonterminal)) (decLt nonterminal (length sets))
-      where
-        more : Fits (bitOr (getD sets (p .nonterminal) 0) (gather patternOf nulls sets (p .items) 0))
-        more = or-fits _ _ (fit (p .nonterminal)) (gather-fits (p .items) 0 (omega arith))
-
-        by : Dec (nonterminal ≡ p .nonterminal) → Dec (nonterminal < length sets) → Fits (getD (firstStep patternOf nulls p sets) nonterminal 0)
-        by (no e) d = rw (getD-set-other sets (p .nonterminal) nonterminal _ 0 e) (fit nonterminal)
-        by (yes e) (yes l) = rw e (rw (getD-set-same sets (p .nonterminal) _ 0 (omega arith)) more)
-        by (yes e) (no l) = rw (set-out sets (p .nonterminal) _ (omega arith)) (fit nonterminal)
-
-  over-fits : (g : List Production) (sets : List ℕ) → AllFit sets → AllFit (overAll (firstStep patternOf nulls) g sets)
-  unfolding overAll
-  over-fits [] sets fit = fit
-  over-fits (p ∷ g) sets fit = over-fits g _ (step-fits sets fit p)
-
-  rounds-fit : (times : ℕ) (g : List Production) (sets : List ℕ) → AllFit sets → AllFit (rounds times (overAll (firstStep patternOf nulls) g) sets)
-  unfolding rounds
-  rounds-fit zero g sets fit = fit
-  rounds-fit (suc times) g sets fit = rounds-fit times g _ (over-fits g sets fit)
-
-  -- and so do the sets of the nonterminals.
-  pub sets-fit : (g : List Production) → AllFit (patternSets nulls g)
-  unfolding setsOf
-  sets-fit g = rounds-fit 64 g (replicate 64 0) (λ n. rw (empty n) (omega arith))
-    where
-      empty : (nonterminal : ℕ) → getD {A = ℕ} (replicate 64 0) nonterminal 0 ≡ 0
-      empty nonterminal = by (decLt nonterminal 64)
-        where
-          by : Dec (nonterminal < 64) → getD {A = ℕ} (replicate 64 0) nonterminal 0 ≡ 0
-          by (yes l) = getD-replicate 64 nonterminal 0 0 l
-          by (no l) = List·getD-eq-default {A = ℕ} (replicate 64 0) 0 {n = nonterminal} (omega (arith, length-replicate {A = ℕ} 64 0))
-
--- There is one for each nonterminal.
+-- There is a set for each nonterminal.
 pub sets-size : (nulls : ℕ) (g : List Production) {sets : List ℕ} → sets ≡ patternSets nulls g → 64 ≡ length sets
 sets-size nulls g e = sym (ap length e ∙ length-sets patternOf nulls g)
 
@@ -210,7 +122,8 @@ module _ (owners room : List ℕ) (nonterminal : ℕ) where
           let t : nullableIn room many ≡ true = rw e at (n .nullable) in
           let o : getD owners many 0 ≡ nonterminal = rw e at (n .owned) in
           rw (t, o, nullsIn)
-          (has-join (nullsIn many owners room) (only nonterminal) nonterminal ∙ or-right (hasKind (nullsIn many owners room) nonterminal) (has-own nonterminal (n .small)))
+          (has-join (nullsIn many owners room) (only nonterminal) nonterminal
+          ∙ or-right (hasKind (nullsIn many owners room) nonterminal) (has-own nonterminal (n .small)))
       by earlier (no e) =
           joined-has (nullableIn room many)
           (earlier
@@ -230,8 +143,8 @@ pub adding-start : {pattern : ℕ → ℕ} {many : ℕ} {sets room : List ℕ} �
 adding-start {pattern} may = record { within = omega arith; done = patterning-start pattern (may .size) }
 
 module _ (bs starts : List ℕ) (nulls : ℕ) {many : ℕ} {sets room₀ : List ℕ} {turn : ℕ} {room : List ℕ} (may : MayAdd many sets room₀)
-    (adding : Adding (patternAt bs starts nulls sets) many room₀ turn room) (under : turn < many) {start : ℕ} (start-is : start ≡ getD starts turn 0) {found : ℕ}
-    (found-is : found ≡ gather patternOf nulls sets (itemsOf (fieldsAt bs start)) 0) where
+    (adding : Adding (patternAt bs starts nulls sets) many room₀ turn room) (under : turn < many) {start : ℕ} (start-is : start ≡ getD starts turn 0)
+    {found : ℕ} (found-is : found ≡ gather patternOf nulls sets (itemsOf (fieldsAt bs start)) 0) where
   -- The next link has nothing, and what is found fits it.
   pub adding-here : PatternsAt turn found room
   adding-here =

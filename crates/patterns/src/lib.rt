@@ -1,5 +1,6 @@
 // What reads a `$` variable first in the productions of a grammar (document 02, C-14): gathered where a text is read, as first sets are gathered where a
 // table is checked.
+pub mod openings;
 pub mod text_room;
 
 use firsts::items::set_at;
@@ -25,6 +26,13 @@ ghost use Rattle.productions.specs.Symbols.{terminalIn, withSymbol};
 ghost use Rattle.firsts.specs.FirstSets.{isNullable, joined, gather, firstStep, overAll};
 ghost use Rattle.firsts.specs.Patterns.{onlyIf, placeBit, patternOf, patternSets};
 ghost use Rattle.patterns.specs.Grown.{Grown};
+
+// What opens a production: its kinds, the pattern places that stand first in it, and whether it is nullable.
+pub struct Opening {
+    pub kinds: u64,
+    pub places: u64,
+    pub nullable: bool,
+}
 
 // The bit of a pattern place of sort 0.
 const PLACE_BIT: u8 = 8;

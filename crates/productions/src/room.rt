@@ -7,7 +7,8 @@ ghost use mathlib.Core.Path.{_≡_};
 ghost use lib.ListN.{length, getD};
 ghost use mathlib.Core.Bool.{true, false};
 ghost use Rattle.grammar.specs.Limits.{most};
-ghost use Rattle.productions.specs.Room.{roomSize, productionsAt, linksAt, placeBase, nullableBase, flagNumber, begun, laid, patterned, RoomAndSets, RoomAt, PatternsAt};
+ghost use Rattle.productions.specs.Room.{roomSize, productionsAt, linksAt, placeBase, nullableBase, flagNumber};
+ghost use Rattle.productions.specs.Room.{begun, laid, patterned, RoomAndSets, RoomAt, PatternsAt};
 ghost use Rattle.productions.specs.Room.{kindsIn, firstSetIn, firstPlaceIn, nullablePlaceIn, firstIn, startIn, nextPlaceIn, nullableIn, patternsIn};
 
 // Where the room has the first sets of nonterminals, the places of their productions, and two numbers for each production: its first set

@@ -62,6 +62,10 @@ abbrev pub OnePlace : List Production → Type 0
 OnePlace g =
     (n sort : ℕ) (p q : Production) → Of g n p → Of g n q → First g ReadsPlace (p .items) sort → First g ReadsPlace (q .items) sort → p ≡ q
 
+-- A grammar that passes is such a one.
+pub passed-one-place : {g : List Production} → checkFirsts g ≡ ok tt → OnePlace g
+passed-one-place {g} passed n sort p q o k f h = one-production g passed n p q o k .1 sort f h
+
 -- A production that is taken is one of its nonterminal.
 pub taken-of : {g : List Production} {nonterminal : ℕ} {s : List Token} {p : Production} → TextTaken g nonterminal s p → Of g nonterminal p
 taken-of (taken-opened o h) = o
@@ -253,7 +257,7 @@ module _ (g : List Production) where
 
   -- ---------------------------------------------------------------- one production is taken at most
 
-  module _ (passed : checkFirsts g ≡ ok tt) (one-place : OnePlace g) where
+  module _ (passed : checkFirsts g ≡ ok tt) where
     opened-one : {nonterminal : ℕ} {s : List Token} {p other : Production} → Of g nonterminal p → Of g nonterminal other → TextOpened g s p
         → TextOpened g s other → p ≡ other
     opened-one {nonterminal} {s} {p} {other} o k (opened-kind {k = kind} t f) (opened-kind u h) =
@@ -271,11 +275,11 @@ module _ (g : List Production) where
     taken-one {other = other} (taken-place o h z) (taken-opened k j) = absurd (h other k j)
     taken-one {nonterminal} {s} {p} {other} (taken-place o h z) (taken-place k i y) =
         let q : y .sort ≡ z .sort = omega (arith, next-is (z .token), next-is (y .token)) in
-        one-place nonterminal (z .sort) p other o k (z .first) (subst (First g ReadsPlace (other .items)) q (y .first))
+        passed-one-place passed nonterminal (z .sort) p other o k (z .first) (subst (First g ReadsPlace (other .items)) q (y .first))
     taken-one {p = p} (taken-place o h z) (taken-nullable k i j y) = absurd (j p o z)
     taken-one {other = other} (taken-nullable o h i z) (taken-opened k j) = absurd (h other k j)
     taken-one {other = other} (taken-nullable o h i z) (taken-place k j y) = absurd (i other k y)
-    taken-one {nonterminal} {s} {p} {other} (taken-nullable o h i z) (taken-nullable k j l y) = one-production g passed nonterminal p other o k .1 z y
+    taken-one {nonterminal} {s} {p} {other} (taken-nullable o h i z) (taken-nullable k j l y) = one-production g passed nonterminal p other o k .2 z y
 
     taken-chosen : {nonterminal : ℕ} {s : List Token} {p : Production} {given-choice : Choice} → TextTaken g nonterminal s p
         → TextPicks nonterminal s given-choice → given-choice ≡ chosen (rule g p)

@@ -37,7 +37,6 @@ use Rattle.texts.proofs.TextSorts.{AllNamed, SortedAt, text-sorted}
 use Rattle.texts.proofs.TextSetting.{TextSetting}
 use Rattle.texts.proofs.TextReading.{read-sorted}
 use Rattle.texts.proofs.TextRun.{text-run}
-use Rattle.texts.proofs.TextChoice.{OnePlace}
 use Rattle.texts.proofs.TextScan.{tiled-named, text-setting}
 use Rattle.texts.proofs.TextAccepted.{TextPlace}
 
@@ -124,7 +123,7 @@ template-sorted {G} {P} {L} {n} place bs read =
     text-sorted (place .all) L (place .newest) (place .without) names (read .derived)
 
 module _ {G : Scope} {P : TextContext} {L : List ℕ} {n : ℕ} {S : Signature} (place : TextPlace G P L n S) (passed : checkFirsts (P .productions) ≡ ok tt)
-    (one-place : OnePlace (P .productions)) (bs : List ℕ) (short : length bs ≤ longestFormula) where
+    (bs : List ℕ) (short : length bs ≤ longestFormula) where
   -- the strict run of a text that the rules read gives its template
   reads-so : {t : Template} (read : ReadText P L n bs t) → length (read .words) ≡ 0 → hasNumber (read .tokens) ≡ false
       → readingOf (S .result) (runText P n (map asOutside (read .tokens))) ≡ reading (record { template = t; made = rowsRead read; isFresh = false })
@@ -138,7 +137,7 @@ module _ {G : Scope} {P : TextContext} {L : List ℕ} {n : ℕ} {S : Signature} 
       subst (λ N. AllNamed N L (read .tokens)) (sym (place .outsides-are)) (tiled-named (lexiconFor P L n) few (place .sorts) (read .tiled) none-other) in
       let cells : List ℕ = replicate (rowsLeft P * columns) 0 in
       let room : rowsLeft P * columns ≤ length cells = omega (arith, length-replicate {A = ℕ} (rowsLeft P * columns) 0) in
-      let k = text-run setting passed one-place n S cells (place .newest) (place .without) room (read .derived) (read .affords) in
+      let k = text-run setting passed n S cells (place .newest) (place .without) room (read .derived) (read .affords) in
       let fresh : ltb 1 (k .state .fresh) ≡ false = le-ltb 1 (k .state .fresh) (omega (arith, k .holds .1)) in
       let same : textTemplate (k .state .made) (k .cells) (S .result) (k .value) ≡ t =
       read-sorted setting (k .cells) t (omega (arith, place .outsides-are, place .few-outsides)) (place .short)

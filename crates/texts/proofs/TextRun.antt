@@ -16,14 +16,14 @@ use Rattle.expansion.specs.Costs.{rowsIn, Affords}
 use Rattle.texts.specs.Substitution.{substitute, templateList}
 use Rattle.texts.specs.ReadingRules.{TextDerives}
 use Rattle.texts.proofs.Showing.{ShowsTemplate}
-use Rattle.texts.proofs.TextChoice.{OnePlace, taken-one}
+use Rattle.texts.proofs.TextChoice.{taken-one}
 use Rattle.texts.proofs.TextSetting.{TextSetting, strictInput}
 use Rattle.texts.proofs.TextValues.{Finished}
 use Rattle.texts.proofs.SameCosts.{same-affords}
 use Rattle.texts.proofs.ValueRun.{run-done}
 use Rattle.texts.proofs.TextReading.{template-reader, text-derived}
 
-module _ {G : Scope} {g : List Production} (setting : TextSetting G g) (passed : checkFirsts g ≡ ok tt) (one-place : OnePlace g) where
+module _ {G : Scope} {g : List Production} (setting : TextSetting G g) (passed : checkFirsts g ≡ ok tt) where
   -- A template that the rules derive of a text within the limits is read: the run ends, makes no fresh name and as many rows, and shows the template.
   pub text-run : (n : ℕ) (S : Signature) (cells : List ℕ) → Newest (G .env) n S → S .params ≡ [] → setting .rows * columns ≤ length cells → {t : Template}
       (d : TextDerives g [] (setting .tokens) 1 (call n none ∷ []) [] 1 (t ∷ [])) → Affords (setting .rows) 0 0 0 d
@@ -31,7 +31,7 @@ module _ {G : Scope} {g : List Production} (setting : TextSetting G g) (passed :
   unfolding substitute templateList
   text-run n S cells newest e room d affords =
       let w = text-derived d in
-      let k = run-done (template-reader setting) (λ m ts p q. taken-one g passed one-place) n S cells newest e refl room (w .rule) (same-affords w affords) in
+      let k = run-done (template-reader setting) (λ m ts p q. taken-one g passed) n S cells newest e refl room (w .rule) (same-affords w affords) in
       record {
         value = k .value;
         state = k .state;

@@ -34,7 +34,7 @@ use Rattle.texts.specs.Reading.{TextContext, lexiconFor, rowsLeft, hasNu
 use Rattle.texts.specs.Reading.{reading, readingOf, isSmall, TextRead, checkReading}
 use Rattle.texts.specs.ReadingRules.{ReadText}
 use Rattle.texts.specs.Unread.{sizeUnder, SizeDerives, Readable, Unread, unread-26, unread-27, unread-28, unread-9, unread-11}
-use Rattle.texts.proofs.TextChoice.{OnePlace, taken-one}
+use Rattle.texts.proofs.TextChoice.{taken-one}
 use Rattle.texts.proofs.TextAccepted.{TextPlace, done-as, scanned-as}
 use Rattle.texts.proofs.TextComplete.{read-accepted}
 use Rattle.texts.proofs.TextValues.{Any, TextReader}
@@ -68,8 +68,7 @@ negated : (b : Bool) → not b ≡ true → b ≡ false
 negated true h = absurd (true≢false (sym h))
 negated false h = refl
 
-module _ {G : Scope} {P : TextContext} {L : List ℕ} {n : ℕ} {S : Signature} (place : TextPlace G P L n S) (passed : checkFirsts (P .productions) ≡ ok tt)
-    (one-place : OnePlace (P .productions)) where
+module _ {G : Scope} {P : TextContext} {L : List ℕ} {n : ℕ} {S : Signature} (place : TextPlace G P L n S) (passed : checkFirsts (P .productions) ≡ ok tt) where
   -- ------------------------------------------------------------------ a run of tokens
 
   -- the reading of tokens, with words at a Binder or without
@@ -123,7 +122,7 @@ module _ {G : Scope} {P : TextContext} {L : List ℕ} {n : ℕ} {S : Signature} 
         → (r : Reading) × (readingBy binders ts ≡ reading r) × (r .isFresh ≡ ltb 1 counter) × (rowsOf (r .template) ≡ size)
     unfolding sizeUnder
     sized-read d affords =
-        let k = run-done reader (λ m us p q. taken-one (P .productions) passed one-place) n S cells (place .newest) (place .without) refl room d affords in (
+        let k = run-done reader (λ m us p q. taken-one (P .productions) passed) n S cells (place .newest) (place .without) refl room d affords in (
           record { template = textTemplate (k .state .made) (k .cells) (S .result) (k .value); made = k .state .made; isFresh = ltb 1 (k .state .fresh) },
           ap (readingOf (S .result)) (k .is),
           ap (λ i. ltb 1 i) (k .holds .1),
@@ -373,4 +372,4 @@ module _ {G : Scope} {P : TextContext} {L : List ℕ} {n : ℕ} {S : Signature} 
 
       -- and none that they read at a sort that fits.
       pub read-or-unread : {t : Template} {number : ℕ} → ReadText P L n bs t → fits (S .result) B ≡ true → Unread P L n (S .result) B bs number → ⊥
-      read-or-unread h f k = true≢false (ap isOk (sym (read-accepted place passed one-place bs short B 0 h f) ∙ rule-refused 0 k))
+      read-or-unread h f k = true≢false (ap isOk (sym (read-accepted place passed bs short B 0 h f) ∙ rule-refused 0 k))

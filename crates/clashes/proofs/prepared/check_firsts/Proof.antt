@@ -22,22 +22,40 @@ bound-requires c κs = laws.owners-small (c .before .pre)
 
 check-clash-requires : tie.Need-check-clash-requires
 check-clash-requires c κs =
-    let p = c .before .before in
+    let p = c .before .before .before .before .before in
     laws.places-below (index p) (p .prepare .ensures)
+
+check-sorts-requires : tie.Need-check-sorts-requires
+check-sorts-requires c κs =
+    let p = c .before .before .before .before .before in
+    record { index = index p; kinds-below = laws.places-below (index p) (p .prepare .ensures) }
 
 returns : tie.Need-returns
 returns c =
-    let p = c .before .before in
+    let taken = c .before .before in
+    let p = taken .before .before in
     record {
-      answer = laws.check-recursive (index p) (p .prepare .ensures) (c .before .if1 .taken) (c .refuse .ensures);
+      answer = laws.check-recursive (index p) (p .prepare .ensures) (taken .if1 .taken) (c .refuse .ensures);
       held = p .prepare .ensures .held;
     }
 
 returns-2 : tie.Need-returns-2
 returns-2 c =
-    let p = c .before .before .before in
+    let chosen = c .before .before in
+    let left = chosen .before .before in
+    let p = left .before .before in
     record {
-      answer = c .check-clash .ensures ∙ laws.check-clashes (index p) (p .prepare .ensures) (c .before .before .if1 .left);
+      answer = c .check-clash .ensures ∙ laws.check-clashes (index p) (p .prepare .ensures) (left .if1 .left) (chosen .if2 .taken);
+      held = p .prepare .ensures .held;
+    }
+
+returns-3 : tie.Need-returns-3
+returns-3 c =
+    let chosen = c .before .before in
+    let left = chosen .before .before in
+    let p = left .before .before in
+    record {
+      answer = c .check-sorts .ensures ∙ laws.check-both (index p) (p .prepare .ensures) (left .if1 .left);
       held = p .prepare .ensures .held;
     }
 
@@ -51,5 +69,7 @@ check-firsts-spec =
     (λ c. search needs)
     (λ c κs. search needs)
     check-clash-requires
+    check-sorts-requires
     returns
-    returns-2)
+    returns-2
+    returns-3)

@@ -1,19 +1,15 @@
 -- `fill`: the entries behind the next one are laid.
 use mathlib.Core.Path.{_∙_, sym}
-use mathlib.Core.List.{map}
-use Rattle.productions.specs.Index.{placesIn}
-use Rattle.productions.proofs.RoomWriting.{Filling}
-use Rattle.firsts.specs.Room.{entryAt}
 use Rattle.clashes.proofs.FillLaws as laws
 use borrow.Author.Needs.{needs}
 use Rattle.clashes.proofs.prepared.fill.Statement.{statement}
 use Rattle.clashes.proofs.prepared.fill.Tie as tie
 
 abbrev Inv-loop : tie.InvT-loop
-Inv-loop table owners starts m kinds nulls sets room₀ j₀ room j = Filling kinds sets (map (entryAt table nulls sets) (placesIn m owners starts)) room₀ j room
+Inv-loop table owners starts m kinds nulls sets room₀ places₀ j₀ room places j = laws.Opening table m owners starts kinds nulls sets room₀ j room places
 
 abbrev μ-loop : tie.MeasureT-loop
-μ-loop table owners starts m kinds nulls sets room₀ j₀ room j = j
+μ-loop table owners starts m kinds nulls sets room₀ places₀ j₀ room places j = j
 
 -- where the room is begun
 module _ (point : tie.After-begin Inv-loop μ-loop) where
@@ -36,15 +32,15 @@ lay-requires c κs =
 
 loop-again : tie.Need-loop-again Inv-loop μ-loop
 loop-again c =
-    let laid = c .before .before in
+    let laid = c .before .before .before in
     let got = laid .before .before .before in
     let offset = got .before in
     let tested = offset .before .before .before in
     laws.fill-next (entry (began (tested .before)) .pre) _ _ (tested .before .loop .inv) (tested .loop-test .taken) (offset .offset .ensures)
-    (got .gather .ensures) (laid .lay .ensures)
+    (got .opening .ensures) (laid .lay .ensures) (c .join .ensures)
 
 same-length : tie.Need-same-length Inv-loop μ-loop
-same-length c = c .before .loop .inv .size ∙ sym (entry (began (c .before)) .pre .lent .size)
+same-length c = c .before .loop .inv .filling .size ∙ sym (entry (began (c .before)) .pre .lent .size)
 
 returns : tie.Need-returns Inv-loop μ-loop
 returns c = search laws.fill-end
@@ -65,6 +61,7 @@ fill-spec =
     (λ c. search needs)
     (λ c. search needs)
     lay-requires
+    (λ c κs. search needs)
     (λ c. search needs)
     loop-again
     same-length

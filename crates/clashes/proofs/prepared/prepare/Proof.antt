@@ -29,7 +29,12 @@ slice-aggregate-left-recursive : tie.Need-slice-aggregate-left-recursive
 slice-aggregate-left-recursive c = search laws.calls-size
 
 returns : tie.Need-returns
-returns c = search laws.prepared
+returns c =
+    let filled = c .before .before in
+    let computed = filled .before .before .before in
+    let reached = computed .before .before .before .before .before in
+    laws.prepared _ _ _ _ (at-notes computed .nullables .ensures) (reached .before .root-of .ensures) (reached .reached-kinds .ensures)
+    (computed .sets-of .ensures) (filled .fill .ensures) (c .left-recursive .ensures)
 
 -- the function meets its contract
 pub prepare-spec : {M : Type 1} → statement M
