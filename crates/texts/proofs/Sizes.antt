@@ -1,7 +1,7 @@
 -- The size of what a number of a text's reading stands for: a row at a sort of rows shows the constructors of its tree, any other number none. A template built
--- under numbers that show sizes shows its own size under these.
+-- under numbers that show the sizes of templates shows the size of the template with these put in.
 use Prim.Native.Nat.{ℕ, zero, suc, _+_, _*_, _≤_, _<_}
-use mathlib.Core.Path.{_≡_, refl, sym, ap, _∙_}
+use mathlib.Core.Path.{_≡_, refl, sym, ap, ap₂, _∙_}
 use mathlib.Core.Bool.{true, false, true≢false, _||_}
 use mathlib.Core.List.{List, [], _∷_, _++_, append-assoc}
 use native.Mathlib.Omega.{arith}
@@ -26,7 +26,7 @@ use Rattle.copying.specs.RowTemplates.{isVariableName, isRowSort, valueTemplate
 use Rattle.copying.specs.Hanging.{isRowAt}
 use Rattle.copying.proofs.ValueLaws.{at-variable, at-row, at-name, at-unit, at-plain}
 use Rattle.copying.proofs.CopyLaws.{no-row-sort}
-use Rattle.texts.specs.Unread.{total, sizeUnder, sizesUnder}
+use Rattle.texts.specs.Substitution.{substitute, substituteAll, templateList}
 use Rattle.texts.proofs.Showing.{fewer, in-row}
 use Rattle.texts.proofs.ReadBack.{result-sort, no-variable}
 use Rattle.texts.proofs.TextValues.{ShowAll, show-none, show-more, show-map}
@@ -37,16 +37,20 @@ mutual
   -- a number shows a size at a sort, where `made` rows are made
   pub data ShowsSize (cells : List ℕ) : ℕ → ℕ → ℕ → ℕ → Type 0 where
     size-leaf : {made sort x : ℕ} → isRowAt sort x ≡ false → ShowsSize cells made sort x 0
-    size-row : {made sort row c n : ℕ} {sizes : List ℕ} → isRowSort sort ≡ true → row < made → column cells row 0 ≡ c
-        → ColumnsSize cells row 1 (constructor c .params) sizes → n ≡ total sizes + 1
+    size-row : {made sort row c m n : ℕ} → isRowSort sort ≡ true → row < made → column cells row 0 ≡ c
+        → ColumnsSize cells row 1 (constructor c .params) m → n ≡ m + 1
         → ShowsSize cells made sort row n
 
-  -- the columns of a row from column k on show sizes at sorts, by rows before it
-  pub data ColumnsSize (cells : List ℕ) : ℕ → ℕ → List ℕ → List ℕ → Type 0 where
-    no-column : {row k : ℕ} → ColumnsSize cells row k [] []
-    one-column : {row k x B n : ℕ} {Bs sizes : List ℕ} → k < columns → column cells row k ≡ x → ShowsSize cells row B x n
-        → ColumnsSize cells row (k + 1) Bs sizes
-        → ColumnsSize cells row k (B ∷ Bs) (n ∷ sizes)
+  -- the columns of a row from column k on show a size together, at sorts and by rows before it
+  pub data ColumnsSize (cells : List ℕ) : ℕ → ℕ → List ℕ → ℕ → Type 0 where
+    no-column : {row k : ℕ} → ColumnsSize cells row k [] 0
+    one-column : {row k x B m n all : ℕ} {Bs : List ℕ} → k < columns → column cells row k ≡ x → ShowsSize cells row B x m
+        → ColumnsSize cells row (k + 1) Bs n → all ≡ m + n
+        → ColumnsSize cells row k (B ∷ Bs) all
+
+-- a number shows the size of a template
+abbrev pub SizeShown : List ℕ → ℕ → ℕ → ℕ → Template → Type 0
+SizeShown cells made B x t = ShowsSize cells made B x (rowsOf t)
 
 -- where more rows are made
 size-more : {made made′ : ℕ} {cells : List ℕ} {B x n : ℕ} → made ≤ made′ → ShowsSize cells made B x n → ShowsSize cells made′ B x n
@@ -59,11 +63,11 @@ mutual
   size-agree a (size-leaf e) = size-leaf e
   size-agree a (size-row {row = row} r h e cs q) = size-row r h (a .same (row * columns + 0) (omega arith) ∙ e) (columns-agree h a cs) q
 
-  columns-agree : {made row k : ℕ} {cells cells′ : List ℕ} {Bs sizes : List ℕ} → row < made → Agree made cells cells′ → ColumnsSize cells row k Bs sizes
-      → ColumnsSize cells′ row k Bs sizes
+  columns-agree : {made row k n : ℕ} {cells cells′ : List ℕ} {Bs : List ℕ} → row < made → Agree made cells cells′ → ColumnsSize cells row k Bs n
+      → ColumnsSize cells′ row k Bs n
   columns-agree l a no-column = no-column
-  columns-agree {row = row} {k = k} l a (one-column h e s cs) =
-      one-column h (a .same (row * columns + k) (omega arith) ∙ e) (size-agree (fewer (omega arith) a) s) (columns-agree l a cs)
+  columns-agree {row = row} {k = k} l a (one-column h e s cs q) =
+      one-column h (a .same (row * columns + k) (omega arith) ∙ e) (size-agree (fewer (omega arith) a) s) (columns-agree l a cs) q
 
 -- What is shown stays shown as rows are made.
 pub size-later : {made made′ : ℕ} {cells cells′ : List ℕ} {B x n : ℕ} → Grown made cells made′ cells′ → ShowsSize cells made B x n
@@ -77,8 +81,8 @@ size-fits fits-binder (size-leaf e) = size-leaf refl
 size-fits fits-binder (size-row r h e cs q) = absurd (true≢false (sym r))
 
 -- a variable's size is shown at its place
-size-bound : {made : ℕ} {cells : List ℕ} {L xs M : List ℕ} {i B : ℕ} → ShowAll (ShowsSize cells made) L xs M → Has L i B
-    → ShowsSize cells made B (getD xs i 0) (getD M i 0)
+size-bound : {made : ℕ} {cells : List ℕ} {L xs : List ℕ} {M : List Template} {i B : ℕ} → ShowAll (SizeShown cells made) L xs M → Has L i B
+    → SizeShown cells made B (getD xs i 0) (getD M i Table.unit)
 size-bound (show-more h hs) has-first = h
 size-bound (show-more h hs) (has-later k) = size-bound hs k
 
@@ -96,7 +100,7 @@ leaf-size rows sort x e =
 
 module _ (cells : List ℕ) where
   mutual
-    unfolding rowTemplate columnTemplates rowsOf total
+    unfolding rowTemplate columnTemplates rowsOf
 
     -- The size that a number shows is that of the template read off the rows, to any depth that is not below the rows made.
     pub size-back : {made depth B x n : ℕ} → made ≤ depth → depth ≤ nameBase → ShowsSize cells made B x n → rowsOf (textTemplate depth cells B x) ≡ n
@@ -108,23 +112,22 @@ module _ (cells : List ℕ) where
         ∙ ap (λ m. m + 1) (columns-back {row = row} {depth = k} (omega arith) (omega arith) cs)
         ∙ sym q
 
-    columns-back : {row depth k : ℕ} {Bs sizes : List ℕ} → row ≤ depth → depth ≤ nameBase → ColumnsSize cells row k Bs sizes
-        → rowsOfAll (columnTemplates Bs (λ q. rowTemplate depth cells q) cells row k) ≡ total sizes
+    columns-back : {row depth k n : ℕ} {Bs : List ℕ} → row ≤ depth → depth ≤ nameBase → ColumnsSize cells row k Bs n
+        → rowsOfAll (columnTemplates Bs (λ q. rowTemplate depth cells q) cells row k) ≡ n
     columns-back l d no-column = refl
-    columns-back {row = row} {depth = depth} {k = k} l d (one-column {B = B} h e s cs) =
-        let first = ap (λ y. rowsOf (valueTemplate B (λ q. rowTemplate depth cells q) y)) e ∙ size-back l d s in
-        let others = columns-back l d cs in
-        cc (first, others)
+    columns-back {row = row} {depth = depth} {k = k} l d (one-column {B = B} h e s cs q) =
+        ap₂ _+_ (ap (λ y. rowsOf (valueTemplate B (λ p. rowTemplate depth cells p) y)) e ∙ size-back l d s) (columns-back l d cs) ∙ sym q
 
 -- ------------------------------------------------------------------ a new row
 
 module _ (made : ℕ) (cells : List ℕ) {code : ℕ} {xs numbers : List ℕ} (row : Row code xs numbers) (room : made * columns + columns ≤ length cells)
     (is-code : IsCode code) where
   -- its columns show what was shown
-  columns-new : (k : ℕ) (before left : List ℕ) {Bs sizes : List ℕ} → xs ≡ before ++ left → k ≡ suc (length before)
-      → ShowAll (ShowsSize cells made) Bs left sizes → k + length Bs ≤ columns → ColumnsSize (withRow cells made numbers) made k Bs sizes
-  columns-new k before left e f show-none l = no-column
-  columns-new k before _ e f (show-more {x = x} {L = Bs} {xs = left} h hs) l =
+  columns-new : (k : ℕ) (before left : List ℕ) {Bs : List ℕ} (ts : Templates) → xs ≡ before ++ left → k ≡ suc (length before)
+      → ShowAll (SizeShown cells made) Bs left (templateList ts) → k + length Bs ≤ columns → ColumnsSize (withRow cells made numbers) made k Bs (rowsOfAll ts)
+  unfolding templateList rowsOf
+  columns-new k before left none e f show-none l = no-column
+  columns-new k before _ (more t ts) e f (show-more {x = x} {L = Bs} {xs = left} h hs) l =
       let here : getD (filled code xs) k 0 ≡ x =
       ap (λ j. getD (filled code xs) j 0) f
       ∙ ap (λ l. getD (l ++ 0 ∷ 0 ∷ 0 ∷ []) (length before) 0) e
@@ -132,31 +135,32 @@ module _ (made : ℕ) (cells : List ℕ) {code : ℕ} {xs numbers : List ℕ} (r
       ∙ getD-at before x (left ++ 0 ∷ 0 ∷ 0 ∷ []) 0 (length before) refl in
       one-column {k = k} (omega arith) (in-row made cells row room is-code k (omega arith) ∙ here)
       (size-agree (row-grown made cells row room is-code .agree) h)
-      (columns-new (k + 1) (before ++ (x ∷ [])) left (e ∙ sym (append-assoc before (x ∷ []) left))
-      (omega (arith, f, length-append before (x ∷ []))) hs (omega arith))
+      (columns-new (k + 1) (before ++ (x ∷ [])) left ts (e ∙ sym (append-assoc before (x ∷ []) left))
+      (omega (arith, f, length-append before (x ∷ []))) hs (omega arith)) refl
 
-  row-shows : {sizes : List ℕ} (sort : ℕ) → isRowSort sort ≡ true → ShowAll (ShowsSize cells made) (constructor code .params) xs sizes
-      → ShowsSize (withRow cells made numbers) (made + 1) sort made (total sizes + 1)
-  row-shows sort r a =
+  row-shows : (sort : ℕ) (ts : Templates) → isRowSort sort ≡ true → ShowAll (SizeShown cells made) (constructor code .params) xs (templateList ts)
+      → SizeShown (withRow cells made numbers) (made + 1) sort made (make code ts)
+  unfolding rowsOf
+  row-shows sort ts r a =
       size-row {made = made + 1} {row = made} r (omega arith) (in-row made cells row room is-code 0 (omega arith))
-      (columns-new 1 [] xs refl refl a (omega (arith, arity-few code))) refl
+      (columns-new 1 [] xs ts refl refl a (omega (arith, arity-few code))) refl
 
 -- ------------------------------------------------------------------ templates
 
 module _ (input : Input) where
   -- a template is built so
-  abbrev Built : ℕ → State → List ℕ → ℕ → ℕ → ℕ → State → List ℕ → Type 0
-  Built n s cells B size x s′ cells′ = Made (input .rows) n s cells s′ cells′ × ShowsSize cells′ (s′ .made) B x size
+  abbrev Built : ℕ → State → List ℕ → ℕ → Template → ℕ → State → List ℕ → Type 0
+  Built n s cells B t x s′ cells′ = Made (input .rows) n s cells s′ cells′ × SizeShown cells′ (s′ .made) B x t
 
   -- and templates so
-  abbrev BuiltAll : ℕ → State → List ℕ → List ℕ → List ℕ → List ℕ → State → List ℕ → Type 0
-  BuiltAll n s cells Bs sizes xs s′ cells′ = Made (input .rows) n s cells s′ cells′ × ShowAll (ShowsSize cells′ (s′ .made)) Bs xs sizes
+  abbrev BuiltAll : ℕ → State → List ℕ → List ℕ → List Template → List ℕ → State → List ℕ → Type 0
+  BuiltAll n s cells Bs M xs s′ cells′ = Made (input .rows) n s cells s′ cells′ × ShowAll (SizeShown cells′ (s′ .made)) Bs xs M
 
-  cell-ends : {code : ℕ} {xs sizes : List ℕ} (sort : ℕ) (state : State) (cells : List ℕ) → input .rows * columns ≤ length cells
-      → IsCode code → isRowSort sort ≡ true → ShowAll (ShowsSize cells (state .made)) (constructor code .params) xs sizes
-      → Ends (Built 1 state cells sort (total sizes + 1)) (Full (input .rows) (state .made + 1)) (cell input code xs state cells)
-  cell-ends {code} {xs} {sizes} sort state cells room is-code r a =
-      cell-by input code xs state cells (Ends (Built 1 state cells sort (total sizes + 1)) (Full (input .rows) (state .made + 1)))
+  cell-ends : {code : ℕ} {xs : List ℕ} (sort : ℕ) (ts : Templates) (state : State) (cells : List ℕ) → input .rows * columns ≤ length cells
+      → IsCode code → isRowSort sort ≡ true → ShowAll (SizeShown cells (state .made)) (constructor code .params) xs (templateList ts)
+      → Ends (Built 1 state cells sort (make code ts)) (Full (input .rows) (state .made + 1)) (cell input code xs state cells)
+  cell-ends {code} {xs} sort ts state cells room is-code r a =
+      cell-by input code xs state cells (Ends (Built 1 state cells sort (make code ts)) (Full (input .rows) (state .made + 1)))
       (λ numbers row h. (
         record {
           grown = row-grown (state .made) cells row (omega arith) is-code;
@@ -166,53 +170,55 @@ module _ (input : Input) where
           made-is = refl;
           fits = omega arith;
         },
-        row-shows (state .made) cells row (omega arith) is-code sort r a,
+        row-shows (state .made) cells row (omega arith) is-code sort ts r a,
       ))
       (λ h. record { is-21 = refl; beyond = omega arith })
 
   mutual
-    unfolding build buildAll rowsOf rowsOfAll sizeUnder sizesUnder
+    unfolding build buildAll rowsOf rowsOfAll substitute templateList
 
-    -- A sorted template, built under numbers that show M, shows its size under M; or no row is left.
-    pub size-built : {N : ℕ} {L : List ℕ} {A B : ℕ} {M : List ℕ} (t : Template) {xs : List ℕ} (state : State) (cells : List ℕ)
-        → Sorted N L t A → Fits A B → input .rows * columns ≤ length cells → state .made ≤ input .rows → ShowAll (ShowsSize cells (state .made)) L xs M
-        → Ends (Built (rowsOf t) state cells B (sizeUnder M t)) (Full (input .rows) (state .made + rowsOf t)) (build t input xs state cells)
+    -- A sorted template, built under numbers that show the sizes of M, shows its size with M put in; or no row is left.
+    pub size-built : {N : ℕ} {L : List ℕ} {A B : ℕ} {M : List Template} (t : Template) {xs : List ℕ} (state : State) (cells : List ℕ)
+        → Sorted N L t A → Fits A B → input .rows * columns ≤ length cells → state .made ≤ input .rows → ShowAll (SizeShown cells (state .made)) L xs M
+        → Ends (Built (rowsOf t) state cells B (substitute M t)) (Full (input .rows) (state .made + rowsOf t)) (build t input xs state cells)
     size-built (variable i) state cells (Judgements.by-variable h) f room fit a = (nothing-made state cells fit, size-fits f (size-bound a h))
     size-built (outsideVar n) state cells (Judgements.by-global h) f room fit a = (nothing-made state cells fit, size-fits f (size-leaf refl))
     size-built (outsideLabel n) state cells (Judgements.by-label h) f room fit a = (nothing-made state cells fit, size-fits f (size-leaf refl))
     size-built Table.unit state cells Judgements.by-unit f room fit a = (nothing-made state cells fit, size-fits f (size-leaf refl))
     size-built {B = B} {M = M} (make c ts) {xs = xs} state cells (Judgements.by-constructor lo hi w) f room fit a =
         let n : ℕ = rowsOfAll ts in
-        let sizes : List ℕ = sizesUnder M ts in
-        ends-after (BuiltAll n state cells (constructor c .params) sizes) (Full (input .rows) (state .made + n)) (Built (n + 1) state cells B (total sizes + 1))
+        let u : Templates = substituteAll M ts in
+        ends-after (BuiltAll n state cells (constructor c .params) (templateList u)) (Full (input .rows) (state .made + n))
+        (Built (n + 1) state cells B (make c u))
         (Full (input .rows) (state .made + (n + 1)))
         (buildAll ts input xs state cells) (λ ys. cell input c ys)
         (sizes-built ts state cells w room fit a)
         (λ ys s₁ c₁ b.
-        ends-map (Built 1 s₁ c₁ (constructor c .result) (total sizes + 1)) (Full (input .rows) (s₁ .made + 1)) (Built (n + 1) state cells B (total sizes + 1))
+        ends-map (Built 1 s₁ c₁ (constructor c .result) (make c u)) (Full (input .rows) (s₁ .made + 1)) (Built (n + 1) state cells B (make c u))
         (Full (input .rows) (state .made + (n + 1)))
         (cell input c ys s₁ c₁)
-        (cell-ends (constructor c .result) s₁ c₁ (rw (b .0 .grown .as-many) room) (lo, hi) (result-sort c hi) (b .1))
+        (cell-ends (constructor c .result) u s₁ c₁ (rw (b .0 .grown .as-many) room) (lo, hi) (result-sort c hi) (b .1))
         (λ x s₂ c₂ d. (made-trans (b .0) (d .0), size-fits f (d .1)))
         (full-more (omega (arith, b .0 .made-is))))
         (full-more (omega arith))
 
     -- So do templates.
-    pub sizes-built : {N : ℕ} {L : List ℕ} {Bs : List ℕ} {M : List ℕ} (ts : Templates) {xs : List ℕ} (state : State) (cells : List ℕ)
-        → Fill N L ts Bs → input .rows * columns ≤ length cells → state .made ≤ input .rows → ShowAll (ShowsSize cells (state .made)) L xs M
-        → Ends (BuiltAll (rowsOfAll ts) state cells Bs (sizesUnder M ts)) (Full (input .rows) (state .made + rowsOfAll ts)) (buildAll ts input xs state cells)
+    pub sizes-built : {N : ℕ} {L : List ℕ} {Bs : List ℕ} {M : List Template} (ts : Templates) {xs : List ℕ} (state : State) (cells : List ℕ)
+        → Fill N L ts Bs → input .rows * columns ≤ length cells → state .made ≤ input .rows → ShowAll (SizeShown cells (state .made)) L xs M
+        → Ends (BuiltAll (rowsOfAll ts) state cells Bs (templateList (substituteAll M ts))) (Full (input .rows) (state .made + rowsOfAll ts))
+        (buildAll ts input xs state cells)
     sizes-built none state cells fill-none room fit a = (nothing-made state cells fit, show-none)
     sizes-built {M = M} (more t ts) {xs = xs} state cells (fill-more {B = B} {Bs = Bs} w f ws) room fit a =
         let m : ℕ = rowsOf t in
         let n : ℕ = rowsOfAll ts in
-        ends-after (Built m state cells B (sizeUnder M t)) (Full (input .rows) (state .made + m))
-        (BuiltAll (m + n) state cells (B ∷ Bs) (sizeUnder M t ∷ sizesUnder M ts))
+        ends-after (Built m state cells B (substitute M t)) (Full (input .rows) (state .made + m))
+        (BuiltAll (m + n) state cells (B ∷ Bs) (substitute M t ∷ templateList (substituteAll M ts)))
         (Full (input .rows) (state .made + (m + n)))
         (build t input xs state cells) _
         (size-built t state cells w f room fit a)
         (λ x s₁ c₁ b.
-        ends-after (BuiltAll n s₁ c₁ Bs (sizesUnder M ts)) (Full (input .rows) (s₁ .made + n))
-        (BuiltAll (m + n) state cells (B ∷ Bs) (sizeUnder M t ∷ sizesUnder M ts))
+        ends-after (BuiltAll n s₁ c₁ Bs (templateList (substituteAll M ts))) (Full (input .rows) (s₁ .made + n))
+        (BuiltAll (m + n) state cells (B ∷ Bs) (substitute M t ∷ templateList (substituteAll M ts)))
         (Full (input .rows) (state .made + (m + n)))
         (buildAll ts input xs s₁ c₁) _
         (sizes-built ts s₁ c₁ ws (rw (b .0 .grown .as-many) room) (b .0 .fits) (show-map (λ B x v h. size-later (b .0 .grown) h) a))

@@ -57,15 +57,6 @@ ide-as-word _ (reads-at {s = s} l h) = reads {t = ide s} (omega arith)
 
 -- ------------------------------------------------------------------ the choice
 
--- Of a nonterminal no two productions open with pattern places of one sort: what 13 asks of places (document 02, C-14).
-abbrev pub OnePlace : List Production → Type 0
-OnePlace g =
-    (n sort : ℕ) (p q : Production) → Of g n p → Of g n q → First g ReadsPlace (p .items) sort → First g ReadsPlace (q .items) sort → p ≡ q
-
--- A grammar that passes is such a one.
-pub passed-one-place : {g : List Production} → checkFirsts g ≡ ok tt → OnePlace g
-passed-one-place {g} passed n sort p q o k f h = one-production g passed n p q o k .1 sort f h
-
 -- A production that is taken is one of its nonterminal.
 pub taken-of : {g : List Production} {nonterminal : ℕ} {s : List Token} {p : Production} → TextTaken g nonterminal s p → Of g nonterminal p
 taken-of (taken-opened o h) = o
@@ -275,7 +266,7 @@ module _ (g : List Production) where
     taken-one {other = other} (taken-place o h z) (taken-opened k j) = absurd (h other k j)
     taken-one {nonterminal} {s} {p} {other} (taken-place o h z) (taken-place k i y) =
         let q : y .sort ≡ z .sort = omega (arith, next-is (z .token), next-is (y .token)) in
-        passed-one-place passed nonterminal (z .sort) p other o k (z .first) (subst (First g ReadsPlace (other .items)) q (y .first))
+        one-production g passed nonterminal p other o k .1 (z .sort) (z .first) (subst (First g ReadsPlace (other .items)) q (y .first))
     taken-one {p = p} (taken-place o h z) (taken-nullable k i j y) = absurd (j p o z)
     taken-one {other = other} (taken-nullable o h i z) (taken-opened k j) = absurd (h other k j)
     taken-one {other = other} (taken-nullable o h i z) (taken-place k j y) = absurd (i other k y)

@@ -12,8 +12,8 @@ use Rattle.kinds.specs.Kinds.{wordKind, numberKind, keywordKind, noKind}
 use Rattle.kinds.specs.TextKinds.{variableKind, outsideKind, sortOfKind}
 use Rattle.grammar.specs.Sorts.{Signature, var, binder, label, num}
 use Rattle.grammar.specs.SortTests.{fits}
-use Rattle.grammar.specs.Table.{Template, Templates, variable, outsideVar, outsideLabel, unit, none, more, keyword, ide, number, place, Item, terminal}
-use Rattle.grammar.specs.Table.{local, call}
+use Rattle.grammar.specs.Table.{Template, Templates, variable, outsideVar, outsideLabel, unit, none, more, keyword, ide, number, place, Item}
+use Rattle.grammar.specs.Table.{terminal, local, call}
 use Rattle.terms.specs.Cells.{columns, nameBase, freshName}
 use Rattle.tokens.specs.declared.Token.{Token}
 use Rattle.tokens.specs.Variables.{variableName}
@@ -156,13 +156,13 @@ module _ {G : Scope} {g : List Production} (setting : TextSetting G g) where
 
     -- one where a pattern place of its sort is read
     place-stepped : (B : ℕ) → B ≤ num → seen false (next-here s) .kind ≡ variableKind B
-        → Stepped (terminal (place B)) B s cells (seen false (next-here s) .value) (tokenTaken s) cells
+        → Stepped (terminal (place B)) B s cells (next-here s .value) (tokenTaken s) cells
     place-stepped B l e =
         let q : next-here s .kind ≡ variableKind B = seen-kind false (next-here s) e (λ z. omega arith) in
         let n : next-here s .value ≡ variableName (setting .name (s .at)) = setting .named (s .at) (omega arith) in
-        stepped (terminal (place B)) B s cells (seen false (next-here s) .value) (variable (setting .name (s .at))) kept
-        (subst (λ y. ShowsTemplate cells (s .made) y (variable (setting .name (s .at)))) (sym (same-value (next-here s) ∙ n)) shows-variable)
-        (λ z. omega arith) (by-place (setting .name (s .at)) q n)
+        stepped (terminal (place B)) B s cells (next-here s .value) (variable (setting .name (s .at))) kept
+        (subst (λ y. ShowsTemplate cells (s .made) y (variable (setting .name (s .at)))) (sym n) shows-variable) (λ z. omega arith)
+        (by-place (setting .name (s .at)) q n)
 
     -- an outside name
     outside-stepped : (B : ℕ) → var ≤ B → B ≤ label → (B ≡ binder → ⊥) → next-here s .kind ≡ wordKind
@@ -215,7 +215,8 @@ module _ {G : Scope} {g : List Production} (setting : TextSetting G g) where
         take-ends false tokens input tokens-are s (Stepped (terminal number) B s cells) numberKind (λ v. v) cells
         (λ e. absurd (setting .no-number (s .at) (seen-kind false (next-here s) e (λ z. omega arith))))
     template-step-ends C (terminal (place B)) (Judgements.by-place l) c xs =
-        take-ends false tokens input tokens-are s (Stepped (terminal (place B)) B s cells) (variableKind B) (λ v. v) cells (place-stepped B l)
+        take-ends false tokens input tokens-are s (Stepped (terminal (place B)) B s cells) (variableKind B) (λ v. v) cells
+        (λ e. subst (λ y. Stepped (terminal (place B)) B s cells y (tokenTaken s) cells) (sym (same-value (next-here s))) (place-stepped B l e))
     template-step-ends C local w c xs = record { value = _; rule = as-fresh; returned = fresh-returned s cells kept shows-label refl refl }
     template-step-ends C (call n ts) w c xs = absurd (true≢false c)
 
@@ -259,9 +260,9 @@ module _ {G : Scope} {g : List Production} (setting : TextSetting G g) where
         (terminal-met input (ide B) s cells (ap (λ u. meetsIde u B) k ∙ variable-met A B (omega arith) w)
         ∙ ap (λ x. done x (tokenTaken s) cells) (variable-value (nextToken input s .kind) B (nextToken input s .value) o ∙ next-value e))
     text-step-done C (terminal (place B)) xs e f (by-place {t = t} n h q) =
-        let k : nextToken input s .kind ≡ variableKind B = next-kind e ∙ ap (λ u. u .kind) (seen-other false t (λ z. omega arith)) ∙ h in
         taken (subst (λ y. ShowsTemplate cells (s .made) y (variable n)) (sym (next-value e ∙ q)) shows-variable) e f
-        (kind-taken false tokens input tokens-are s cells (variableKind B) (λ v. v) k)
+        (kind-taken false tokens input tokens-are s cells (variableKind B) (λ v. v)
+        (next-kind e ∙ ap (λ u. u .kind) (seen-other false t (λ z. omega arith)) ∙ h))
     text-step-done C (terminal (ide _)) xs e f (by-global h l) = taken shows-var e f (outside-taken var e h refl)
     text-step-done C (terminal (ide _)) xs e f (by-label h l) = taken shows-label e f (outside-taken label e h refl)
 
@@ -384,7 +385,7 @@ module _ {G : Scope} {g : List Production} (setting : TextSetting G g) where
       })
       (λ r z. z)
 
-  -- What a number shows that has a sort is read off the rows, a Unit too.
+  -- What a number shows that stands at a sort is read off the rows, a Unit too.
   pub read-sorted : {L : List ℕ} {made x B : ℕ} (cells : List ℕ) (t : Template) → G .outsides ≤ nameBase → length L ≤ nameBase → made ≤ nameBase
       → ShowsTemplate cells made x t → SortedAt (G .outsides) L t B → textTemplate made cells B x ≡ t
   read-sorted cells t few short small h (A, w, f) = read-back few short cells t (omega arith) small h w f

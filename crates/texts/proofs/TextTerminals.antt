@@ -16,18 +16,19 @@ use Rattle.grammar.specs.Sorts.{binder}
 use Rattle.grammar.specs.SortTests.{fits}
 use Rattle.tokens.specs.declared.Token.{Token}
 use Rattle.tokens.specs.Tokens.{endToken}
+use Rattle.tokens.specs.Variables.{variableName}
 use Rattle.productions.specs.Normal.{Production}
 use Rattle.judgements.proofs.TemplateSorts.{both, either}
-use Rattle.copying.specs.RowTemplates.{isVariableName}
 use Rattle.expansion.specs.declared.State.{State}
 use Rattle.expansion.specs.Run.{done}
 use Rattle.expansion.specs.TextTokens.{isTextKind, isOutsideKind, meetsIde}
 use Rattle.expansion.specs.Expansion.{Input, nextToken, tokenTaken, misfit, takeToken, choice}
 use Rattle.expansion.proofs.Choosing.{kind-next}
 use Rattle.expansion.proofs.Endings.{Ends}
+use Rattle.copying.specs.RowTemplates.{isVariableName}
 use Rattle.texts.specs.Reading.{readyText, asOutside}
 use Rattle.texts.proofs.TextChoice.{TextPicks, choice-picks, strict-picks}
-use Rattle.texts.proofs.TextSetting.{next-outside, as-many, kept-token, kind-before, was-word, no-word}
+use Rattle.texts.proofs.TextSetting.{next-outside, as-many, kept-token, same-value, kind-before, was-word, no-word}
 use Rattle.texts.proofs.TextValues.{Any}
 
 -- ------------------------------------------------------------------ what an ide reads
@@ -109,14 +110,23 @@ pub seen-word : (binders : Bool) (t : Token) → seen binders t .kind ≡ wordKi
 seen-word true t e = (e, refl)
 seen-word false t e = absurd (no-word t e)
 
--- What is known of a text's tokens: none is a number, none has the kind of an outside name, and variables have their names.
+-- Its value stays.
+pub seen-value : (binders : Bool) (t : Token) → seen binders t .value ≡ t .value
+seen-value true t = refl
+seen-value false t = same-value t
+
+-- the number of a variable
+abbrev pub NamedVariable : ℕ → Type 0
+NamedVariable value = (n : ℕ) × (value ≡ variableName n) × (isVariableName value ≡ true)
+
+-- What is known of a text's tokens: none is a number, none has the kind of an outside name, and variables have their numbers.
 pub record TextTokens (tokens : List Token) : Type 0 where
   -- none is a number
   pub no-number : (at : ℕ) → getD tokens at endToken .kind ≡ numberKind → ⊥
   -- kinds are those of a formula's tokens and of variables
   pub small : (at : ℕ) → getD tokens at endToken .kind < outsideKind
-  -- what is behind kind 64 has the name of a variable
-  pub named : (at : ℕ) → noKind < getD tokens at endToken .kind → isVariableName (getD tokens at endToken .value) ≡ true
+  -- what is behind kind 64 is a variable
+  pub variable : (at : ℕ) → noKind < getD tokens at endToken .kind → NamedVariable (getD tokens at endToken .value)
 
 -- The choice of the run picks what the tokens take.
 pub seen-picks : (binders : Bool) (g : List Production) (n : ℕ) → n < 64 → (tokens : List Token) (at : ℕ) → getD tokens at endToken .kind < outsideKind

@@ -32,8 +32,9 @@ use Rattle.expansion.proofs.Endings.{Ends}
 use Rattle.copying.specs.RowTemplates.{textTemplate}
 use Rattle.texts.specs.Reading.{TextContext, lexiconFor, rowsLeft, hasNumber, isScanned, otherWords, runText, Reading, Readings, unread}
 use Rattle.texts.specs.Reading.{reading, readingOf, isSmall, TextRead, checkReading}
+use Rattle.texts.specs.Substitution.{substitute, templateList}
 use Rattle.texts.specs.ReadingRules.{ReadText}
-use Rattle.texts.specs.Unread.{sizeUnder, SizeDerives, Readable, Unread, unread-26, unread-27, unread-28, unread-9, unread-11}
+use Rattle.texts.specs.Unread.{Readable, Unread, unread-26, unread-27, unread-28, unread-9, unread-11}
 use Rattle.texts.proofs.TextChoice.{taken-one}
 use Rattle.texts.proofs.TextAccepted.{TextPlace, done-as, scanned-as}
 use Rattle.texts.proofs.TextComplete.{read-accepted}
@@ -43,7 +44,7 @@ use Rattle.texts.proofs.ValueRun.{run-done}
 use Rattle.texts.proofs.Sizes.{size-back}
 use Rattle.texts.proofs.SameCosts.{same-affords}
 use Rattle.texts.proofs.TextTerminals.{allSeen, TextTokens}
-use Rattle.texts.proofs.SizeReading.{sizeValues, size-reader}
+use Rattle.texts.proofs.SizeReading.{LooselyDerives, looseValues, loose-reader}
 use Rattle.texts.proofs.SizeRules.{derived-numbers, derived-counts, derived-wider, tiled-tokens}
 use Rattle.texts.proofs.UnreadCauses.{answer, Cause, cause-scan, cause-unread, cause-lenient, cause-binder, cause-large, cause-fresh, cause-word}
 use Rattle.texts.proofs.UnreadCauses.{cause-sort, Outcome, passes, refuses, outcome, refused-fresh, refused-word, refused-sort}
@@ -79,20 +80,20 @@ module _ {G : Scope} {P : TextContext} {L : List ℕ} {n : ℕ} {S : Signature} 
   record Sized (binders : Bool) (ts : List Token) (r : Reading) : Type 0 where
     -- the counter of fresh names
     counter : ℕ
-    -- the size
-    size : ℕ
+    -- the template
+    template : Template
     -- the derivation
-    derived : SizeDerives binders (P .productions) [] ts 1 (call n none ∷ []) [] counter (size ∷ [])
+    derived : LooselyDerives binders (P .productions) [] ts 1 (call n none ∷ []) [] counter (template ∷ [])
     -- it is within the limits
     affords : Affords (rowsLeft P) 0 0 0 derived
     -- a fresh name is made if the counter moved
     fresh-is : r .isFresh ≡ ltb 1 counter
     -- the template has this size
-    size-is : rowsOf (r .template) ≡ size
+    size-is : rowsOf (r .template) ≡ rowsOf template
 
   module _ (binders : Bool) (ts : List Token) (known : TextTokens ts) where
-    abbrev reader : TextReader G (P .productions) (sizeValues (G .outsides) binders)
-    reader = size-reader binders (place .all) (place .few-keywords) (place .declared) (rowsLeft P) ts known
+    abbrev reader : TextReader G (P .productions) (looseValues (G .outsides) binders)
+    reader = loose-reader binders (place .all) (place .few-keywords) (place .declared) (rowsLeft P) ts known
 
     abbrev cells : List ℕ
     cells = replicate (rowsLeft P * columns) 0
@@ -102,14 +103,14 @@ module _ {G : Scope} {P : TextContext} {L : List ℕ} {n : ℕ} {S : Signature} 
 
     -- what is read is derived
     read-sized : (r : Reading) → readingBy binders ts ≡ reading r → Sized binders ts r
-    unfolding sizeUnder
+    unfolding substitute templateList
     read-sized r e =
         let d = done-as (S .result) (runText P n (allSeen binders ts)) e in
         let q : ReadWhole reader n (S .result) (d .value) (d .state) (d .cells) =
         subst (Ends (ReadWhole reader n (S .result)) Any) (d .is) (run-derived reader n S cells (place .newest) (place .without) refl room) in
         record {
           counter = d .state .fresh;
-          size = q .value;
+          template = q .value;
           derived = q .rule;
           affords = q .affords;
           fresh-is = sym (d .fresh-is);
@@ -117,10 +118,10 @@ module _ {G : Scope} {P : TextContext} {L : List ℕ} {n : ℕ} {S : Signature} 
         }
 
     -- and what is derived is read
-    sized-read : {counter size : ℕ} (d : SizeDerives binders (P .productions) [] ts 1 (call n none ∷ []) [] counter (size ∷ []))
+    sized-read : {counter : ℕ} {template : Template} (d : LooselyDerives binders (P .productions) [] ts 1 (call n none ∷ []) [] counter (template ∷ []))
         → Affords (rowsLeft P) 0 0 0 d
-        → (r : Reading) × (readingBy binders ts ≡ reading r) × (r .isFresh ≡ ltb 1 counter) × (rowsOf (r .template) ≡ size)
-    unfolding sizeUnder
+        → (r : Reading) × (readingBy binders ts ≡ reading r) × (r .isFresh ≡ ltb 1 counter) × (rowsOf (r .template) ≡ rowsOf template)
+    unfolding substitute templateList
     sized-read d affords =
         let k = run-done reader (λ m us p q. taken-one (P .productions) passed) n S cells (place .newest) (place .without) refl room d affords in (
           record { template = textTemplate (k .state .made) (k .cells) (S .result) (k .value); made = k .state .made; isFresh = ltb 1 (k .state .fresh) },
@@ -198,7 +199,7 @@ module _ {G : Scope} {P : TextContext} {L : List ℕ} {n : ℕ} {S : Signature} 
                 tiled = p .tiled;
                 few = p .few;
                 counter = s .counter;
-                size = s .size;
+                template = s .template;
                 derived = s .derived;
                 affords = s .affords;
                 small = omega (arith, leb-true (rowsOf (r .template)) largestTerm small, s .size-is);
@@ -228,8 +229,8 @@ module _ {G : Scope} {P : TextContext} {L : List ℕ} {n : ℕ} {S : Signature} 
         let scanned = tiled-scanned (lexiconFor P L n) (place .few-outsides) bs short (R .tiled) (R .few) in
         let numberless : hasNumber (R .tokens) ≡ false = derived-numbers (R .derived) in
         let k =
-        sized-read binders (R .tokens) (tiled-tokens (lexiconFor P L n) few-kept (place .sorts) (place .short) (R .tiled) numberless)
-        (R .derived) (R .affords) in
+        sized-read binders (R .tokens) (tiled-tokens (lexiconFor P L n) few-kept (place .sorts) (place .short) (R .tiled) numberless) (R .derived)
+        (R .affords) in
         record {
           is-first = rw (scanned, numberless) refl;
           read = k .0;
@@ -249,7 +250,7 @@ module _ {G : Scope} {P : TextContext} {L : List ℕ} {n : ℕ} {S : Signature} 
           tiled = R .tiled;
           few = R .few;
           counter = R .counter;
-          size = R .size;
+          template = R .template;
           derived = w .rule;
           affords = same-affords w (R .affords);
           small = R .small;

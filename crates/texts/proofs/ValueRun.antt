@@ -28,8 +28,8 @@ use Rattle.expansion.proofs.Shows.{Grown, grown-not, grown-trans}
 use Rattle.texts.specs.ReadingRules.{TextTaken}
 use Rattle.texts.proofs.TextChoice.{taken-of}
 use Rattle.texts.proofs.TextSetting.{Kept}
-use Rattle.texts.proofs.TextValues.{Finished, finished, TakenOnce, once-chosen, show-none, show-and, Values, ValueDerives, Returned, TextReader, wholeInput, Lends}
-use Rattle.texts.proofs.TextValues.{lends-whole, lends-inner, Shown, shown-later, arguments-built, result-built, choice-picked}
+use Rattle.texts.proofs.TextValues.{Finished, finished, TakenOnce, once-chosen, show-none, show-and, Values, ValueDerives, Returned, TextReader}
+use Rattle.texts.proofs.TextValues.{wholeInput, Lends, lends-whole, lends-inner, Shown, shown-later, arguments-built, result-built, choice-picked}
 
 module _ {G : Scope} {g : List Production} {values : Values (G .outsides)} (reader : TextReader G g values) (once : TakenOnce g) where
   abbrev tokens : List Token
