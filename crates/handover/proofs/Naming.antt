@@ -27,7 +27,7 @@ use Rattle.soundness.specs.Places.{Given, word-at, outside-name, VarPlace, var-
 use Rattle.soundness.specs.Places.{binder-local, Placed, placed-variable, placed-function, placed-apply, placed-rcd, placed-dot, placed-number, PlacedFields}
 use Rattle.soundness.specs.Places.{placed-nil, placed-cons}
 use Rattle.soundness.specs.Places.{Supplied, supplied-word, supplied-outside}
-use Rattle.soundness.proofs.Normalizing as normalizing
+use Rattle.elaboration.proofs.Normalizing as normalizing
 use Rattle.checker.proofs.PassedNames.{NamesWithin, names-within}
 use Rattle.checker.specs.Syntax.{syntaxOf}
 use Rattle.checker.specs.Passes.{Passes}
