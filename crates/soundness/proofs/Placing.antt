@@ -17,8 +17,8 @@ use Rattle.productions.specs.Normal.{Production}
 use Rattle.terms.specs.Term.{Name, Term, Fields}
 use Rattle.terms.specs.Occurrences.{isWordName, isWorded, isWordedFields}
 use Rattle.expansion.specs.Figure3.{Value, unit, var, binder, label, num, term, fields, Constructs, Bound, bound-first, bound-later, Gives, by-variable}
-use Rattle.expansion.specs.Figure3.{by-global, by-label, by-constructor, by-unit, GiveAll, give-none, give-more, as-var, as-binder, as-label, ReadsAs, by-keyword}
-use Rattle.expansion.specs.Figure3.{by-ide, by-number, by-local, Derives, by-end, by-terminal, by-call, Parses}
+use Rattle.expansion.specs.Figure3.{by-global, by-label, by-constructor, by-unit, GiveAll, give-none, give-more, as-var, as-binder, as-label, ReadsAs}
+use Rattle.expansion.specs.Figure3.{by-keyword, by-ide, by-number, by-local, Derives, by-end, by-terminal, by-call, Parses}
 use Rattle.expansion.specs.Figure3 as Figure3
 use Rattle.soundness.specs.Places.{Given, word-at, fresh-name, number-at, outside-name, outside-label, namedIn, namedInAll, givenAt, givenIn}
 use Rattle.soundness.specs.Places.{Supplied, supplied-word, supplied-fresh, supplied-number, supplied-outside, supplied-label}

@@ -43,7 +43,8 @@ use Rattle.soundness.proofs.Complete as Complete
 use Rattle.soundness.specs.Stopping.{Left, nextIndex, takes, makes, begins, Fails, no-token, no-row, too-deep, too-many-calls, no-choice, Stops, at-token}
 use Rattle.soundness.specs.Stopping.{at-place, at-arguments, at-call, past-item, CallStops, at-start, in-items, at-result, Refuses, stops, left-over}
 use Rattle.soundness.proofs.CellsLeft.{left-not, left-trans, Leaves, build-leaves, build-all-leaves, item-leaves, items-leave, call-leaves}
-use Rattle.soundness.proofs.StopLaws.{first-set-one, build-stays, build-all-stays, index-is, take-halts, place-halts, item-bounded, items-bounded, call-bounded}
+use Rattle.soundness.proofs.StopLaws.{first-set-one, build-stays, build-all-stays, index-is, take-halts, place-halts}
+use Rattle.soundness.proofs.StopLaws.{item-bounded, items-bounded, call-bounded}
 use Rattle.terms.specs.Cells.{columns}
 
 -- a run halted with this refusal that had made `first` cells and then `total`, and left the others

@@ -22,9 +22,9 @@ use Rattle.firsts.specs.Rules.{reads}
 use Rattle.firsts.proofs.FirstsTheorems.{opens-exactly}
 use Rattle.expansion.specs.declared.State.{State}
 use Rattle.expansion.specs.Run.{Result, done, halt, after}
-use Rattle.expansion.specs.Expansion.{Input, readyFor, ready, choice, nextToken, tokenTaken, takeTerminal, misfit, buildAll, build, runItem, runItems, callBegun}
+use Rattle.expansion.specs.Expansion.{Input, readyFor, ready, choice, nextToken, tokenTaken, takeTerminal, misfit, buildAll, build, runItem, runItems}
 use Rattle.expansion.specs.TextTokens.{readValue}
-use Rattle.expansion.specs.Expansion.{runCall, initialState, ended, run}
+use Rattle.expansion.specs.Expansion.{callBegun, runCall, initialState, ended, run}
 use Rattle.expansion.specs.Limits.{mostCalls, mostOpen}
 use Rattle.expansion.specs.Figure3.{Value, GiveAll, give-none, Taken, Derives, by-end}
 use Rattle.expansion.specs.ValueSorts.{Matches}

@@ -17,9 +17,9 @@ use Rattle.elaboration.proofs.Normalizing.{Fit}
 use Rattle.tokens.specs.declared.Token.{Token}
 use Rattle.productions.specs.Normal.{Production}
 use Rattle.firsts.specs.Rules.{Of}
-use Rattle.expansion.specs.Figure3.{Value, Constructs, Bound, bound-first, bound-later, Gives, by-variable, by-global, by-label, by-constructor, by-unit, GiveAll}
-use Rattle.expansion.specs.Figure3.{give-none, give-more, Taken, taken-opened, taken-nullable, as-var, as-binder, as-label, ReadsAs, by-keyword, by-ide}
-use Rattle.expansion.specs.Figure3.{by-number, by-local, Derives, by-end, by-terminal, by-call}
+use Rattle.expansion.specs.Figure3.{Value, Constructs, Bound, bound-first, bound-later, Gives, by-variable, by-global, by-label, by-constructor, by-unit}
+use Rattle.expansion.specs.Figure3.{GiveAll, give-none, give-more, Taken, taken-opened, taken-nullable, as-var, as-binder, as-label, ReadsAs, by-keyword}
+use Rattle.expansion.specs.Figure3.{by-ide, by-number, by-local, Derives, by-end, by-terminal, by-call}
 use Rattle.expansion.specs.Figure3 as Figure3
 use Rattle.expansion.specs.ValueSorts.{Typed, typed-unit, typed-var, typed-binder, typed-binder-as-var, typed-label, typed-term, typed-fields, typed-num}
 use Rattle.expansion.specs.ValueSorts.{Matches, matches-none, matches-more}
