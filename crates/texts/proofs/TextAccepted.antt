@@ -14,12 +14,14 @@ use Rattle.grammar.specs.Limits.{most}
 use Rattle.grammar.specs.Sorts.{Signature}
 use Rattle.grammar.specs.SortTests.{fits}
 use Rattle.grammar.specs.Table.{Template}
+use Rattle.grammar.specs.Variables.{mostVariables}
 use Rattle.terms.specs.Cells.{columns, nameBase}
 use Rattle.terms.specs.Term.{largestTerm}
 use Rattle.tokens.specs.declared.Token.{Token}
 use Rattle.tokens.specs.declared.Scanned.{Scanned}
 use Rattle.tokens.specs.declared.Scanned.the-variants.{Tokens, Unscanned}
 use Rattle.tokens.specs.Scan.{Lexed, scan}
+use Rattle.tokens.specs.Tiling.{Tiled}
 use Rattle.tokens.proofs.TilingLaws.{scan-tiled, scan-counted}
 use Rattle.firsts.specs.Reach.{kindsReached}
 use Rattle.judgements.specs.Scopes.{Scope}
@@ -29,13 +31,16 @@ use Rattle.expansion.specs.Run.{Result, done, halt}
 use Rattle.expansion.specs.Costs.{rowsOf, rowsIn}
 use Rattle.expansion.proofs.Endings.{Ends}
 use Rattle.copying.specs.RowTemplates.{textTemplate}
+use Rattle.copying.specs.Hanging.{isRowAt, HangsAt}
 use Rattle.texts.specs.Reading.{TextContext, lexiconFor, rowsLeft, asOutside, hasNumber, isScanned, otherWords, runText, Reading, Readings, unread}
 use Rattle.texts.specs.Reading.{reading, readingOf, isSmall, unreadBecause, readElse, TextRead, checkReading}
 use Rattle.texts.specs.ReadingRules.{ReadText, rowsRead}
-use Rattle.texts.proofs.TextSorts.{AllSorted, AllNamed}
+use Rattle.texts.proofs.Showing.{ShowsTemplate, shows-label}
+use Rattle.texts.proofs.TextSorts.{AllSorted, AllNamed, Standing, standing-sorted, standing-unit, text-sorted}
 use Rattle.texts.proofs.TextSetting.{TextSetting}
 use Rattle.texts.proofs.TextReading.{Reads, run-reads, ReadWithin, text-read}
 use Rattle.texts.proofs.TextScan.{tiled-named, text-setting}
+use Rattle.texts.proofs.TextsHang.{text-hangs-at, text-before}
 
 -- ------------------------------------------------------------------ checks that pass
 
@@ -113,6 +118,16 @@ passed P n A B at l {r} e =
       answered = cc (t .1);
     }
 
+-- ------------------------------------------------------------------ rows that hang together
+
+-- what shows a template that stands at a sort hangs together there, and its row is one of those made
+standing-hangs : {N : ℕ} {L : List ℕ} {made x B : ℕ} (cells : List ℕ) (t : Template) → N ≤ nameBase → length L ≤ nameBase → length L ≤ mostVariables
+    → made ≤ nameBase → ShowsTemplate cells made x t → Standing N L t B → HangsAt cells mostVariables B x × (isRowAt B x ≡ true → x < made)
+standing-hangs cells t few short fewer small h (standing-sorted w f) =
+    (text-hangs-at few short cells t fewer small h w f, text-before few short cells t small h w f)
+standing-hangs cells _ few short fewer small shows-label standing-unit =
+    (record { variable = λ e. absurd (omega arith); row = λ e. absurd (true≢false (sym e)) }, λ e. absurd (true≢false (sym e)))
+
 -- ------------------------------------------------------------------ what is given
 
 -- Where a text stands: productions that are sorted, limits of a table's layout, and a nonterminal that is declared without parameters.
@@ -176,36 +191,57 @@ module _ {G : Scope} {P : TextContext} {L : List ℕ} {n : ℕ} {S : Signature} 
   abbrev lexed : Lexed
   lexed = scan (lexiconFor P L n) bs
 
-  -- a text that is scanned, with no number and no word but outside names, and whose strict run is done
+  -- a text that is scanned, with no number and no word but outside names
+  module _ {many count : ℕ} (scanned : lexed .answer ≡ Tokens many count) (none-other : length (lexed .words) ≡ 0)
+      (numberless : hasNumber (lexed .tokens) ≡ false) where
+    tiled : Tiled (lexiconFor P L n) bs 0 [] (lexed .tokens) (length bs) (lexed .words)
+    tiled = scan-tiled (lexiconFor P L n) (place .few-outsides) bs scanned
+
+    few-kept : length (lexiconFor P L n .keywords) ≤ most .keywords
+    few-kept = omega (arith, kept-many (kindsReached (P .productions) n) 0 (P .keywords), place .few-spellings)
+
+    -- its tokens are a setting,
+    abbrev setting : TextSetting G (P .productions)
+    setting =
+        text-setting (lexiconFor P L n) few-kept (place .sorts) (place .all) (place .few-keywords) (place .declared) (rowsLeft P) (place .few-outsides) tiled
+        none-other numberless
+
+    -- with names among those that there are,
+    names : AllNamed (G .outsides) L (lexed .tokens)
+    names = subst (λ N. AllNamed N L (lexed .tokens)) (sym (place .outsides-are)) (tiled-named (lexiconFor P L n) few-kept (place .sorts) tiled none-other)
+
+    abbrev cells : List ℕ
+    cells = replicate (rowsLeft P * columns) 0
+
+    room : rowsLeft P * columns ≤ length cells
+    room = omega (arith, length-replicate {A = ℕ} (rowsLeft P * columns) 0)
+
+    -- and what its run reads is shown
+    reads : {x : ℕ} {s : State} {left : List ℕ} → runText P n (map asOutside (lexed .tokens)) ≡ done x s left → Reads setting n x s left
+    reads e = subst (Ends (Reads setting n) (λ u. Unit {0})) e (run-reads setting n S cells (place .newest) (place .without) room)
+
+    unfreshened : {x : ℕ} {s : State} {left : List ℕ} → runText P n (map asOutside (lexed .tokens)) ≡ done x s left → s .fresh ≤ 1 → s .fresh ≡ 1
+    unfreshened e l = omega (arith, reads e .counted)
+
+  -- a text that is scanned so, and whose strict run is done
   read-so : {B many count : ℕ} {r : TextRead} → Passed P n (S .result) B lexed r → lexed .answer ≡ Tokens many count → length (lexed .words) ≡ 0
       → (many ≡ length (lexed .tokens)) × (many ≤ 4096) → (read : Reading) → DoneAs (S .result) (runText P n (map asOutside (lexed .tokens))) read
       → leb (rowsOf (read .template)) largestTerm ≡ true → read .isFresh ≡ false → record { template = read .template; used = P .used + read .made } ≡ r
       → Accepted P L n (S .result) B bs r
   read-so {B} {r = r} k e none-other counted read d small not-fresh answered =
-      let tiled = scan-tiled (lexiconFor P L n) (place .few-outsides) bs e in
-      let few : length (lexiconFor P L n .keywords) ≤ most .keywords =
-      omega (arith, kept-many (kindsReached (P .productions) n) 0 (P .keywords), place .few-spellings) in
-      let setting : TextSetting G (P .productions) =
-      text-setting (lexiconFor P L n) few (place .sorts) (place .all) (place .few-keywords) (place .declared) (rowsLeft P) (place .few-outsides) tiled
-      none-other (k .numberless) in
-      let names : AllNamed (G .outsides) L (lexed .tokens) =
-      subst (λ N. AllNamed N L (lexed .tokens)) (sym (place .outsides-are)) (tiled-named (lexiconFor P L n) few (place .sorts) tiled none-other) in
-      let cells : List ℕ = replicate (rowsLeft P * columns) 0 in
-      let room : rowsLeft P * columns ≤ length cells = omega (arith, length-replicate {A = ℕ} (rowsLeft P * columns) 0) in
-      let q : Reads setting n (d .value) (d .state) (d .cells) =
-      subst (Ends (Reads setting n) (λ u. Unit {0})) (d .is) (run-reads setting n S cells (place .newest) (place .without) room) in
-      let fresh : d .state .fresh ≡ 1 = omega (arith, q .counted, ltb-false 1 (d .state .fresh) (d .fresh-is ∙ not-fresh)) in
+      let fresh = unfreshened e none-other (k .numberless) (d .is) (ltb-false 1 (d .state .fresh) (d .fresh-is ∙ not-fresh)) in
       let w =
-      text-read setting n S cells (place .newest) (place .without) room names (omega (arith, place .outsides-are, place .few-outsides)) (place .short)
+      text-read (setting e none-other (k .numberless)) n S (cells e none-other (k .numberless)) (place .newest) (place .without)
+      (room e none-other (k .numberless)) (names e none-other (k .numberless)) (omega (arith, place .outsides-are, place .few-outsides)) (place .short)
       (omega arith) (d .is) fresh in
-      let v : ReadWithin setting n (r .template) (d .state .made) =
-      subst (λ t. ReadWithin setting n t (d .state .made)) (d .template-is ∙ ap (λ u. u .template) answered) w in
+      let v : ReadWithin (setting e none-other (k .numberless)) n (r .template) (d .state .made) =
+      subst (λ t. ReadWithin (setting e none-other (k .numberless)) n t (d .state .made)) (d .template-is ∙ ap (λ u. u .template) answered) w in
       record {
         read =
             record {
               tokens = lexed .tokens;
               words = lexed .words;
-              tiled = tiled;
+              tiled = tiled e none-other (k .numberless);
               few = omega (arith, counted .0, counted .1);
               derived = v .rule;
               affords = v .affords;
@@ -224,3 +260,19 @@ module _ {G : Scope} {P : TextContext} {L : List ℕ} {n : ℕ} {S : Signature} 
       let none : otherWords (lexed .answer) ≡ 0 = eqb-true _ 0 (k .known) in
       read-so k (a .2) (omega (arith, counted .1, ap otherWords (a .2), none)) (counted .0, counted .2) (k .read)
       (done-as (S .result) (runText P n (map asOutside (lexed .tokens))) (k .is-read)) (k .small) (k .none-fresh) (k .answered)
+
+  -- What the strict run of a text that is accepted leaves hangs together under the variables of an alternative, and its row is one of those made.
+  pub accepted-hangs : (B at : ℕ) {r : TextRead} → checkReading P n (S .result) B at lexed ≡ ok r → length L ≤ mostVariables
+      → {x : ℕ} {s : State} {left : List ℕ} → runText P n (map asOutside (lexed .tokens)) ≡ done x s left → s .fresh ≤ 1
+      → HangsAt left mostVariables (S .result) x × (isRowAt (S .result) x ≡ true → x < s .made)
+  accepted-hangs B at e few-variables {x} {s} {left} runs no-fresh =
+      let k = passed P n (S .result) B at lexed e in
+      let a = scanned-as (lexed .answer) (k .scanned) in
+      let counted = scan-counted (lexiconFor P L n) (place .few-outsides) bs (a .2) in
+      let none : otherWords (lexed .answer) ≡ 0 = eqb-true _ 0 (k .known) in
+      let other : length (lexed .words) ≡ 0 = omega (arith, counted .1, ap otherWords (a .2), none) in
+      let q = reads (a .2) other (k .numberless) runs in
+      let fresh = unfreshened (a .2) other (k .numberless) runs no-fresh in
+      let w = text-sorted (place .all) L (place .newest) (place .without) (names (a .2) other (k .numberless)) (q .derived fresh .rule) in
+      let few : s .made ≤ nameBase = omega (arith, q .few) in
+      standing-hangs left (q .value) (omega (arith, place .outsides-are, place .few-outsides)) (place .short) few-variables few (q .shows) w

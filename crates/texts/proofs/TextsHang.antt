@@ -91,6 +91,10 @@ module _ {N : ℕ} {L : List ℕ} (few : N ≤ nameBase) (short : length L ≤ n
       let at = stands t l s w f in
       record { variable = λ e. let below = at .variable e in omega arith; row = λ e. hangs-more more-variables (at .whole e) }
 
+  -- Its row is one of those made.
+  pub text-before : (t : Template) {made x A B : ℕ} → made ≤ nameBase → ShowsTemplate cells made x t → Sorted N L t A → Fits A B → isRowAt B x ≡ true → x < made
+  text-before t l s w f = stands t l s w f .before
+
   -- The evaluation of what shows a sorted template gives what the template gives.
   pub text-copied : (t : Template) {made x A B : ℕ} → made ≤ nameBase → ShowsTemplate cells made x t → Sorted N L t A → Fits A B
       → {env : List ℕ} {count : ℕ} {cells₀ : List ℕ} {r : Copied} {cells′ : List ℕ} → CopiesText cells B x env count cells₀ r cells′
