@@ -47,6 +47,11 @@ part-before (hangs byte variables before parts) = before
 pub part-hangs : {text : List ℕ} {count row : ℕ} → Hangs text count row → (i : ℕ) → IsPart text row i → Hangs text count (argumentAt text row i)
 part-hangs (hangs byte variables before parts) = parts
 
+-- Rows that hang together under some variables do so under more.
+pub hangs-more : {text : List ℕ} {few many row : ℕ} → few ≤ many → Hangs text few row → Hangs text many row
+hangs-more l (hangs byte variables before parts) =
+    hangs byte (λ i small four. omega (arith, variables i small four)) before (λ i part. hangs-more l (parts i part))
+
 -- ------------------------------------------------------------------ values
 
 -- a row at its place

@@ -14,8 +14,9 @@ use Rattle.expansion.specs.Run.{Run, return, _>>=_}
 use Rattle.expansion.specs.Outcomes.{ran}
 use Rattle.expansion.specs.Expansion.{Input, cell, build, buildAll}
 use Rattle.templates.specs.Built.{Holds}
-use Rattle.copying.specs.Hanging.{Hangs, hangs, HangsAt}
+use Rattle.copying.specs.Hanging.{HangsAt}
 use Rattle.copying.specs.Copies.{copied, CopiesText}
+use Rattle.copying.proofs.CopyLaws.{hangs-more}
 use Rattle.copying.specs.declared.Copied.{Copied}
 use Rattle.copying.specs.declared.Copied.the-variants.{Made, Full}
 use Rattle.steps.specs.HeldTexts.{heldValue, heldWord, heldSort, heldRows, textAt, TextHangs}
@@ -96,10 +97,6 @@ holds-padded {env} {M} shows =
 
 -- ------------------------------------------------------------------ rows that hang together under more variables
 
-hangs-more : {text : List ℕ} {few many row : ℕ} → few ≤ many → Hangs text few row → Hangs text many row
-hangs-more l (hangs byte variables before parts) =
-    hangs byte (λ i small four. omega (arith, variables i small four)) before (λ i part. hangs-more l (parts i part))
-
 hangs-at-more : {text : List ℕ} {few many sort x : ℕ} → few ≤ many → HangsAt text few sort x → HangsAt text many sort x
 hangs-at-more l hang = record { variable = λ four. omega (arith, hang .variable four); row = λ is-row. hangs-more l (hang .row is-row) }
 
@@ -146,6 +143,6 @@ module _ {texts : List ℕ} {at word : ℕ} (there : TextHangs texts at) (word-i
           → ran (copiedStep made state) cells′ ≡ build (textAt texts at) I M state cells
       gives I M rows-are holds =
           copied-ran made state cells′
-          ∙ held .evaluates I state (M ++ replicate 16 0) (length M + 16) (suc (heldValue texts at)) rows-are (holds-padded (shown M holds))
-          (hangs-at-more (omega arith) (there .hangs)) (λ is-row. omega arith)
+          ∙ held .evaluates I state (M ++ replicate 16 0) (length M + 16) (rowsLent (length (heldRows texts at))) rows-are (holds-padded (shown M holds))
+          (hangs-at-more (omega arith) (there .hangs)) (there .row-inside)
           ∙ ap (λ (r : Run ℕ). r state cells) (build-padded (textAt texts at) I M 16)

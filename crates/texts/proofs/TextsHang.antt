@@ -19,6 +19,7 @@ use Rattle.templates.specs.Built.{Holds, withMade}
 use Rattle.copying.specs.RowTemplates.{isRowSort}
 use Rattle.texts.proofs.Showing.{ShowsTemplate, ColumnsShow, shows-variable, shows-var, shows-label, shows-make, no-column, one-column}
 use Rattle.texts.proofs.ReadBack.{has-below, read-back}
+use Rattle.copying.proofs.CopyLaws.{hangs-more}
 use Rattle.copying.specs.Hanging.{isRowAt, IsPart, VariableBelow, Hangs, hangs, HangsAt}
 use Rattle.copying.specs.Copies.{copied, CopiesText}
 use Rattle.copying.specs.declared.Copied.{Copied}
@@ -55,11 +56,6 @@ row-hangs cells {count} {row} {c} e byte each =
         by (no h) =
             let past : getD (constructor c .params) i unit ≡ unit = getD-past (constructor c .params) i unit (omega arith) in
             absurd (true≢false (sym (rw (e, past) at part)))
-
--- rows that hang together under some variables do so under more
-hangs-more : {text : List ℕ} {count count′ row : ℕ} → count ≤ count′ → Hangs text count row → Hangs text count′ row
-hangs-more {text} {count} {count′} {row} l (hangs byte variables before parts) =
-    hangs {row = row} byte (λ i h e. let below = variables i h e in omega arith) before (λ i part. hangs-more l (parts i part))
 
 module _ {N : ℕ} {L : List ℕ} (few : N ≤ nameBase) (short : length L ≤ nameBase) (cells : List ℕ) where
   mutual

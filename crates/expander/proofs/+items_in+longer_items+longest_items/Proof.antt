@@ -1,5 +1,5 @@
--- `items_in`, `longer_items` and `longest_items`: where a room is too short the calls go on in a longer one, until they end. The longer the room, the less is left
--- of the longest.
+-- `items_in`, `longer_items` and `longest_items`: where a room is too short the calls go on in a longer one, until they end. The longer the room, the
+-- less is left of the longest.
 use Prim.Native.Nat.{ℕ, _+_, _-_, _*_, _<_}
 use mathlib.Core.Path.{_≡_}
 use mathlib.Core.List.{List}

@@ -110,7 +110,8 @@ returns-2 c =
           (listed .build-arguments .last .0) (listed .build-arguments .last .1 .0)
           (listed .build-arguments .ensures .lists I state M (reads .rows-are) g);
       advances =
-          laws.call-advances (stands p there) state (listed .build-arguments .result) _ (listed .build-arguments .ensures .few) (omega (arith, as-long, inside p));
+          laws.call-advances (stands p there) state (listed .build-arguments .result) _ (listed .build-arguments .ensures .few)
+          (omega (arith, as-long, inside p));
       keeps = laws.call-keeps (listed .build-arguments .result) _ _ state _ (listed .build-arguments .last .0) (listed .build-arguments .ensures .kept);
     })
 
