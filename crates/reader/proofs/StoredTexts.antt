@@ -1,14 +1,14 @@
 -- A text that is stored is held with the template that was read, and every earlier one stays.
-use Prim.Native.Nat.{ℕ, suc, _+_, _*_, _/_, _%_, _<_, _≤_}
+use Prim.Native.Nat.{ℕ, _+_, _*_, _/_, _%_, _<_, _≤_}
 use mathlib.Core.Path.{_≡_, refl, sym, ap, subst, _∙_}
 use mathlib.Core.Bool.{true}
 use mathlib.Core.List.{List}
 use native.Mathlib.Decide.{decLt}
 use native.Mathlib.Omega.{arith}
-use lib.ListN.{length, getD, drop, replicate}
+use lib.ListN.{length, getD, drop, replicate, length-drop}
 use lib.Seq.{getD-drop, ext-getD}
 use Rattle.grammar.specs.Variables.{mostVariables}
-use Rattle.terms.specs.Cells.{columns}
+use Rattle.terms.specs.Cells.{columns, mostCells, rowsLent}
 use Rattle.tokens.specs.declared.Token.{Token}
 use Rattle.expansion.specs.Run.{done}
 use Rattle.copying.specs.RowTemplates.{textTemplate}
@@ -21,12 +21,22 @@ use Rattle.reader.specs.TextReadings.{DoneWith}
 use Rattle.reader.specs.Storing.{StorablePair, StoresText, HeldBefore}
 use Rattle.reader.proofs.SameRows.{value-hangs, text-same}
 
+-- a row before an end is one of those that the slice holds behind an index
+row-lent : (texts : List ℕ) (start x : ℕ) → start + (x + 1) * columns ≤ length texts → x < mostCells → x < rowsLent (length (drop start texts))
+row-lent texts start x l m = omega (arith, length-drop start texts)
+
+held-row : {texts : List ℕ} {base end at : ℕ} → HeldBefore texts base end at → isRowAt (heldSort texts at) (heldValue texts at) ≡ true
+    → heldValue texts at < rowsLent (length (heldRows texts at))
+held-row {texts} {at = at} held e =
+    row-lent texts (heldStart texts at) (heldValue texts at) (omega (arith, held .rows-inside e, held .end-inside)) (held .row-small e)
+
 -- What is held hangs together, as a run asks of its texts.
 pub held-hangs : {texts : List ℕ} {base end at : ℕ} → HeldBefore texts base end at → TextHangs texts at
 held-hangs held =
     record {
       pair-inside = omega (arith, held .pair-before, held .rows-behind, held .begins-inside, held .end-inside);
       rows-inside = omega (arith, held .begins-inside, held .end-inside);
+      row-inside = held-row held;
       hangs = held .hangs;
     }
 
@@ -52,6 +62,7 @@ module _ {texts cells : List ℕ} {at sort start made x : ℕ} {texts′ cells�
           rows-behind = omega (arith, start-held);
           begins-inside = omega (arith, start-held);
           rows-inside = λ e. let row = before (rw (sort-held, stores .value) at e) in omega (arith, start-held, stores .value);
+          row-small = λ e. let row = before (rw (sort-held, stores .value) at e) in omega (arith, stores .value, storable .few-rows);
           end-inside = omega (arith, stores .long, storable .inside);
           hangs = rw (start-held, sort-held, stores .value) (value-hangs cells (drop start texts′) hangs rows-same);
         }
@@ -61,7 +72,9 @@ module _ {texts cells : List ℕ} {at sort start made x : ℕ} {texts′ cells�
     unfolding textAt
     stored-template =
         rw (start-held, sort-held, stores .value)
-        (text-same cells (drop start texts′) hangs rows-same made (suc x) before (λ e. omega arith))
+        (text-same cells (drop start texts′) hangs rows-same made (rowsLent (length (drop start texts′))) before
+        (λ e.
+        row-lent texts′ start x (omega (arith, before e, stores .long, storable .inside)) (omega (arith, before e, storable .few-rows))))
 
   -- ------------------------------------------------------------------ an earlier text
 
@@ -90,6 +103,7 @@ module _ {texts cells : List ℕ} {at sort start made x : ℕ} {texts′ cells�
           rows-behind = omega (arith, word-kept, held .rows-behind);
           begins-inside = omega (arith, word-kept, held .begins-inside);
           rows-inside = λ e. let inside = held .rows-inside (rw (value-kept, word-kept) at e) in omega (arith, value-kept, word-kept);
+          row-small = λ e. let small = held .row-small (rw (value-kept, word-kept) at e) in omega (arith, value-kept);
           end-inside = omega (arith, stores .long, storable .inside);
           hangs =
               rw (value-kept, word-kept)
@@ -101,8 +115,11 @@ module _ {texts cells : List ℕ} {at sort start made x : ℕ} {texts′ cells�
     unfolding textAt
     earlier-template =
         rw (value-kept, word-kept)
-        (text-same (heldRows texts earlier) (drop (heldStart texts earlier) texts′) (held .hangs) rows-kept (suc (heldValue texts earlier))
-        (suc (heldValue texts earlier)) (λ e. omega arith) (λ e. omega arith))
+        (text-same (heldRows texts earlier) (drop (heldStart texts earlier) texts′) (held .hangs) rows-kept (rowsLent (length (heldRows texts earlier)))
+        (rowsLent (length (drop (heldStart texts earlier) texts′))) (held-row held)
+        (λ e.
+        row-lent texts′ (heldStart texts earlier) (heldValue texts earlier) (omega (arith, held .rows-inside e, held .end-inside, stores .long))
+        (held .row-small e)))
 
   -- ------------------------------------------------------------------ the cells
 

@@ -5,7 +5,7 @@ use mathlib.Core.Bool.{true}
 use mathlib.Core.List.{List}
 use lib.ListN.{length, getD}
 use Rattle.grammar.specs.Variables.{mostVariables}
-use Rattle.terms.specs.Cells.{columns}
+use Rattle.terms.specs.Cells.{columns, mostCells}
 use Rattle.copying.specs.Hanging.{isRowAt, HangsAt}
 use Rattle.steps.specs.HeldTexts.{pairOf, heldValue, heldSort, heldStart, heldRows}
 
@@ -16,6 +16,7 @@ pub record StorablePair (texts cells : List ℕ) (at sort start made : ℕ) : Ty
   pub short : length texts < 2 ^ 28
   pub sort-small : sort < 8
   pub rows-there : made * columns ≤ length cells
+  pub few-rows : made ≤ mostCells
 
 -- numbers are moved from the front of the cells to an index, and zeroed; all others stay
 pub record MovesRows (texts : List ℕ) (start : ℕ) (cells : List ℕ) (numbers : ℕ) (texts′ cells′ : List ℕ) : Type 0 where
@@ -43,5 +44,6 @@ pub record HeldBefore (texts : List ℕ) (base end at : ℕ) : Type 0 where
   pub rows-behind : base ≤ heldStart texts at
   pub begins-inside : heldStart texts at ≤ end
   pub rows-inside : isRowAt (heldSort texts at) (heldValue texts at) ≡ true → heldStart texts at + (heldValue texts at + 1) * columns ≤ end
+  pub row-small : isRowAt (heldSort texts at) (heldValue texts at) ≡ true → heldValue texts at < mostCells
   pub end-inside : end ≤ length texts
   pub hangs : HangsAt (heldRows texts at) mostVariables (heldSort texts at) (heldValue texts at)
