@@ -35,8 +35,8 @@ use Rattle.copying.specs.Hanging.{isRowAt, HangsAt}
 use Rattle.texts.specs.Reading.{TextContext, lexiconFor, rowsLeft, asOutside, hasNumber, isScanned, otherWords, runText, Reading, Readings, unread}
 use Rattle.texts.specs.Reading.{reading, readingOf, isSmall, unreadBecause, readElse, TextRead, checkReading}
 use Rattle.texts.specs.ReadingRules.{ReadText, rowsRead}
-use Rattle.texts.proofs.Showing.{ShowsTemplate, shows-label}
-use Rattle.texts.proofs.TextSorts.{AllSorted, AllNamed, Standing, standing-sorted, standing-unit, text-sorted}
+use Rattle.texts.proofs.Showing.{ShowsTemplate}
+use Rattle.texts.proofs.TextSorts.{AllSorted, AllNamed, SortedAt, text-sorted}
 use Rattle.texts.proofs.TextSetting.{TextSetting}
 use Rattle.texts.proofs.TextReading.{Reads, run-reads, ReadWithin, text-read}
 use Rattle.texts.proofs.TextScan.{tiled-named, text-setting}
@@ -120,13 +120,11 @@ passed P n A B at l {r} e =
 
 -- ------------------------------------------------------------------ rows that hang together
 
--- what shows a template that stands at a sort hangs together there, and its row is one of those made
-standing-hangs : {N : ℕ} {L : List ℕ} {made x B : ℕ} (cells : List ℕ) (t : Template) → N ≤ nameBase → length L ≤ nameBase → length L ≤ mostVariables
-    → made ≤ nameBase → ShowsTemplate cells made x t → Standing N L t B → HangsAt cells mostVariables B x × (isRowAt B x ≡ true → x < made)
-standing-hangs cells t few short fewer small h (standing-sorted w f) =
+-- what shows a template of a sort hangs together there, and its row is one of those made
+sorted-hangs : {N : ℕ} {L : List ℕ} {made x B : ℕ} (cells : List ℕ) (t : Template) → N ≤ nameBase → length L ≤ nameBase → length L ≤ mostVariables
+    → made ≤ nameBase → ShowsTemplate cells made x t → SortedAt N L t B → HangsAt cells mostVariables B x × (isRowAt B x ≡ true → x < made)
+sorted-hangs cells t few short fewer small h (A, w, f) =
     (text-hangs-at few short cells t fewer small h w f, text-before few short cells t small h w f)
-standing-hangs cells _ few short fewer small shows-label standing-unit =
-    (record { variable = λ e. absurd (omega arith); row = λ e. absurd (true≢false (sym e)) }, λ e. absurd (true≢false (sym e)))
 
 -- ------------------------------------------------------------------ what is given
 
@@ -275,4 +273,4 @@ module _ {G : Scope} {P : TextContext} {L : List ℕ} {n : ℕ} {S : Signature} 
       let fresh = unfreshened (a .2) other (k .numberless) runs no-fresh in
       let w = text-sorted (place .all) L (place .newest) (place .without) (names (a .2) other (k .numberless)) (q .derived fresh .rule) in
       let few : s .made ≤ nameBase = omega (arith, q .few) in
-      standing-hangs left (q .value) (omega (arith, place .outsides-are, place .few-outsides)) (place .short) few-variables few (q .shows) w
+      sorted-hangs left (q .value) (omega (arith, place .outsides-are, place .few-outsides)) (place .short) few-variables few (q .shows) w
