@@ -9,9 +9,10 @@ use lib.Dec.{eqb}
 use lib.ListN.{length, getD}
 use Rattle.grammar.specs.Sorts.{unit, var, binder, constructor, arity}
 use Rattle.grammar.specs.Table.{Template, variable, outsideVar, outsideLabel, make, more}
+use Rattle.grammar.specs.Table as Table
 use Rattle.grammar.proofs.ReaderLaws.{getD-past, arity-few}
 use Rattle.terms.specs.Cells.{columns, column, nameBase}
-use Rattle.copying.specs.RowTemplates.{isVariableName, isRowSort, unitTemplate, valueBy, valueTemplate, columnTemplates, rowTemplate, textTemplate}
+use Rattle.copying.specs.RowTemplates.{isVariableName, isRowSort, valueBy, valueTemplate, columnTemplates, rowTemplate, textTemplate}
 use Rattle.copying.specs.Hanging.{isRowAt, argumentAt, IsPart, Hangs, hangs, HangsAt}
 
 -- a value by whether it is a variable, and whether its sort is that of rows
@@ -25,7 +26,7 @@ valueOf sort x rows named rowed =
             | false ↦
                 elim (eqb sort var || eqb sort binder) [
                   | true ↦ outsideVar (x % nameBase)
-                  | false ↦ elim (eqb sort unit) [ true ↦ unitTemplate | false ↦ outsideLabel x ]
+                  | false ↦ elim (eqb sort unit) [ true ↦ Table.unit | false ↦ outsideLabel x ]
                 ]
           ]
     ]

@@ -6,7 +6,7 @@ use native.Mathlib.Omega.{arith}
 use native.Mathlib.Decide.{ℕ-discrete, decLt}
 use lib.ListN.{length, getD, set, take, drop, replicate, length-set, length-drop, length-append, length-replicate, getD-replicate, List·getD-eq-default}
 use lib.Seq.{getD-set-same, getD-set-other, take-all}
-use Rattle.grammar.specs.Table.{Template, Templates, variable, outsideVar, outsideLabel, make, none, more}
+use Rattle.grammar.specs.Table.{Template, Templates, variable, outsideVar, outsideLabel, unit, make, none, more}
 use Rattle.grammar.specs.Variables.{mostVariables}
 use Rattle.terms.specs.Cells.{rowsLent}
 use Rattle.expansion.specs.declared.State.{State}
@@ -79,6 +79,7 @@ mutual
   build-padded (variable i) I M many = ap return (getD-padded M many i)
   build-padded (outsideVar n) I M many = refl
   build-padded (outsideLabel n) I M many = refl
+  build-padded unit I M many = refl
   build-padded (make c ts) I M many = ap (λ (r : Run (List ℕ)). r >>= λ vs. cell I c vs) (all-padded ts I M many)
 
   all-padded : (ts : Templates) (I : Input) (M : List ℕ) (many : ℕ) → buildAll ts I (M ++ replicate many 0) ≡ buildAll ts I M
