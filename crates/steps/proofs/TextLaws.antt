@@ -13,7 +13,7 @@ use Rattle.expansion.specs.declared.State.{State}
 use Rattle.expansion.specs.Run.{Run, return, _>>=_}
 use Rattle.expansion.specs.Outcomes.{ran}
 use Rattle.expansion.specs.Expansion.{Input, cell, build, buildAll}
-use Rattle.templates.specs.Built.{Holds}
+use Rattle.templates.specs.Built.{Holds, withMade}
 use Rattle.copying.specs.Hanging.{HangsAt}
 use Rattle.copying.specs.Copies.{copied, CopiesText}
 use Rattle.copying.proofs.CopyLaws.{hangs-more}
@@ -103,11 +103,13 @@ hangs-at-more l hang = record { variable = λ four. omega (arith, hang .variable
 
 -- ------------------------------------------------------------------ the outcome
 
-copied-ran : (made : Copied) (state : State) (cells : List ℕ) → ran (copiedStep made state) cells ≡ copied state made cells
+-- The outcome is what the text gives.
+pub copied-ran : (made : Copied) (state : State) (cells : List ℕ) → ran (copiedStep made state) cells ≡ copied state made cells
 copied-ran (Made value count) state cells = refl
 copied-ran Full state cells = refl
 
-copied-stays : (made : Copied) (state : State) → Stays state (copiedStep made state)
+-- It moves no counter but that of the cells.
+pub copied-stays : (made : Copied) (state : State) → Stays state (copiedStep made state)
 copied-stays (Made value count) state = (refl, refl, refl)
 copied-stays Full state = tt
 
@@ -129,21 +131,19 @@ module _ {texts : List ℕ} {at word : ℕ} (there : TextHangs texts at) (word-i
   text-inside = rw word-is (there .rows-inside)
 
   -- They give what its template gives.
-  pub text-given : {vars env : List ℕ} {count : ℕ} {state : State} {cells cells′ : List ℕ} (made : Copied)
+  pub text-given : {vars env : List ℕ} {count done : ℕ} {cells cells′ : List ℕ} (made : Copied)
       → ((M : List ℕ) → Holds vars count M → Shows env M)
-      → CopiesText (rowsFrom texts word) (word % 8) (heldValue texts at) env (state .made) cells made cells′
-      → GivesText texts at vars count state cells (copiedStep made state) cells′
+      → CopiesText (rowsFrom texts word) (word % 8) (heldValue texts at) env done cells made cells′
+      → GivesText texts at vars count done cells made cells′
   unfolding textAt
-  text-given {vars} {env} {count} {state} {cells} {cells′} made shown copies =
-      record { gives = gives; stays = copied-stays made state }
+  text-given {vars} {env} {count} {done} {cells} {cells′} made shown copies = record { gives = gives }
     where
-      held : CopiesText (heldRows texts at) (heldSort texts at) (heldValue texts at) env (state .made) cells made cells′
+      held : CopiesText (heldRows texts at) (heldSort texts at) (heldValue texts at) env done cells made cells′
       held = rw (rows-held, word-is) at copies
 
-      gives : (I : Input) (M : List ℕ) → I .rows ≡ rowsLent (length cells) → Holds vars count M
-          → ran (copiedStep made state) cells′ ≡ build (textAt texts at) I M state cells
-      gives I M rows-are holds =
-          copied-ran made state cells′
-          ∙ held .evaluates I state (M ++ replicate 16 0) (length M + 16) (rowsLent (length (heldRows texts at))) rows-are (holds-padded (shown M holds))
+      gives : (I : Input) (s : State) (M : List ℕ) → I .rows ≡ rowsLent (length cells) → Holds vars count M
+          → copied s made cells′ ≡ build (textAt texts at) I M (withMade s done) cells
+      gives I s M rows-are holds =
+          held .evaluates I s (M ++ replicate 16 0) (length M + 16) (rowsLent (length (heldRows texts at))) rows-are (holds-padded (shown M holds))
           (hangs-at-more (omega arith) (there .hangs)) (there .row-inside)
-          ∙ ap (λ (r : Run ℕ). r state cells) (build-padded (textAt texts at) I M 16)
+          ∙ ap (λ (r : Run ℕ). r (withMade s done) cells) (build-padded (textAt texts at) I M 16)

@@ -9,13 +9,12 @@ use Rattle.terms.specs.Cells.{rowsLent}
 use Rattle.expansion.specs.declared.State.{State}
 use Rattle.expansion.specs.declared.Outcome.{Outcome}
 use Rattle.expansion.specs.declared.Outcome.the-variants.{Value, Halted}
-use Rattle.expansion.specs.Outcomes.{ran}
 use Rattle.expansion.specs.Expansion.{Input, build}
 use Rattle.templates.specs.Built.{Holds, withMade}
+use Rattle.copying.specs.Copies.{copied}
 use Rattle.copying.specs.declared.Copied.{Copied}
 use Rattle.copying.specs.declared.Copied.the-variants.{Made, Full}
 use Rattle.steps.specs.HeldTexts.{textAt}
-use Rattle.steps.specs.Steps.{Stays}
 
 -- an array has the first 16 of some values, and 0 where there are fewer
 pub record Shows (env values : List ℕ) : Type 0 where
@@ -27,9 +26,8 @@ abbrev pub copiedStep : Copied → State → Outcome
 copiedStep (Made v made) s = Value v (withMade s made)
 copiedStep Full s = Halted (refusal 21 (s .at) 0 0)
 
--- the outcome is that of the template held for the field at an offset, under the values of the variables
-pub record GivesText (texts : List ℕ) (at : ℕ) (vars : List ℕ) (count : ℕ) (s : State) (cells : List ℕ) (r : Outcome) (cells′ : List ℕ) : Type 0 where
+-- the answer is what the template gives that is held for the field at an offset, under the values of the variables
+pub record GivesText (texts : List ℕ) (at : ℕ) (vars : List ℕ) (count made : ℕ) (cells : List ℕ) (r : Copied) (cells′ : List ℕ) : Type 0 where
   pub gives :
-      (I : Input) (M : List ℕ) → I .rows ≡ rowsLent (length cells) → Holds vars count M
-      → ran r cells′ ≡ build (textAt texts at) I M s cells
-  pub stays : Stays s r
+      (I : Input) (s : State) (M : List ℕ) → I .rows ≡ rowsLent (length cells) → Holds vars count M
+      → copied s r cells′ ≡ build (textAt texts at) I M (withMade s made) cells

@@ -4,6 +4,7 @@ mod texts;
 
 use crate::taking::take;
 use crate::taking::take_ide;
+use crate::texts::copied_step;
 use crate::texts::text_result;
 use answers::Refusal;
 use answers::causes::NO_ROW;
@@ -223,12 +224,13 @@ pub fn finish(
     let s = c.state;
     let at = c.call.next;
     let count = c.call.count;
+    let made = s.made;
     if table[at] == TEXT_TAG {
-        return text_result(cells, texts, vars, at, count, s);
+        let copied = text_result(cells, texts, vars, at, count, made);
+        return copied_step(copied, s);
     }
     let from = at + FRONT;
     let to = from + value_size(table, at);
-    let made = s.made;
     let m = Making { count, rows, made };
     let value = build(cells, stack, &table[from..to], 0, vars, m);
     result_step(value, s)

@@ -37,7 +37,7 @@ fn values_of(vars: &[u32; MOST_VARIABLES], count: usize) -> [u32; MOST_VARIABLES
 }
 
 // What a text gives, as the outcome of the alternative that it is the result of.
-fn copied_step(copied: Copied, s: State) -> Outcome
+pub(crate) fn copied_step(copied: Copied, s: State) -> Outcome
     ensures { λ r. ⌜ r ≡ copiedStep copied s ⌝ }
 {
     match copied {
@@ -46,17 +46,17 @@ fn copied_step(copied: Copied, s: State) -> Outcome
     }
 }
 
-// The outcome of the text that is held for the field at an offset, with `count` variables.
+// What the text gives that is held for the field at an offset, with `count` variables and `made` cells made.
 fn held_result(
     cells: &mut [u32],
     texts: &[u32],
     vars: &[u32; MOST_VARIABLES],
     at: usize,
     count: usize,
-    s: State,
-) -> Outcome
+    made: usize,
+) -> Copied
     requires { ⌜ TextHangs (now texts) at ⌝ }
-    ensures { λ r. ⌜ GivesText (now (texts .entry)) at (now (vars .entry)) count s (now (cells .entry)) r (now (cells .exit)) ⌝ }
+    ensures { λ r. ⌜ GivesText (now (texts .entry)) at (now (vars .entry)) count made (now (cells .entry)) r (now (cells .exit)) ⌝ }
 {
     let pair = at / LEAST_FIELD * PAIR;
     let value = texts[pair];
@@ -64,9 +64,7 @@ fn held_result(
     let start = word / SORTS;
     let sort = (word % SORTS) as u8;
     let env = values_of(vars, count);
-    let made = s.made;
-    let copied = copy_text(&texts[start..], sort, value, &env, made, cells);
-    copied_step(copied, s)
+    copy_text(&texts[start..], sort, value, &env, made, cells)
 }
 
 // The same. It calls itself on what it is never passed, no texts: the back end lays no such function into its caller, so that templates in bytes are
@@ -77,14 +75,14 @@ pub(crate) fn text_result(
     vars: &[u32; MOST_VARIABLES],
     at: usize,
     count: usize,
-    s: State,
-) -> Outcome
+    made: usize,
+) -> Copied
     requires { ⌜ TextHangs (now texts) at ⌝ }
-    ensures { λ r. ⌜ GivesText (now (texts .entry)) at (now (vars .entry)) count s (now (cells .entry)) r (now (cells .exit)) ⌝ }
+    ensures { λ r. ⌜ GivesText (now (texts .entry)) at (now (vars .entry)) count made (now (cells .entry)) r (now (cells .exit)) ⌝ }
 {
     if texts.len() == 0 {
         let none = [0u32; 1];
-        return text_result(cells, &none, vars, at, count, s);
+        return text_result(cells, &none, vars, at, count, made);
     }
-    held_result(cells, texts, vars, at, count, s)
+    held_result(cells, texts, vars, at, count, made)
 }

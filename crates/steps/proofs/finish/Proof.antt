@@ -9,6 +9,7 @@ use Rattle.grammar.specs.Table.{Template}
 use Rattle.expansion.specs.Expansion.{build}
 use Rattle.steps.proofs.SourceLaws as sources
 use Rattle.steps.proofs.ItemLaws as laws
+use Rattle.steps.proofs.TextLaws as texts
 use Rattle.steps.proofs.finish.Statement.{statement}
 use Rattle.steps.proofs.finish.Tie as tie
 
@@ -67,17 +68,19 @@ text-result-requires c κs =
 
 returns : tie.Need-returns
 returns c =
-    let given = c .before .before in
+    let given = c .before .before .before in
     let e = start (given .before .before .before) in
-    λ patterns may.
+    rw (c .copied-step .ensures)
+    (λ patterns may.
     record {
       gives =
           λ I M er g.
-          given .text-result .ensures .gives I M (er ∙ may .all-rows) g
+          texts.copied-ran (given .text-result .result) (e .args .c .state) (given .text-result .last .0)
+          ∙ given .text-result .ensures .gives I (e .args .c .state) M (er ∙ may .all-rows) g
           ∙ ap (λ (t : Template). build t I M (e .args .c .state) (e .args .cells .now))
           (sources.result-held (may .goes-on) refl (may .no-item) (given .before .before .if1 .taken));
-      stays = given .text-result .ensures .stays;
-    }
+      stays = texts.copied-stays (given .text-result .result) (e .args .c .state);
+    })
 
 returns-2 : tie.Need-returns-2
 returns-2 c =
@@ -101,6 +104,7 @@ finish-spec =
     (tie.spec
     shared-slice-read-if1
     text-result-requires
+    (λ c κs. search needs)
     (λ c. search needs)
     returns
     add-from

@@ -10,9 +10,7 @@ copy-text-requires : tie.Need-copy-text-requires
 copy-text-requires c κs = search laws.text-may
 
 returns : tie.Need-returns
-returns c =
-    let copying = c .before .before .before in
-    rw (c .copied-step .ensures) (search laws.text-given)
+returns c = search laws.text-given
 
 -- the function meets its contract
 pub held-result-spec : {M : Type 1} → statement M
@@ -33,6 +31,5 @@ held-result-spec =
     (λ c. search needs)
     (λ c. search needs)
     copy-text-requires
-    (λ c κs. search needs)
     (λ c. search needs)
     returns)
