@@ -1,5 +1,5 @@
 -- The static check of a grammar's heads and items: refusals 7, 8, 9 and 11, with their order and places. Results, and the sequence, are in
--- elaboration/specs/CheckSequence. 001, section 4.1: environments E and L, the pass E ⊢ g :: E', and E; L ⊢ p : B. `at` is always the place of the part's first field.
+-- elaboration/specs/CheckSequence. 001, section 4.1: environments E and L, the pass E ⊢ g :: E', and E; L ⊢ p : B. `at` is always the place of a part's field.
 use Prim.Native.Nat.{ℕ, _+_}
 use mathlib.Core.Bool.{Bool, true, false, not, _&&_}
 use mathlib.Core.List.{List, [], _∷_, _++_}

@@ -257,7 +257,8 @@ module _ (bs : List ℕ) (E own : Env) (block : ℕ) (known-heads : List ℕ) (c
         let new : eqb head 0 ≡ true =
         tested-sound (eqb head 0) NumberInUse
         (fault-new bs known-heads at block (head-nonterminal bs at definition within placed) (coded q) refl refl (eqb head 0) refl ∙ sound) in
-        let none : isDefined E n ≡ false = not-true (isDefined E n) (and-eq-true-iff (not (isDefined own n)) (not (isDefined E n)) .0 (sym new-same ∙ new) .1) in
+        let both = and-eq-true-iff (not (isDefined own n)) (not (isDefined E n)) .0 (sym new-same ∙ new) in
+        let none : isDefined E n ≡ false = not-true (isDefined E n) (both .1) in
         let kept : 0 ≡ headBefore bs heads block n = before-by q false refl in
         record { defined = ap (ltb 0) (sym kept) ∙ sym none; shown = λ d. absurd (true≢false (sym d ∙ none)) }
 
