@@ -1,0 +1,6 @@
+pub mod GivenBlocks
+pub mod ElaboratedTexts
+pub mod Walked
+pub mod Productions
+pub mod TextOffsets
+pub mod SourceTheorems
