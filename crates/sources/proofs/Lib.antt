@@ -3,4 +3,5 @@ pub mod ElaboratedTexts
 pub mod Walked
 pub mod Productions
 pub mod TextOffsets
+pub mod CompletePlaces
 pub mod SourceTheorems

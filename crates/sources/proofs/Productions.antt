@@ -1,7 +1,6 @@
 -- The productions at the places of a table's bytes are its normalized grammar, field by field, however results are read.
 use Prim.Native.Nat.{ℕ, _+_}
 use mathlib.Core.Path.{_≡_, refl, ap, _∙_}
-use mathlib.Core.Bool.{true, false}
 use mathlib.Core.List.{List, [], _∷_, _++_, map}
 use lib.Dec.{eqb}
 use lib.ListN.{length, getD}
@@ -10,7 +9,7 @@ use Rattle.grammar.specs.Table.{Template, Mode, add, extend, update}
 use Rattle.grammar.specs.Fields.{RawFields, end, cut, next, fieldsOf}
 use Rattle.decoding.specs.Decode.{modeOf}
 use Rattle.productions.specs.Normal.{Production, without, kept}
-use Rattle.productions.specs.Index.{itemsOf, Place, placesWithout, placesKept, placesBy, placesOf}
+use Rattle.productions.specs.Index.{itemsOf, Place, placesWithout, placesKept, placesBy}
 use Rattle.productions.proofs.Places.{Stands, stands}
 use Rattle.sources.specs.GivenTexts.{productionRead, productionsRead, normalizedWith}
 

@@ -1,6 +1,6 @@
 -- Tables with given templates for their texts are the same where these agree at the offset of each text.
 use Prim.Native.Nat.{ℕ, _+_}
-use mathlib.Core.Path.{_≡_, refl, sym, ap, ap₂, subst, _∙_}
+use mathlib.Core.Path.{_≡_, refl, sym, ap₂, subst}
 use mathlib.Core.List.{List, [], _∷_}
 use native.Mathlib.Nat.{add-zero}
 use native.Mathlib.Omega.{arith}
@@ -9,9 +9,9 @@ use Rattle.grammar.specs.Table.{Template, Item, Alternative, Definition}
 use Rattle.grammar.specs.Values.{Field, field, itemValue, headValue}
 use Rattle.grammar.specs.Written.{WrittenResult, template, text, WrittenAlternative, WrittenDefinition, Written, resultField, withAlternatives}
 use Rattle.grammar.specs.Encode.{spellingsThen, itemsThen, alternativesThen, definitionsThen, blocksThen, tableFields, encode}
-use Rattle.grammar.specs.Fields.{RawFields, fieldsOf}
+use Rattle.grammar.specs.Fields.{fieldsOf}
 use Rattle.decoding.proofs.Split.{spread, fields-of-bytes}
-use Rattle.judgements.specs.Sizes.{fieldSize, spellingsSize, itemsSize, alternativeSize, alternativesSize, definitionSize, definitionsSize, blocksSize}
+use Rattle.judgements.specs.Sizes.{fieldSize, spellingsSize, itemsSize, alternativeSize, alternativesSize, definitionSize, definitionsSize}
 use Rattle.sources.specs.GivenTexts.{resultWith, alternativesWith, definitionsWith, blocksWith, firstBlock, AtTexts}
 
 module _ (first second : ℕ → Template) where
