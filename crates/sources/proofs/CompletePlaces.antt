@@ -3,16 +3,16 @@ use Prim.Native.Nat.{ℕ, _+_}
 use mathlib.Core.Path.{_≡_, refl, sym, ap, subst, _∙_}
 use mathlib.Core.Bool.{true, _&&_}
 use mathlib.Core.Logic.{inl, inr}
-use mathlib.Core.List.{List, [], _∷_}
+use mathlib.Core.List.{List, [], _∷_, _++_}
 use native.Mathlib.Omega.{arith}
 use lib.Dec.{eqb, leb}
-use lib.ListN.{length, getD, drop}
+use lib.ListN.{length, getD, take, drop}
 use borrow.Author.Tests.{le-leb, eqb-true}
 use Rattle.spellings.proofs.BytesLaws.{by-test}
 use Rattle.grammar.specs.Table.{Item}
 use Rattle.grammar.specs.Values.{Field, field, templatesThen, itemValue, headValue}
 use Rattle.grammar.specs.Written.{WrittenResult, template, text, WrittenAlternative, WrittenDefinition, Written, resultField}
-use Rattle.grammar.specs.Encode.{spellingsThen, itemsThen, alternativesThen, definitionsThen, blocksThen, tableFields, encode}
+use Rattle.grammar.specs.Encode.{fieldBytes, spellingsThen, itemsThen, alternativesThen, definitionsThen, blocksThen, encode}
 use Rattle.grammar.specs.Fields.{RawFields, end, cut, next, fieldsOf}
 use Rattle.decoding.specs.Prefix.{templatesOf, isTemplates, isTemplate}
 use Rattle.decoding.specs.Decode.{modeOf}
@@ -21,11 +21,13 @@ use Rattle.decoding.proofs.Split.{spread, fields-of-bytes}
 use Rattle.decoding.proofs.Templates.{read-template, read-templates}
 use Rattle.productions.specs.Index.{Place, placesBy, placesOf}
 use Rattle.productions.proofs.Places.{Stands, stands, each-kept, each-snoc}
+use Rattle.judgements.specs.Sizes.{blocksSize}
 use Rattle.elaboration.proofs.Ranges.{ResultFine, template-fine, text-fine, AlternativeFine, DefinitionFine, TableFine}
 use Rattle.steps.specs.HeldTexts.{TextHangs}
 use Rattle.steps.specs.Source.{Source, Complete, GoesOn}
 use Rattle.steps.proofs.SourceLaws.{goes-on}
-use Rattle.sources.specs.GivenTexts.{AtTexts}
+use Rattle.sources.specs.GivenTexts.{firstBlock, AtTexts}
+use Rattle.sources.proofs.FrontBytes.{frontThen, rootField, whole-bytes, bytes-before}
 
 -- behind each field 05 stands what is left of an alternative
 abbrev Begins : List ℕ → RawFields → Type 0
@@ -115,20 +117,30 @@ module _ (texts : List ℕ) where
       other-begun 3 [] (definitionsThen b (blocksThen bs follow)) (λ e. omega (arith, e))
       (definitions-begun w (blocksThen bs follow) (blocks-begun ws follow goes))
 
-  table-begun : (table : Written) → TableFine table → Begun (tableFields table)
-  unfolding tableFields spread
-  table-begun table fine =
-      let root : List Field = field 8 (table .root ∷ []) ∷ [] in
-      let blocks : List Field = blocksThen (table .blocks) root in
-      spellings-begun 1 (λ e. omega (arith, e)) (table .keywords) (spellingsThen 2 (table .outsides) blocks)
-      (spellings-begun 2 (λ e. omega (arith, e)) (table .outsides) blocks
-      (blocks-begun (fine .blocks) root (other-begun 8 (table .root ∷ []) [] (λ e. omega (arith, e)) (λ at h. tt))))
+  front-begun : (table : Written) {blocks : List (List WrittenDefinition)} → Each (Each DefinitionFine) blocks → (follow : List Field) → Begun follow
+      → Begun (frontThen table blocks follow)
+  front-begun table {blocks} fine follow goes =
+      let behind : List Field = blocksThen blocks follow in
+      spellings-begun 1 (λ e. omega (arith, e)) (table .keywords) (spellingsThen 2 (table .outsides) behind)
+      (spellings-begun 2 (λ e. omega (arith, e)) (table .outsides) behind (blocks-begun fine follow goes))
 
--- Each production of a source goes on where it begins, if its bytes are those of a table and what it holds for each text hangs together.
-pub places-go-on : (S : Source) (table : Written) → S .bytes ≡ encode table → TableFine table → AtTexts (TextHangs (S .texts)) (fieldsOf (S .bytes))
-    → Each (λ (p : Place). GoesOn S (p .start)) (placesOf (S .bytes))
-unfolding encode
-places-go-on S table encoded fine hang =
-    let split : fieldsOf (S .bytes) ≡ spread 0 (tableFields table) = ap fieldsOf encoded ∙ fields-of-bytes (tableFields table) in
-    let begins = table-begun (S .texts) table fine 0 (subst (AtTexts (TextHangs (S .texts))) split hang) in
-    places-begun S (fieldsOf (S .bytes)) (stands (S .bytes)) (subst (Begins (S .texts)) (sym split) begins) 0 [] each-none
+module _ (S : Source) (table : Written) (hang : AtTexts (TextHangs (S .texts)) (fieldsOf (S .bytes))) where
+  front-goes-on : {blocks : List (List WrittenDefinition)} → Each (Each DefinitionFine) blocks → (follow : List Field) → Begun (S .texts) follow
+      → S .bytes ≡ fieldBytes (frontThen table blocks follow) → Each (λ (p : Place). GoesOn S (p .start)) (placesOf (S .bytes))
+  front-goes-on {blocks} fine follow goes bytes =
+      let split : fieldsOf (S .bytes) ≡ spread 0 (frontThen table blocks follow) = ap fieldsOf bytes ∙ fields-of-bytes (frontThen table blocks follow) in
+      let begins = front-begun (S .texts) table fine follow goes 0 (subst (AtTexts (TextHangs (S .texts))) split hang) in
+      places-begun S (fieldsOf (S .bytes)) (stands (S .bytes)) (subst (Begins (S .texts)) (sym split) begins) 0 [] each-none
+
+  -- Each production of a source goes on where it begins, if its bytes are those of a table and what it holds for each text hangs together,
+  pub places-go-on : TableFine table → S .bytes ≡ encode table → Each (λ (p : Place). GoesOn S (p .start)) (placesOf (S .bytes))
+  unfolding spread
+  places-go-on fine encoded =
+      front-goes-on (fine .blocks) (rootField table) (other-begun (S .texts) 8 (table .root ∷ []) [] (λ e. omega (arith, e)) (λ at h. tt))
+      (encoded ∙ whole-bytes table)
+
+  -- and if they are those of a table up to a block.
+  pub places-before : (before others : List (List WrittenDefinition)) → table .blocks ≡ before ++ others → Each (Each DefinitionFine) before
+      → S .bytes ≡ take (firstBlock table + blocksSize before) (encode table) → Each (λ (p : Place). GoesOn S (p .start)) (placesOf (S .bytes))
+  unfolding spread
+  places-before before others whole fine encoded = front-goes-on fine [] (λ at h. tt) (encoded ∙ bytes-before table before others whole)

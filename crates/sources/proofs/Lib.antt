@@ -1,5 +1,6 @@
 pub mod GivenBlocks
 pub mod ElaboratedTexts
+pub mod FrontBytes
 pub mod Walked
 pub mod Productions
 pub mod TextOffsets

@@ -6,13 +6,13 @@ use native.Mathlib.Nat.{add-zero}
 use native.Mathlib.Omega.{arith}
 use lib.ListN.{length}
 use Rattle.grammar.specs.Table.{Template, Item, Alternative, Definition}
-use Rattle.grammar.specs.Values.{Field, field, itemValue, headValue}
+use Rattle.grammar.specs.Values.{Field, itemValue, headValue}
 use Rattle.grammar.specs.Written.{WrittenResult, template, text, WrittenAlternative, WrittenDefinition, Written, resultField, withAlternatives}
-use Rattle.grammar.specs.Encode.{spellingsThen, itemsThen, alternativesThen, definitionsThen, blocksThen, tableFields, encode}
-use Rattle.grammar.specs.Fields.{fieldsOf}
-use Rattle.decoding.proofs.Split.{spread, fields-of-bytes}
+use Rattle.grammar.specs.Encode.{spellingsThen, itemsThen, alternativesThen, definitionsThen, blocksThen}
+use Rattle.decoding.proofs.Split.{spread}
 use Rattle.judgements.specs.Sizes.{fieldSize, spellingsSize, itemsSize, alternativeSize, alternativesSize, definitionSize, definitionsSize}
 use Rattle.sources.specs.GivenTexts.{resultWith, alternativesWith, definitionsWith, blocksWith, firstBlock, AtTexts}
+use Rattle.sources.proofs.FrontBytes.{frontThen}
 
 module _ (first second : ℕ → Template) where
   -- both agree at each text of some fields from an offset on
@@ -75,16 +75,13 @@ module _ (first second : ℕ → Template) where
   behind-spellings tag (s ∷ ss) follow at h =
       moved follow (omega arith) (behind-spellings tag ss follow (at + (3 + length s)) (h .1))
 
-  -- The blocks of a table are the same with templates that agree at each text of its bytes.
-  pub table-same : (table : Written) → AtTexts (λ at. first at ≡ second at) (fieldsOf (encode table))
-      → blocksWith first (firstBlock table) (table .blocks) ≡ blocksWith second (firstBlock table) (table .blocks)
-  unfolding encode tableFields
-  table-same table h =
-      let last : List Field = field 8 (table .root ∷ []) ∷ [] in
-      let blocks : List Field = blocksThen (table .blocks) last in
-      let outsides : List Field = spellingsThen 2 (table .outsides) blocks in
-      let fields = subst (AtTexts (λ at. first at ≡ second at)) (fields-of-bytes (tableFields table)) h in
-      blocks-agree (table .blocks) last (firstBlock table)
-      (moved blocks (omega arith)
-      (behind-spellings 2 (table .outsides) blocks (0 + spellingsSize (table .keywords))
-      (behind-spellings 1 (table .keywords) outsides 0 fields)))
+  -- Blocks behind keywords and outside names are the same with templates that agree at each text.
+  pub front-same : (table : Written) (blocks : List (List WrittenDefinition)) (follow : List Field)
+      → AtTexts (λ at. first at ≡ second at) (spread 0 (frontThen table blocks follow))
+      → blocksWith first (firstBlock table) blocks ≡ blocksWith second (firstBlock table) blocks
+  front-same table blocks follow h =
+      let behind : List Field = blocksThen blocks follow in
+      blocks-agree blocks follow (firstBlock table)
+      (moved behind (omega arith)
+      (behind-spellings 2 (table .outsides) behind (0 + spellingsSize (table .keywords))
+      (behind-spellings 1 (table .keywords) (spellingsThen 2 (table .outsides) behind) 0 h)))

@@ -9,7 +9,7 @@ use lib.Dec.{eqb}
 use lib.ListN.{length, getD}
 use Rattle.grammar.specs.Table.{Template, Item, Mode}
 use Rattle.grammar.specs.Values.{Field, field, itemValue, headValue}
-use Rattle.grammar.specs.Written.{WrittenResult, template, text, WrittenAlternative, WrittenDefinition, resultField}
+use Rattle.grammar.specs.Written.{WrittenResult, template, text, WrittenAlternative, WrittenDefinition, Written, resultField}
 use Rattle.grammar.specs.Encode.{spellingsThen, itemsThen, alternativesThen, definitionsThen, blocksThen}
 use Rattle.grammar.specs.Fields.{RawFields}
 use Rattle.decoding.specs.Decode.{modeOf, definitionOf}
@@ -20,7 +20,8 @@ use Rattle.productions.specs.Normal.{Production, productionsOf, kept, definedAl
 use Rattle.productions.specs.Index.{itemsOf}
 use Rattle.judgements.specs.Sizes.{fieldSize, spellingsSize, itemsSize, alternativeSize, alternativesSize, definitionSize, definitionsSize, blocksSize}
 use Rattle.elaboration.proofs.Ranges.{ResultFine, template-fine, text-fine, AlternativeFine, DefinitionFine}
-use Rattle.sources.specs.GivenTexts.{resultWith, alternativesWith, definitionsWith, blocksWith, ReadsResults, normalizedWith}
+use Rattle.sources.specs.GivenTexts.{resultWith, alternativesWith, definitionsWith, blocksWith, firstBlock, ReadsResults, normalizedWith}
+use Rattle.sources.proofs.FrontBytes.{frontThen}
 
 module _ {results : RawFields → Template} {given : ℕ → Template} (reads : ReadsResults results given) where
   -- the grammar that fields from an offset on give, behind the productions g, in a definition of a nonterminal
@@ -161,13 +162,12 @@ module _ {results : RawFields → Template} {given : ℕ → Template} (reads : 
       (spellings-passed tag e f ss follow (at + (3 + length s)) nonterminal g ∙ ap (λ (k : ℕ). from follow k nonterminal g) (omega arith))
 
   -- Keywords, outside names and blocks, in front of fields that have no production, give the productions of the blocks.
-  pub front-walked : (ks os : List (List ℕ)) {bs : List (List WrittenDefinition)} → Each (Each DefinitionFine) bs → (follow : List Field)
+  pub front-walked : (table : Written) {blocks : List (List WrittenDefinition)} → Each (Each DefinitionFine) blocks → (follow : List Field)
       → ((at nonterminal : ℕ) (g : List Production) → normalizedWith results (spread at follow) nonterminal g ≡ g)
-      → normalizedWith results (spread 0 (spellingsThen 1 ks (spellingsThen 2 os (blocksThen bs follow)))) 0 []
-      ≡ normalized (blocksWith given (spellingsSize ks + spellingsSize os) bs)
-  front-walked ks os {bs} w follow goes =
-      let first : ℕ = spellingsSize ks + spellingsSize os in
-      spellings-passed 1 refl refl ks (spellingsThen 2 os (blocksThen bs follow)) 0 0 []
-      ∙ spellings-passed 2 refl refl os (blocksThen bs follow) (0 + spellingsSize ks) 0 []
-      ∙ ap (λ (k : ℕ). from (blocksThen bs follow) k 0 []) (omega arith)
-      ∙ blocks-walked w follow (λ g. g) first (goes (first + blocksSize bs)) 0 []
+      → normalizedWith results (spread 0 (frontThen table blocks follow)) 0 [] ≡ normalized (blocksWith given (firstBlock table) blocks)
+  front-walked table {blocks} w follow goes =
+      let first : ℕ = firstBlock table in
+      spellings-passed 1 refl refl (table .keywords) (spellingsThen 2 (table .outsides) (blocksThen blocks follow)) 0 0 []
+      ∙ spellings-passed 2 refl refl (table .outsides) (blocksThen blocks follow) (0 + spellingsSize (table .keywords)) 0 []
+      ∙ ap (λ (k : ℕ). from (blocksThen blocks follow) k 0 []) (omega arith)
+      ∙ blocks-walked w follow (λ g. g) first (goes (first + blocksSize blocks)) 0 []

@@ -6,7 +6,7 @@ use mathlib.Core.Bool.{true, false}
 use mathlib.Core.List.{List, [], _∷_, _++_, map}
 use lib.Dec.{eqb}
 use lib.ListN.{getD}
-use Rattle.grammar.specs.Table.{Template, Alternative, Definition, Table}
+use Rattle.grammar.specs.Table.{Template, Alternative, Definition}
 use Rattle.grammar.specs.Values.{headValue}
 use Rattle.grammar.specs.Written.{WrittenResult, template, text, WrittenAlternative, WrittenDefinition, Written, withAlternatives}
 use Rattle.grammar.specs.Fields.{RawFields, end, cut, next, fieldsOf}
@@ -83,8 +83,9 @@ normalizedWith results (next at tag v fs) n g =
           ]
     ]
 
--- the texts of a table, which is elaborated to `made`, are held: at the offset of each the template that it is elaborated to
-pub record TextsHeld (S : Source) (table : Written) (made : Table) : Type 0 where
+-- The texts of a table's blocks, all of them or those before one, which are elaborated to `made`, are held: for the offset of each the template that it is
+-- elaborated to. The source has the bytes of these blocks and of what stands before them.
+pub record TextsHeld (S : Source) (table : Written) (blocks : List (List WrittenDefinition)) (made : List (List Definition)) : Type 0 where
   pub given : ℕ → Template
-  pub elaborated : made .blocks ≡ blocksWith given (firstBlock table) (table .blocks)
-  pub held : AtTexts (λ at. textAt (S .texts) at ≡ given at) (fieldsOf (S .bytes))
+  pub elaborated : made ≡ blocksWith given (firstBlock table) blocks
+  pub held : AtTexts (λ k. textAt (S .texts) k ≡ given k) (fieldsOf (S .bytes))
