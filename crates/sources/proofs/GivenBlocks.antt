@@ -1,8 +1,10 @@
--- What a table is with given templates for its texts depends on these at the offsets between its ends alone.
+-- What parts of a table are with given templates for their texts: it depends on these at the offsets between their ends alone, and part by part it is laid one
+-- behind the other.
 use Prim.Native.Nat.{ℕ, _+_, _<_, _≤_}
-use mathlib.Core.Path.{_≡_, refl, ap₂}
+use mathlib.Core.Path.{_≡_, refl, sym, ap, ap₂, _∙_}
 use mathlib.Core.Bool.{true, false}
-use mathlib.Core.List.{List, [], _∷_}
+use mathlib.Core.List.{List, [], _∷_, _++_}
+use native.Mathlib.Nat.{add-zero}
 use native.Mathlib.Omega.{arith}
 use lib.Dec.{ltb}
 use borrow.Author.Tests.{lt-ltb, le-ltb}
@@ -50,6 +52,44 @@ module _ (first second : ℕ → Template) where
       ap₂ (λ (block : List Definition) (others : List (List Definition)). block ∷ others)
       (definitions-alike b (at + 3) (λ k l u. same k (omega (arith, l)) (omega (arith, u))))
       (blocks-alike bs (at + 3 + definitionsSize b) (λ k l u. same k (omega (arith, l)) (omega (arith, u))))
+
+-- ------------------------------------------------------------------ one behind the other
+
+module _ (given : ℕ → Template) where
+  -- Alternatives behind others stand where those end,
+  pub alternatives-append : (before behind : List WrittenAlternative) (at : ℕ)
+      → alternativesWith given at (before ++ behind) ≡ alternativesWith given at before ++ alternativesWith given (at + alternativesSize before) behind
+  unfolding alternativesWith alternativesSize
+  alternatives-append [] behind at = ap (λ (k : ℕ). alternativesWith given k behind) (sym (add-zero at))
+  alternatives-append (a ∷ before) behind at =
+      let place : at + alternativeSize a + alternativesSize before ≡ at + (alternativeSize a + alternativesSize before) = omega arith in
+      let own : Alternative = record { items = a .items; result = resultWith given (at + 3 + itemsSize (a .items)) (a .result) } in
+      ap (_∷_ own)
+      (alternatives-append before behind (at + alternativeSize a)
+      ∙ ap (λ (k : ℕ). alternativesWith given (at + alternativeSize a) before ++ alternativesWith given k behind) place)
+
+  -- so do definitions,
+  pub definitions-append : (before behind : List WrittenDefinition) (at : ℕ)
+      → definitionsWith given at (before ++ behind) ≡ definitionsWith given at before ++ definitionsWith given (at + definitionsSize before) behind
+  unfolding definitionsWith definitionsSize
+  definitions-append [] behind at = ap (λ (k : ℕ). definitionsWith given k behind) (sym (add-zero at))
+  definitions-append (d ∷ before) behind at =
+      let place : at + definitionSize d + definitionsSize before ≡ at + (definitionSize d + definitionsSize before) = omega arith in
+      let own : Definition = withAlternatives d (alternativesWith given (at + fieldSize (headValue d)) (d .alternatives)) in
+      ap (_∷_ own)
+      (definitions-append before behind (at + definitionSize d)
+      ∙ ap (λ (k : ℕ). definitionsWith given (at + definitionSize d) before ++ definitionsWith given k behind) place)
+
+  -- and blocks.
+  pub blocks-append : (before behind : List (List WrittenDefinition)) (at : ℕ)
+      → blocksWith given at (before ++ behind) ≡ blocksWith given at before ++ blocksWith given (at + blocksSize before) behind
+  unfolding blocksWith blocksSize
+  blocks-append [] behind at = ap (λ (k : ℕ). blocksWith given k behind) (sym (add-zero at))
+  blocks-append (b ∷ before) behind at =
+      let place : at + 3 + definitionsSize b + blocksSize before ≡ at + (3 + definitionsSize b + blocksSize before) = omega arith in
+      ap (_∷_ (definitionsWith given (at + 3) b))
+      (blocks-append before behind (at + 3 + definitionsSize b)
+      ∙ ap (λ (k : ℕ). blocksWith given (at + 3 + definitionsSize b) before ++ blocksWith given k behind) place)
 
 -- ------------------------------------------------------------------ one before an offset, another from it on
 

@@ -3,7 +3,7 @@ use Prim.Native.Nat.{ℕ, _+_}
 use mathlib.Core.Path.{_≡_, refl, sym, ap, subst, _∙_}
 use mathlib.Core.List.{List, [], _++_}
 use lib.ListN.{take}
-use Rattle.grammar.specs.Table.{Template, Definition}
+use Rattle.grammar.specs.Table.{Template, Definition, Table}
 use Rattle.grammar.specs.Values.{Field}
 use Rattle.grammar.specs.Written.{WrittenDefinition, Written}
 use Rattle.grammar.specs.Encode.{fieldBytes, encode}
@@ -13,10 +13,12 @@ use Rattle.decoding.proofs.Split.{spread, fields-of-bytes}
 use Rattle.productions.specs.Index.{resultOf}
 use Rattle.productions.specs.Normal.{Production, normalized}
 use Rattle.judgements.specs.Sizes.{blocksSize}
+use Rattle.elaboration.specs.Elaboration.{Elaborates}
 use Rattle.elaboration.proofs.Ranges.{DefinitionFine, TableFine}
 use Rattle.steps.specs.HeldTexts.{textAt}
 use Rattle.steps.specs.Source.{Source, resultIn, alternativeAt, productionsFrom}
 use Rattle.sources.specs.GivenTexts.{blocksWith, firstBlock, ReadsResults, AtTexts, productionsRead, normalizedWith, TextsHeld}
+use Rattle.sources.proofs.ElaboratedTexts.{elaborated-given}
 use Rattle.sources.proofs.FrontBytes.{frontThen, rootField, whole-bytes, bytes-before}
 use Rattle.sources.proofs.Productions.{productions-walked}
 use Rattle.sources.proofs.Walked.{front-walked}
@@ -77,6 +79,16 @@ pub run-as-elaborated : {S : Source} {table : Written} {made : List (List Defini
     → TableFine table → S .bytes ≡ encode table → productionsFrom S ≡ normalized made
 run-as-elaborated {S} {table} h fine encoded =
     front-held h (fine .blocks) (rootField table) (root-bare (resultIn (S .texts)) table) (encoded ∙ whole-bytes table)
+
+-- the templates that the texts of an elaborated table are read to, by the offsets of their fields
+abbrev pub textsOf : {table : Written} {made : Table} → Elaborates table made → ℕ → Template
+textsOf e = elaborated-given e .0
+
+-- So it is for a table that the judgements elaborate, if these templates are held.
+pub elaborated-run : (S : Source) {table : Written} {made : Table} (elaborates : Elaborates table made) → TableFine table → S .bytes ≡ encode table
+    → AtTexts (λ k. textAt (S .texts) k ≡ textsOf elaborates k) (fieldsOf (S .bytes)) → productionsFrom S ≡ normalized (made .blocks)
+elaborated-run S elaborates fine encoded held =
+    run-as-elaborated (record { given = textsOf elaborates; elaborated = elaborated-given elaborates .1; held = held }) fine encoded
 
 -- The bytes up to a block are run as what the blocks before it are elaborated to: a text of that block is read so.
 pub run-before : {S : Source} {table : Written} {before : List (List WrittenDefinition)} {made : List (List Definition)}
