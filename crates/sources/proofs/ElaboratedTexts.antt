@@ -54,7 +54,8 @@ module _ {G : Scope} {P : Before} where
         spliced behind own later,
         ap₂ (λ (choices : List Alternative) (definitions : List Definition). withAlternatives d choices ∷ definitions)
             (choices-made
-            ∙ alternatives-alike own (spliced behind own later) (d .alternatives) (at + fieldSize (headValue d)) (λ k l u. spliced-before behind own later k (omega (arith, u))))
+            ∙ alternatives-alike own (spliced behind own later) (d .alternatives) (at + fieldSize (headValue d))
+            (λ k l u. spliced-before behind own later k (omega (arith, u))))
             (made ∙ definitions-alike later (spliced behind own later) ds behind (λ k l u. spliced-behind behind own later k l)),
       )
 
