@@ -1,0 +1,2 @@
+pub mod PreparedTexts
+pub mod TextHeads
