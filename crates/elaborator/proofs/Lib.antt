@@ -1,2 +1,3 @@
 pub mod PreparedLaws
 pub mod HeadTests
+pub mod ResultsAside
