@@ -1,3 +1,5 @@
 pub mod PreparedLaws
 pub mod HeadTests
 pub mod ResultsAside
+pub mod FieldsBefore
+pub mod BytesBefore
