@@ -41,10 +41,11 @@ body-before block (end at) h = refl
 body-before block (cut at) h = refl
 body-before block (next at tag v fs) h =
     let rest = body-before block fs in
+    let whole : Bool = isTemplates (templatesOf (drop 2 v)) in
     by-test (eqb at block) (λ e. rw (e, fieldsBefore) refl)
     (λ e. by-test (eqb tag 6)
-    (λ s. let both : (isTemplates (templatesOf (drop 2 v)) && wholeBody fs) ≡ true = rw (s, wholeBody) at h in
-    rw (e, fieldsBefore, s, wholeBody, and-left (isTemplates (templatesOf (drop 2 v))) (wholeBody fs) both) (rest (and-right (isTemplates (templatesOf (drop 2 v))) (wholeBody fs) both)))
+    (λ s. let both : (whole && wholeBody fs) ≡ true = rw (s, wholeBody) at h in
+    rw (e, fieldsBefore, s, wholeBody, and-left whole (wholeBody fs) both) (rest (and-right whole (wholeBody fs) both)))
     (λ s. rw (e, fieldsBefore, s, wholeBody) (rw (s, wholeBody) at h)))
 
 whole-before : (block : ℕ) (fs : RawFields) → WholeFields fs → WholeFields (fieldsBefore block fs)
@@ -119,14 +120,14 @@ module _ (bs : List ℕ) (block : ℕ) (reached : BlockAt block (fieldsOf bs)) w
   pub indexable-before : FitsIndex bs → WholeFields (fieldsOf bs) → Indexable (take block bs)
   indexable-before fits w =
       let fields = fields-before bs block reached in
+      let bodies : WholeFields (fieldsOf (take block bs)) = rw fields (whole-before block (fieldsOf bs) w) in
       record {
         fits =
             record {
               short = omega (arith, fits .short, length-take block bs);
               few = rw fields (omega (arith, fits .few, fewer-before block (fieldsOf bs)));
             };
-        whole = places-whole (take block bs) (fieldsOf (take block bs)) (stands (take block bs)) (rw fields (whole-before block (fieldsOf bs) w)) 0 (omega arith)
-            [] each-none;
+        whole = places-whole (take block bs) (fieldsOf (take block bs)) (stands (take block bs)) bodies 0 (omega arith) [] each-none;
       }
 
   -- and begin with the same keywords and outside names.

@@ -3,3 +3,4 @@ pub mod HeadTests
 pub mod ResultsAside
 pub mod FieldsBefore
 pub mod BytesBefore
+pub mod UnderLaws

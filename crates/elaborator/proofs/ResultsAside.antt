@@ -1,4 +1,4 @@
--- Nullables, the sets of what opens productions, what is reached, and 12 and 13 go by the nonterminals and the items of productions: their results do not count.
+-- Nullables, what opens productions, what is reached, and 12 and 13 go by the nonterminals and the items of productions: their results do not count.
 use Prim.Native.Nat.{ℕ, zero, suc, _+_, _/_, _^_}
 use mathlib.Core.Path.{_≡_, refl, sym, ap, ap₂, _∙_}
 use mathlib.Core.Bool.{Bool, true, false, _||_}
@@ -16,8 +16,8 @@ use Rattle.firsts.specs.Mentions.{noted, notes}
 use Rattle.firsts.specs.Patterns.{placeBit, patternOf, patternSets, patternsIn}
 use Rattle.firsts.specs.Reach.{kindsReached}
 use Rattle.clashes.specs.Openings.{Openings, openingsOf, lowestOf}
-use Rattle.clashes.specs.CheckFirsts.{lowest, leftRecursive, sharedBy, clash, anyWith, anyPair, clashing, joinWith, joinPairs, lowestShared, noLeftRecursion, noClash}
-use Rattle.clashes.specs.CheckFirsts.{checkFirsts}
+use Rattle.clashes.specs.CheckFirsts.{lowest, leftRecursive, sharedBy, clash, anyWith, anyPair, clashing, joinWith, joinPairs, lowestShared}
+use Rattle.clashes.specs.CheckFirsts.{noLeftRecursion, noClash, checkFirsts}
 
 -- a production with any result in the place of its own
 abbrev pub bare : Production → Production

@@ -1,2 +1,3 @@
 pub mod PreparedTexts
 pub mod TextHeads
+pub mod TextsUnder
