@@ -4,3 +4,4 @@ pub mod ResultsAside
 pub mod FieldsBefore
 pub mod BytesBefore
 pub mod UnderLaws
+pub mod TextStepLaws
