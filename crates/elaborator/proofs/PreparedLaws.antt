@@ -3,8 +3,10 @@ use Prim.Native.Nat.{ℕ, _≤_}
 use mathlib.Core.Path.{_≡_, refl, sym, ap, _∙_}
 use mathlib.Core.List.{List}
 use native.Mathlib.Omega.{arith}
-use lib.ListN.{length, drop}
+use lib.ListN.{length, take, drop}
+use lib.Seq.{length-take-le}
 use Rattle.answers.specs.declared.Verdict.{Verdict}
+use Rattle.answers.specs.declared.Verdict.the-variants.{Passed}
 use Rattle.grammar.specs.Limits.{most}
 use Rattle.decoding.proofs.Spelled.{each-map}
 use Rattle.productions.specs.Normal.{Production}
@@ -17,7 +19,7 @@ use Rattle.firsts.specs.Reach.{kindsBy, kindsReached}
 use Rattle.firsts.specs.Room.{productionsIn, tableRoom, tableRoomFor, HoldsFor, HoldsGrammar, WholeIndex}
 use Rattle.patterns.specs.TextRoom.{RoomAndIndex}
 use Rattle.clashes.specs.CheckCalls.{FirstsChecked}
-use Rattle.elaborator.specs.PreparedTexts.{Indexable, PreparedText}
+use Rattle.elaborator.specs.PreparedTexts.{Indexable, PreparedText, PreparableOnce}
 
 -- What is noted of each nonterminal gives the kinds that are reached from one.
 pub kinds-reached : {g : List Production} {nulls : ℕ} {reading calling : List ℕ} → NullablesNoted g nulls reading calling → (start : ℕ) {kinds : ℕ}
@@ -65,3 +67,18 @@ module _ {bs : List ℕ} {many : ℕ} {owners₀ starts₀ owners starts : List 
           index = index-whole;
           entries = built .index .entries;
         }
+
+-- ------------------------------------------------------------------ once a block
+
+module _ {bs : List ℕ} {block prepared : ℕ} {room : List ℕ} (once : PreparableOnce bs block prepared room) where
+  -- There are as many bytes before the block as its offset says,
+  pub once-size : block ≡ length (take block bs)
+  once-size = sym (length-take-le block bs (once .inside))
+
+  -- they can be indexed,
+  pub once-indexable : Indexable (take block bs)
+  once-indexable = once .indexable
+
+  -- and a room that is prepared for it is kept.
+  pub once-kept : prepared ≡ block → PreparedText (take block bs) room Passed
+  once-kept = once .kept

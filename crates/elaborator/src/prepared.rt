@@ -10,10 +10,11 @@ use productions::index::build_index;
 use productions::room::ROOM;
 use reach::reached_kinds;
 ghost use mathlib.Core.Path.{_≡_};
+ghost use lib.ListN.{take};
 ghost use Rattle.productions.specs.Index.{productionsBy};
 ghost use Rattle.firsts.specs.Reach.{kindsReached};
 ghost use Rattle.firsts.specs.Room.{productionsIn, WholeIndex};
-ghost use Rattle.elaborator.specs.PreparedTexts.{Indexable, PreparedText};
+ghost use Rattle.elaborator.specs.PreparedTexts.{Indexable, PreparedText, PreparableOnce};
 
 // The kinds that are reached from a nonterminal in the productions of an index: what is read and called is noted where nullables are sought.
 fn reached_from(
@@ -55,4 +56,16 @@ pub fn prepare(table: &[u8], room: &mut [u64; ROOM]) -> Verdict
     let judged = check_firsts(table, &owners, &starts, m, room);
     lay_patterns(table, &owners, &starts, m, room);
     judged
+}
+
+// The same for the block at an offset, once for all its texts: where the room is prepared for this block it passed, and stays as it is. This rules out that
+// the room of another block is read by.
+pub fn prepare_once(table: &[u8], block: usize, prepared: usize, room: &mut [u64; ROOM]) -> Verdict
+    requires { ⌜ PreparableOnce (now table) block prepared (now room) ⌝ }
+    ensures { λ r. ⌜ PreparedText (take block (now (table .entry))) (now (room .exit)) r ⌝ }
+{
+    if prepared == block {
+        return Verdict::Passed;
+    }
+    prepare(&table[..block], room)
 }

@@ -6,8 +6,9 @@ use reader::judging::TextHead;
 use reader::read_text;
 ghost use Rattle.elaborator.specs.TextsUnder.{ReadableUnder, ReadsUnder};
 
-// Reads a text from nonterminal n, which has a sort, where another is asked: under the bytes of the blocks before and the texts that they hold, with their room,
-// the sorts of the alternative's variables, and cells that are zero, as many rows as are left for texts. The keywords that count are those reached from n.
+// Reads a text from nonterminal n, which has a sort, where another is asked: under the bytes of the blocks before and the texts that they hold, with their
+// room, the sorts of the alternative's variables, and cells that are zero, as many rows as are left for texts. The keywords that count are those reached
+// from n.
 pub fn read_under(
     cells: &mut [u32],
     table: &[u8],
