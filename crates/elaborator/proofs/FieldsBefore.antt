@@ -132,3 +132,23 @@ module _ (bs : List ℕ) (block : ℕ) where
   -- The fields of a table's bytes up to a block's field are the table's fields before it.
   pub fields-before : BlockAt block (fieldsOf bs) → fieldsOf (take block bs) ≡ fieldsBefore block (fieldsOf bs)
   fields-before b = fields-of (take block bs) ∙ fields-to b 0 (fields-of bs)
+
+-- ------------------------------------------------------------------ a walk over the fields
+
+-- what stands behind an offset that a walk has come to stands among all fields
+pub record Reaching (bs : List ℕ) (at : ℕ) : Type 0 where
+  pub reaches : (block : ℕ) → BlockAt block (fieldsAt bs at) → BlockAt block (fieldsOf bs)
+
+-- A walk begins at the first field,
+pub reaching-start : (bs : List ℕ) → Reaching bs 0
+reaching-start bs = record { reaches = λ block b. rw (fields-of bs) b }
+
+module _ {bs : List ℕ} {at : ℕ} (reaching : Reaching bs at) {tag : ℕ} {v : List ℕ} where
+  -- and goes on behind each.
+  pub reaching-next : {to : ℕ} → fieldsAt bs at ≡ next at tag v (fieldsAt bs to) → at < to → Reaching bs to
+  reaching-next {to} e l =
+      record { reaches = λ block b. reaching .reaches block (rw e (block-later {at = at} (omega (arith, l, block-behind b, offset-at bs to)) b)) }
+
+  -- A block's field that it comes to stands among all fields.
+  pub reaching-block : {fs : RawFields} → fieldsAt bs at ≡ next at tag v fs → tag ≡ 3 → BlockAt at (fieldsOf bs)
+  reaching-block e t = reaching .reaches at (rw (e, t) block-here)
