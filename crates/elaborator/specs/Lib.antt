@@ -1,0 +1,4 @@
+pub mod PreparedTexts
+pub mod TextHeads
+pub mod TextsUnder
+pub mod TextSteps
