@@ -9,7 +9,7 @@ use lib.Dec.{eqb, ltb}
 use lib.ListN.{length, get_or, set, replicate, length-set, get_or-replicate}
 use lib.Seq.{get_or-set_same, get_or-set_other}
 use borrow.Author.Tests.{eq-eqb, eqb-true, eqb-false, ltb-true, ltb-false}
-use Rattle.spellings.proofs.BytesLaws.{by-test}
+use Rattle.spellings.proofs.BytesLaws.{by_test}
 use Rattle.terms.specs.Cells.{column, columns, most_cells}
 use Rattle.binders.specs.Slots.{binds, slot_from}
 use Rattle.binders.specs.Links.{FirstBinding, NewestRow, LinkedTo, RowsLinked, links_with_row}
@@ -22,7 +22,7 @@ module _ (cells : List ℕ) (sought : ℕ) where
   unfolding slot_from
   slot_le zero row l = omega arith
   slot_le (suc rows) row l =
-      by-test (binds cells row sought) (λ e. rw (e, slot_from) (omega arith)) (λ e. rw (e, slot_from) (slot_le rows (suc row) (omega arith)))
+      by_test (binds cells row sought) (λ e. rw (e, slot_from) (omega arith)) (λ e. rw (e, slot_from) (slot_le rows (suc row) (omega arith)))
 
   -- the first of some rows, and one more row behind them
   slot_more : (rows row : ℕ) → row + rows ≤ most_cells → slot_from rows cells row sought < most_cells
@@ -30,7 +30,7 @@ module _ (cells : List ℕ) (sought : ℕ) where
   unfolding slot_from
   slot_more zero row l h = absurd (omega arith)
   slot_more (suc rows) row l h =
-      by-test (binds cells row sought) (λ e. rw (e, slot_from) refl)
+      by_test (binds cells row sought) (λ e. rw (e, slot_from) refl)
       (λ e. rw (e, slot_from) ((slot_more rows (suc row) (omega arith) (rw (e, slot_from) at h))))
 
   slot_last : (rows row : ℕ) → slot_from rows cells row sought ≡ most_cells → row + rows < most_cells → binds cells (row + rows) sought ≡ true
@@ -41,7 +41,7 @@ module _ (cells : List ℕ) (sought : ℕ) where
       let b' : binds cells row sought ≡ true = cc in
       rw (b', slot_from) (sym z)
   slot_last (suc rows) row h l b =
-      by-test (binds cells row sought)
+      by_test (binds cells row sought)
       (λ e.
       let g : slot_from (suc rows) cells row sought ≡ row = rw (e, slot_from) refl in
       absurd (omega (arith, g, h)))
@@ -57,7 +57,7 @@ module _ (cells : List ℕ) (sought : ℕ) where
       let b' : binds cells row sought ≡ false = cc in
       rw (b', slot_from) refl
   slot_none (suc rows) row h b =
-      by-test (binds cells row sought)
+      by_test (binds cells row sought)
       (λ e. let g : slot_from (suc rows) cells row sought ≡ row = rw (e, slot_from) refl in rw (e, slot_from) (sym g ∙ h))
       (λ e.
       let z : row + suc rows ≡ suc row + rows = omega arith in
@@ -100,7 +100,7 @@ pub slot_is : (cells : List ℕ) (name rows : ℕ) → rows ≤ most_cells → s
 unfolding slot_from
 slot_is cells name zero l h = absurd (omega arith)
 slot_is cells name (suc rows) l h =
-    by-test (ltb (slot_from rows cells 0 name) most_cells)
+    by_test (ltb (slot_from rows cells 0 name) most_cells)
     (λ e.
     let g : slot_from rows cells 0 name < most_cells = ltb-true (slot_from rows cells 0 name) most_cells e in
     let s : SlotIs cells name rows (slot_from rows cells 0 name) = slot_is cells name rows (omega arith) g in
@@ -108,7 +108,7 @@ slot_is cells name (suc rows) l h =
     (λ e.
     let g : slot_from rows cells 0 name ≡ most_cells = slot_grows cells name rows (omega arith)
     (λ k. omega (arith, ltb-false (slot_from rows cells 0 name) most_cells e)) in
-    by-test (binds cells rows name)
+    by_test (binds cells rows name)
     (λ b.
     let nm : column cells rows 1 ≡ name = binds_name cells rows name b in
     rw (last_of_all cells name rows g (omega arith) b)
@@ -168,7 +168,7 @@ module _ {rows : ℕ} {cells links : List ℕ} (linked : LinkedTo rows cells lin
     -- where a link leads to none, no row binds `sought`
     pub chasing_end : link ≤ 0 → most_cells ≡ slot_from rows cells 0 sought
     chasing_end h =
-        by-test (ltb (slot_from rows cells 0 sought) most_cells)
+        by_test (ltb (slot_from rows cells 0 sought) most_cells)
         (λ e.
         let s : SlotIs cells sought rows (slot_from rows cells 0 sought) = slot_is cells sought rows linked.few
         (ltb-true (slot_from rows cells 0 sought) most_cells e) in
@@ -222,7 +222,7 @@ newest_on {cells} {half} {hash} {below} {link} w d =
       small = omega (arith, w.small);
       all =
           λ j l f e.
-          by-test (eqb j below)
+          by_test (eqb j below)
           (λ t. let z : j ≡ below = eqb-true j below t in absurd (d (subst (FirstBinding cells) z f) cc))
           (λ t. w.all j (omega (arith, eqb-false j below t)) f e);
       first = w.first;
@@ -240,13 +240,13 @@ linked_skip {rows} {cells} {links} k r l d =
       heads = λ h b. newest_on (k.heads h b) (λ f e. d f);
       nexts =
           λ i b f.
-          by-test (eqb i rows)
+          by_test (eqb i rows)
           (λ t. absurd (d (subst (FirstBinding cells) (eqb-true i rows t) f)))
           (λ t. k.nexts i (omega (arith, eqb-false i rows t)) f);
     }
 
 module _ {rows : ℕ} {cells links : List ℕ} (linked : LinkedTo rows cells links) (below : rows < length links / 2) (under : rows < most_cells)
-    (binds-first : FirstBinding cells rows) where
+    (binds_first : FirstBinding cells rows) where
   x : ℕ
   x = column cells rows 1
 
@@ -319,7 +319,7 @@ module _ {rows : ℕ} {cells links : List ℕ} (linked : LinkedTo rows cells lin
       (record {
         small = omega arith;
         all = λ j b g e. omega arith;
-        first = λ q e. subst (FirstBinding cells) (omega arith) binds-first;
+        first = λ q e. subst (FirstBinding cells) (omega arith) binds_first;
         hashed = λ q e. let z : q ≡ rows = omega arith in cc;
       })
 
@@ -329,14 +329,14 @@ module _ {rows : ℕ} {cells links : List ℕ} (linked : LinkedTo rows cells lin
 
   heads : (hash : ℕ) → hash < half → NewestRow cells half hash (rows + 1) (get_or links₂ hash 0)
   heads hash b =
-      by-test (eqb hash (x % half))
+      by_test (eqb hash (x % half))
       (λ e. rw (eqb-true hash (x % half) e) newest_same)
       (λ e. newest_other hash b (eqb-false hash (x % half) e))
 
   nexts : (older : ℕ) → older < rows + 1 → FirstBinding cells older → NewestRow cells half (column cells older 1 % half) older (get_or links₂ (half + older) 0)
   unfolding x
   nexts older b g =
-      by-test (eqb older rows)
+      by_test (eqb older rows)
       (λ e.
       let z : rows ≡ older = sym (eqb-true older rows e) in
       rw (← z) (rw next_same (old_head (x % half) hx)))

@@ -7,7 +7,7 @@ use native.Mathlib.Omega.{arith}
 use lib.Dec.{eqb}
 use lib.ListN.{length}
 use borrow.Author.Tests.{eq-eqb, eqb-true}
-use Rattle.spellings.proofs.BytesLaws.{by-test}
+use Rattle.spellings.proofs.BytesLaws.{by_test}
 use Rattle.terms.specs.Cells.{column, columns, most_cells}
 use Rattle.binders.specs.Slots.{binds, slot_from, slot_of}
 
@@ -15,7 +15,7 @@ slot_binds : (rows : ℕ) (cells : List ℕ) (row name : ℕ) → slot_from rows
 unfolding slot_from
 slot_binds zero cells row name h = absurd (omega arith)
 slot_binds (suc rows) cells row name h =
-    by-test (binds cells row name) (λ e. rw (e, slot_from) e) (λ e. rw (e, slot_from) (slot_binds rows cells (suc row) name (rw (e, slot_from) at h)))
+    by_test (binds cells row name) (λ e. rw (e, slot_from) e) (λ e. rw (e, slot_from) (slot_binds rows cells (suc row) name (rw (e, slot_from) at h)))
 
 -- the row of a slot has the slot's name
 pub slot_name : (cells : List ℕ) (name : ℕ) → slot_of cells name < most_cells → column cells (slot_of cells name) 1 ≡ name
@@ -29,7 +29,7 @@ slot_first : (rows : ℕ) (cells : List ℕ) (row name found : ℕ) → row ≤ 
 unfolding slot_from
 slot_first zero cells row name found a b m e = absurd (omega arith)
 slot_first (suc rows) cells row name found a b m e =
-    by-test (binds cells row name) (λ t. rw (t, slot_from) (omega arith))
+    by_test (binds cells row name) (λ t. rw (t, slot_from) (omega arith))
     (λ f.
     let other : row ≡ found → ⊥ = λ z. absurd (clash (binds cells found name) e cc) in
     rw (f, slot_from) (slot_first rows cells (suc row) name found (omega (arith, other)) (omega arith) (omega arith) e))

@@ -159,18 +159,18 @@ module _ (bs : List ℕ) (known : Known) (heads L : List ℕ) (count : ℕ) (arg
   call_undefined z = call_by true (eq-eqb head 0 z)
 
   -- no arguments, where the signature has no parameters
-  pub call-bare :
+  pub call_bare :
       {sort : ℕ} {signature : List ℕ} → (head ≡ 0 → ⊥) → signature ≡ signature_at bs head → (eqb (length arguments) 0 && leb (length signature) 1) ≡ true
       → sort ≡ get_or signature 0 0 → As sort ≡ call_at bs known heads L count arguments
   unfolding templates_fault closed_bytes fill_bytes
-  call-bare {sort} {signature} declared agrees e f =
+  call_bare {sort} {signature} declared agrees e f =
       let (a, b) = both (eqb (length arguments) 0) (leb (length signature) 1) e in
       let none : arguments ≡ [] = drop_of_length-le arguments {i = 0} (omega (arith, eqb-true (length arguments) 0 a)) in
       let no_place : drop 1 signature ≡ [] = drop_of_length-le signature {i = 1} (leb-true (length signature) 1 b) in
       cc (call_by false (ne_eqb head 0 declared))
 
   module _ (declared : head ≡ 0 → ⊥) {signature : List ℕ} (agrees : signature ≡ signature_at bs head) {tested : Tested}
-      (also-equal : tested ≡ templates_fault known.outsides (take known.variables L) arguments (drop 1 signature)) where
+      (also_equal : tested ≡ templates_fault known.outsides (take known.variables L) arguments (drop 1 signature)) where
     call_tested : unless_faulty (get_or signature 0 0) tested ≡ call_at bs known heads L count arguments
     call_tested = cc (call_by false (ne_eqb head 0 declared))
 
@@ -199,13 +199,13 @@ module _ (bs : List ℕ) (known : Known) (heads L value : List ℕ) {kind operan
   item_is g = sym (ap₂ item_by (sym equal ∙ g) (sym agrees))
 
   -- a keyword that is defined
-  pub item_keyword : {keyword-number : ℕ} → keyword-number ≡ operand → kind ≡ 0 → keyword-number < known.keywords
+  pub item_keyword : {keyword_number : ℕ} → keyword_number ≡ operand → kind ≡ 0 → keyword_number < known.keywords
       → As 0 ≡ item_at bs known heads L value
   unfolding item_by item_tests
   item_keyword w g h = ap (choose (As unit) (Unsorted Undefined)) (sym (lt-ltb operand known.keywords (omega arith))) ∙ item_is g
 
   -- one that is not
-  pub item_unknown : {keyword-number : ℕ} → keyword-number ≡ operand → kind ≡ 0 → known.keywords ≤ keyword-number
+  pub item_unknown : {keyword_number : ℕ} → keyword_number ≡ operand → kind ≡ 0 → known.keywords ≤ keyword_number
       → Unsorted Undefined ≡ item_at bs known heads L value
   unfolding item_by item_tests
   item_unknown w g h = ap (choose (As unit) (Unsorted Undefined)) (sym (le-ltb operand known.keywords (omega arith))) ∙ item_is g

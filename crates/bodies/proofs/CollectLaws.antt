@@ -55,10 +55,10 @@ module _ {bs : List ℕ} {block from : ℕ} {heads₀ : List ℕ} {at : ℕ} {he
     module _ {tested : Tested} {heads' : List ℕ} (agrees : ends_block field.tag ≡ false)
         (defined : Defined bs at field.tag block heads tested heads') where
       -- at a head that is refused
-      pub collecting-fault :
+      pub collecting_fault :
           {fault : Fault} {number : ℕ} {verdict : Verdict} → tested ≡ Faulty fault → number ≡ cause_of fault → verdict ≡ Refused (refusal number at 0 0)
           → collected verdict heads' ≡ collect_from (fields_at bs from) bs block heads₀
-      collecting-fault f n q = cc (field_is false agrees, defined.tested_is, defined.heads_are)
+      collecting_fault f n q = cc (field_is false agrees, defined.tested_is, defined.heads_are)
 
       -- one field more
       pub collecting_next : length heads' ≡ length heads → tested ≡ Sound → Collecting bs block from heads₀ field.to heads'

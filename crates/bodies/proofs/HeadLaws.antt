@@ -66,7 +66,7 @@ signature_short bs at = omega (arith, length-take 5 (drop 2 (value_at bs at)))
 -- ------------------------------------------------------------------ refusals 7 and 8
 
 module _ (bs heads : List ℕ) (at block : ℕ) {nonterminal mode head : ℕ} (equal : nonterminal ≡ get_or bs (at + 3) 0) (agrees : mode ≡ get_or bs (at + 4) 0)
-    (also-equal : head ≡ get_or heads nonterminal 0) where
+    (also_equal : head ≡ get_or heads nonterminal 0) where
   -- by the mode, and one test for each
   fault_is : fault_of bs at block heads
       ≡ choose (tested_by (leb head block && ltb 0 head && same (signature_at bs head) (signature_at bs at)) BadExtension)
@@ -78,11 +78,11 @@ module _ (bs heads : List ℕ) (at block : ℕ) {nonterminal mode head : ℕ} (e
       cc
 
   -- extend and update
-  pub fault-earlier :
+  pub fault_earlier :
       {signature signature' : List ℕ} {alike : Bool} → (eqb mode 1 || eqb mode 2) ≡ true → signature ≡ signature_at bs head → signature' ≡ signature_at bs at
       → alike ≡ same signature signature' → (good : Bool) → (leb head block && ltb 0 head && alike) ≡ good
       → tested_by good BadExtension ≡ fault_of bs at block heads
-  fault-earlier {signature} {signature'} {alike} m p q a good k =
+  fault_earlier {signature} {signature'} {alike} m p q a good k =
       let test : Bool = leb head block && ltb 0 head && same (signature_at bs head) (signature_at bs at) in
       let b : test ≡ good = cc in
       cc fault_is
@@ -96,11 +96,11 @@ module _ (bs heads : List ℕ) (at block : ℕ) {nonterminal mode head : ℕ} (e
 -- ------------------------------------------------------------------ the head from the blocks before
 
 -- The newest head is kept or not, by one test of where it stands and of its mode.
-pub before-kept :
+pub before_kept :
     (bs heads : List ℕ) (block n : ℕ) {head mode : ℕ} → head ≡ get_or heads n 0 → mode ≡ get_or bs (head + 4) 0 → (test : Bool)
     → ((leb head block || eqb mode 1) || eqb mode 2) ≡ test → (elim test [ true ↦ head | false ↦ 0 ]) ≡ head_before bs heads block n
 unfolding head_before
-before-kept bs heads block n h m test t = cc (h, m, t)
+before_kept bs heads block n h m test t = cc (h, m, t)
 
 -- It goes by the newest head alone.
 pub before_same_head : (bs heads heads' : List ℕ) (block n : ℕ) → get_or heads n 0 ≡ get_or heads' n 0 → head_before bs heads block n ≡ head_before bs heads' block n

@@ -4,7 +4,7 @@ use mathlib.Core.Path.{◌≡◌, refl, subst⁻¹}
 use mathlib.Core.Bool.{Bool, true, false}
 use mathlib.Core.List.{List, [], ◌∷◌}
 use lib.Dec.{eqb, ltb}
-use Rattle.spellings.proofs.BytesLaws.{by-test}
+use Rattle.spellings.proofs.BytesLaws.{by_test}
 use Rattle.grammar.specs.Sorts.{arity}
 use Rattle.grammar.specs.SortTests.{is_constructor}
 use Rattle.grammar.specs.Table.{Template, Templates, variable, make, none, more}
@@ -28,7 +28,7 @@ pub record Read (Q : List ℕ → Templates → Type 0) : Type 0 where
   pub at_variable : (byte : ℕ) (bs : List ℕ) (ts : Templates) → is_name_tag byte ≡ false → ltb byte 0x10 ≡ true → Q bs ts
       → Q (byte ∷ bs) (more (variable byte) ts)
   -- a constructor in front, with its arguments
-  pub at-constructor :
+  pub at_constructor :
       (byte : ℕ) (bs : List ℕ) (ts us vs : Templates) → is_name_tag byte ≡ false → ltb byte 0x10 ≡ false → is_constructor byte ≡ true
       → take_templates (arity byte) ts ≡ taken us vs → Q bs ts → Q (byte ∷ bs) (more (make byte us) vs)
 
@@ -47,22 +47,22 @@ module _ (Q : List ℕ → Templates → Type 0) (read : Read Q) where
   made byte bs cs ts short e f = tt
   made byte bs cs ts (taken us vs) e f = f us vs e
 
-  constructor-read :
+  constructor_read :
       (byte : ℕ) (bs : List ℕ) (read_templates : ReadTemplates) → is_name_tag byte ≡ false → ltb byte 0x10 ≡ false → is_constructor byte ≡ true
       → Whole (Q bs) read_templates → Whole (Q (byte ∷ bs)) (constructed byte read_templates)
-  constructor-read byte bs fault n e k h = tt
-  constructor-read byte bs (parsed ts) n e k h =
-      made byte bs (byte ∷ bs) ts (take_templates (arity byte) ts) refl (λ us vs t. read.at-constructor byte bs ts us vs n e k t h)
+  constructor_read byte bs fault n e k h = tt
+  constructor_read byte bs (parsed ts) n e k h =
+      made byte bs (byte ∷ bs) ts (take_templates (arity byte) ts) refl (λ us vs t. read.at_constructor byte bs ts us vs n e k t h)
 
   byte_read : (byte : ℕ) (bs : List ℕ) (read_templates : ReadTemplates) → is_name_tag byte ≡ false → Whole (Q bs) read_templates
       → Whole (Q (byte ∷ bs)) (byte_in_front byte read_templates)
   byte_read byte bs read_templates n h =
-      by-test (ltb byte 0x10)
+      by_test (ltb byte 0x10)
       (λ e. subst⁻¹ (Whole (Q (byte ∷ bs))) (variable_first byte read_templates e)
       (in_front_lem (variable byte) bs (byte ∷ bs) read_templates (λ ts q. read.at_variable byte bs ts n e q) h))
       (λ e.
-      by-test (is_constructor byte)
-      (λ k. subst⁻¹ (Whole (Q (byte ∷ bs))) (constructor_first byte read_templates e k) (constructor-read byte bs read_templates n e k h))
+      by_test (is_constructor byte)
+      (λ k. subst⁻¹ (Whole (Q (byte ∷ bs))) (constructor_first byte read_templates e k) (constructor_read byte bs read_templates n e k h))
       (λ k. subst⁻¹ (Whole (Q (byte ∷ bs))) (unknown_first byte read_templates e k) tt))
 
   -- one byte and the bytes after it
@@ -74,9 +74,9 @@ module _ (Q : List ℕ → Templates → Type 0) (read : Read Q) where
   unfolding templates_of
   whole [] = read.at-end
   whole (b ∷ []) =
-      by-test (is_name_tag b) (λ e. subst⁻¹ (Whole (Q (b ∷ []))) (name_last b e) tt) (λ e. front_read b [] e read.at-end)
+      by_test (is_name_tag b) (λ e. subst⁻¹ (Whole (Q (b ∷ []))) (name_last b e) tt) (λ e. front_read b [] e read.at-end)
   whole (b ∷ x ∷ bs) =
-      by-test (is_name_tag b)
+      by_test (is_name_tag b)
       (λ e.
       subst⁻¹ (Whole (Q (b ∷ x ∷ bs))) (name_first b x bs e)
       (in_front_lem (name_by (eqb b 0x10) x) bs (b ∷ x ∷ bs) (templates_of bs) (λ ts q. read.at_name b x bs ts e q) (whole bs)))

@@ -9,7 +9,7 @@ use lib.Dec.{eqb, leb, ltb}
 use lib.ListN.{length, get_or, drop, set, length-set, drop_of_length-le}
 use lib.Seq.{drop-cons, get_or-set_same, get_or-set_other}
 use borrow.Author.Tests.{not-true, not-false, ltb-true, ltb-false, lt-ltb, le-ltb, eq-eqb, ne_eqb}
-use Rattle.spellings.proofs.BytesLaws.{by-test}
+use Rattle.spellings.proofs.BytesLaws.{by_test}
 use Rattle.grammar.specs.Sorts.{unit, var, label, constructor, arity}
 use Rattle.grammar.specs.SortTests.{fits}
 use Rattle.grammar.proofs.SortLaws.{arity_small}
@@ -23,7 +23,7 @@ use Rattle.bodies.specs.Faults.{tested_by}
 use Rattle.bodies.specs.TemplateBytes.{is_closed_byte, names_next, closed_bytes, head_sort, head_params, fill_bytes, templates_fault}
 use Rattle.bodies.specs.TemplateBytes.{Places, ill_sorted, awaiting, fill_byte, places, places_at, height_of, is_filled, PlaceFilled, PlacesOpened}
 use Rattle.bodies.proofs.TemplateInduction.{choose}
-use Rattle.bodies.proofs.TemplatesByBytes.{head-sort, head_variable, head_constructor, params_none, params_some}
+use Rattle.bodies.proofs.TemplatesByBytes.{head_sort_lem, head_variable, head_constructor, params_none, params_some}
 
 -- the byte at `place`, and those after it
 front : (bytes : List ℕ) (place : ℕ) {byte : ℕ} → place < length bytes → byte ≡ get_or bytes place 0 → drop place bytes ≡ byte ∷ drop (place + 1) bytes
@@ -36,17 +36,17 @@ ended bytes h = drop_of_length-le bytes h
 
 module _ (L : List ℕ) {byte : ℕ} where
   -- a variable has the sort that the list gives it
-  pub variable_sort : {sort variable-number : ℕ} → sort ≡ get_or L variable-number 0 → variable-number ≡ byte → byte < 16 → sort ≡ head_sort byte L
+  pub variable_sort : {sort variable_number : ℕ} → sort ≡ get_or L variable_number 0 → variable_number ≡ byte → byte < 16 → sort ≡ head_sort byte L
   variable_sort e f h = cc (head_variable L byte (lt-ltb byte 16 h))
 
   -- an outside name is a Var
   pub name_sort : byte ≡ 16 → var ≡ head_sort byte L
-  name_sort h = sym (head-sort L byte false true (eqb byte 17) (le-ltb byte 16 (omega arith)) (eq-eqb byte 16 h) refl)
+  name_sort h = sym (head_sort_lem L byte false true (eqb byte 17) (le-ltb byte 16 (omega arith)) (eq-eqb byte 16 h) refl)
 
   -- or a Label
   pub label_sort : byte ≡ 17 → label ≡ head_sort byte L
   label_sort h =
-      sym (head-sort L byte false false true (le-ltb byte 16 (omega arith)) (ne_eqb byte 16 (λ k. omega arith)) (eq-eqb byte 17 h))
+      sym (head_sort_lem L byte false false true (le-ltb byte 16 (omega arith)) (ne_eqb byte 16 (λ k. omega arith)) (eq-eqb byte 17 h))
 
   -- a constructor gives its result
   pub constructor_sort : {sort : ℕ} → sort ≡ (constructor byte).result → 16 ≤ byte → (byte ≡ 16 → ⊥) → (byte ≡ 17 → ⊥) → sort ≡ head_sort byte L
@@ -69,7 +69,7 @@ places_set room place sort h =
 -- no constructor has more than three arguments
 pub params_small : (byte : ℕ) → length (head_params byte) ≤ 3
 params_small byte =
-    by-test (ltb byte 32) (λ e. omega (arith, ap length (params_none byte (ltb-true byte 32 e))))
+    by_test (ltb byte 32) (λ e. omega (arith, ap length (params_none byte (ltb-true byte 32 e))))
     (λ e. omega (arith, ap length (params_some byte (ltb-false byte 32 e)), arity_small byte))
 
 -- Opening the places of a constructor's arguments, `left` of them left.
@@ -99,10 +99,10 @@ module _ {room₀ : List ℕ} {start byte : ℕ} where
   opening_room h o p = omega (arith, arity_small byte, o.as_many, o.height, o.most)
 
   -- one place more
-  pub opening-next :
+  pub opening_next :
       {room : List ℕ} {top left sort : ℕ} → start + 3 ≤ length room₀ → Opening room₀ start byte room top left → 0 < left
       → sort ≡ get_or (constructor byte).params (left - 1) unit → Opening room₀ start byte (set room top sort) (top + 1) (left - 1)
-  opening-next {room} {top} {left} {sort} h o p e =
+  opening_next {room} {top} {left} {sort} h o p e =
       let params : List ℕ = (constructor byte).params in
       let back : suc (left - 1) ≡ left = omega arith in
       record {
@@ -141,18 +141,18 @@ places_top room (suc top) h =
     cc
 
 -- by the test of the sort
-fill-by :
+fill_by :
     (byte : ℕ) (L room : List ℕ) (filling : Filling) {top sort : ℕ} → filling ≡ Open top → (top ≡ 0 → ⊥) → sort ≡ head_sort byte L → (fitting : Bool)
     → fits sort (get_or room (top - 1) 0) ≡ fitting
     → choose (awaiting (head_params byte ++ places room (top - 1))) ill_sorted fitting ≡ fill_byte byte L (places_at room filling)
-fill-by byte L room filling {top} e some q fitting k = cc (places_top room top some)
+fill_by byte L room filling {top} e some q fitting k = cc (places_top room top some)
 
 module _ {byte : ℕ} {L room : List ℕ} {filling : Filling} where
   -- a template did not fit before
   pub fill_unfit : filling ≡ Unfit → PlaceFilled byte L room filling room Unfit
   fill_unfit e = record { small = omega arith; filled = cc }
 
-  module _ {top : ℕ} (open-places : filling ≡ Open top) where
+  module _ {top : ℕ} (open_places : filling ≡ Open top) where
     -- no place is open
     pub fill_none : top ≡ 0 → PlaceFilled byte L room filling room Unfit
     unfolding places
@@ -163,16 +163,16 @@ module _ {byte : ℕ} {L room : List ℕ} {filling : Filling} where
     module _ (some : top ≡ 0 → ⊥) {sort : ℕ} (sorted : sort ≡ head_sort byte L) where
       -- the template does not fit the place on top
       pub fill_other : fits sort (get_or room (top - 1) 0) ≡ false → PlaceFilled byte L room filling room Unfit
-      fill_other k = record { small = omega arith; filled = fill-by byte L room filling open-places some sorted false k }
+      fill_other k = record { small = omega arith; filled = fill_by byte L room filling open_places some sorted false k }
 
       -- it fits, and opens places of its own
       pub fill_fits : {room' : List ℕ} {top' : ℕ} → fits sort (get_or room (top - 1) 0) ≡ true → PlacesOpened byte room (top - 1) room' top'
           → PlaceFilled byte L room filling room' (Open top')
       fill_fits k o =
-          let high : height_of filling ≡ top = ap height_of open-places in
+          let high : height_of filling ≡ top = ap height_of open_places in
           record {
             small = omega (arith, o.height, params_small byte);
-            filled = ap awaiting o.opened ∙ fill-by byte L room filling open-places some sorted true k;
+            filled = ap awaiting o.opened ∙ fill_by byte L room filling open_places some sorted true k;
           }
 
 -- all places are filled, or not
@@ -232,17 +232,17 @@ pub record Testing (bytes L : List ℕ) (outsides : ℕ) (room₀ : List ℕ) (s
   pub fills : fill_left name (drop place bytes) L (places_at room filling) ≡ fill_bytes false bytes L (places room₀ start)
 
 -- no byte yet
-pub testing-start :
+pub testing_start :
     {bytes L room₀ : List ℕ} {outsides start : ℕ} → start + 2 * length bytes + 3 ≤ length room₀
     → Testing bytes L outsides room₀ start room₀ (Open start) false 0
-testing-start h = record { within = omega arith; as_many = refl; enough = omega arith; closed = refl; fills = refl }
+testing_start h = record { within = omega arith; as_many = refl; enough = omega arith; closed = refl; fills = refl }
 
 -- what is wrong, by the outcomes of both tests
-fault-by :
+fault_by :
     (outsides : ℕ) (L bytes ps : List ℕ) (closed filled : Bool) → closed_bytes false bytes outsides (length L) ≡ closed → fill_bytes false bytes L ps ≡ filled
     → choose (tested_by filled WrongSort) (Faulty Undefined) closed ≡ templates_fault outsides L bytes ps
 unfolding templates_fault
-fault-by outsides L bytes ps closed filled e f =
+fault_by outsides L bytes ps closed filled e f =
     cc
 
 module _ {bytes L room₀ room : List ℕ} {outsides start place : ℕ} {filling : Filling} {name : Bool}
@@ -256,16 +256,16 @@ module _ {bytes L room₀ room : List ℕ} {outsides start place : ℕ} {filling
         cc (front bytes place below equal, testing.closed)
 
     open_fault : is_closed_byte name number outsides (length L) ≡ false → Faulty Undefined ≡ templates_fault outsides L bytes (places room₀ start)
-    open_fault k = fault-by outsides L bytes (places room₀ start) false _ (sym (closed_step false k)) refl
+    open_fault k = fault_by outsides L bytes (places room₀ start) false _ (sym (closed_step false k)) refl
 
     -- a name that is not defined
     pub testing_unnamed : name ≡ true → outsides ≤ number → Faulty Undefined ≡ templates_fault outsides L bytes (places room₀ start)
     testing_unnamed e h = open_fault (rw e (le-ltb number outsides h))
 
     -- a variable that is not
-    pub testing-unbound :
+    pub testing_unbound :
         name ≡ false → not (leb 16 number || ltb number (length L)) ≡ true → Faulty Undefined ≡ templates_fault outsides L bytes (places room₀ start)
-    testing-unbound e k = open_fault (rw e (not-true _ k))
+    testing_unbound e k = open_fault (rw e (not-true _ k))
 
     -- one byte more
     next : (room' : List ℕ) (filling' : Filling) → is_closed_byte name number outsides (length L) ≡ true → length room' ≡ length room
@@ -289,10 +289,10 @@ module _ {bytes L room₀ room : List ℕ} {outsides start place : ℕ} {filling
         rw e at (next room filling (rw e (lt-ltb number outsides h)) refl (omega arith) (rw e left))
 
     -- any other byte more
-    pub testing-next :
+    pub testing_next :
         {room' : List ℕ} {filling' : Filling} → name ≡ false → not (leb 16 number || ltb number (length L)) ≡ false → length room' ≡ length room
         → PlaceFilled byte L room filling room' filling' → Testing bytes L outsides room₀ start room' filling' (is_name_tag byte) (place + 1)
-    testing-next {room'} {filling'} e k l f =
+    testing_next {room'} {filling'} e k l f =
         rw e at
         (next room' filling' (rw e (not-false _ k)) l f.small
         (rw e (cc (f.filled, left_byte byte (drop (place + 1) bytes) L (places_at room filling)))))
@@ -303,5 +303,5 @@ module _ {bytes L room₀ room : List ℕ} {outsides start place : ℕ} {filling
   unfolding closed_bytes
   testing_end h e =
       e
-      ∙ fault-by outsides L bytes (places room₀ start) true (is_filled filling) (cc (testing.closed, ended bytes h))
+      ∙ fault_by outsides L bytes (places room₀ start) true (is_filled filling) (cc (testing.closed, ended bytes h))
       (cc (testing.fills, ended bytes h, left_end name L room filling))

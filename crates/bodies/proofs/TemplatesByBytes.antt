@@ -62,11 +62,11 @@ module _ (scope : Scope) (variables : ℕ) where
   closed_first : Bool → Bool → ℕ → List ℕ → Bool
   closed_first big named b bs = (big || ltb b variables) && closed_bytes named bs scope.outsides variables
 
-  closed-first :
+  closed_first_lem :
       (byte : ℕ) (bs : List ℕ) (big named : Bool) → leb 0x10 byte ≡ big → is_name_tag byte ≡ named
       → closed_bytes false (byte ∷ bs) scope.outsides variables ≡ closed_first big named byte bs
   unfolding closed_bytes closed_first
-  closed-first byte bs big named e f =
+  closed_first_lem byte bs big named e f =
       cc
 
   closed_number : (number : ℕ) (bs : List ℕ) → closed_bytes true (number ∷ bs) scope.outsides variables
@@ -80,11 +80,11 @@ module _ (scope : Scope) (variables : ℕ) where
       record {
         at-end = refl;
         at_name = λ b x bs ts e q.
-            cc (closed-first b (x ∷ bs) true true (le-leb 0x10 b (name_big b e)) e, closed_number x bs, closed_name (eqb b 0x10) x);
+            cc (closed_first_lem b (x ∷ bs) true true (le-leb 0x10 b (name_big b e)) e, closed_number x bs, closed_name (eqb b 0x10) x);
         at_variable = λ b bs ts e v q.
-            cc (closed-first b bs false false (lt-leb 0x10 b (ltb-true b 0x10 v)) e);
-        at-constructor = λ b bs ts us vs e v k t q.
-            closed-first b bs true false (le-leb 0x10 b (ltb-false b 0x10 v)) e ∙ q ∙ subst (Apart _) t (closed_taken (arity b) ts);
+            cc (closed_first_lem b bs false false (lt-leb 0x10 b (ltb-true b 0x10 v)) e);
+        at_constructor = λ b bs ts us vs e v k t q.
+            closed_first_lem b bs true false (le-leb 0x10 b (ltb-false b 0x10 v)) e ∙ q ∙ subst (Apart _) t (closed_taken (arity b) ts);
       }
 
   -- whole templates are closed exactly if their bytes are
@@ -101,30 +101,30 @@ module _ (L : List ℕ) (byte : ℕ) where
   sort_by small tagged labelled = choose (get_or L byte unit) (choose var (choose label (constructor byte).result labelled) tagged) small
 
   -- it is so
-  pub head-sort :
+  pub head_sort_lem :
       (small tagged labelled : Bool) → ltb byte 0x10 ≡ small → eqb byte 0x10 ≡ tagged → eqb byte 0x11 ≡ labelled
       → head_sort byte L ≡ sort_by small tagged labelled
   unfolding head_sort
-  head-sort small tagged labelled e f g =
+  head_sort_lem small tagged labelled e f g =
       cc
 
   -- a variable has the sort it is bound with
   pub head_variable : ltb byte 0x10 ≡ true → head_sort byte L ≡ get_or L byte unit
-  head_variable e = head-sort true (eqb byte 0x10) (eqb byte 0x11) e refl refl
+  head_variable e = head_sort_lem true (eqb byte 0x10) (eqb byte 0x11) e refl refl
 
   -- a constructor has the sort of its result
   pub head_constructor : 0x12 ≤ byte → head_sort byte L ≡ (constructor byte).result
   head_constructor h =
-      head-sort false false false (le-ltb byte 0x10 (omega arith)) (ne_eqb byte 0x10 (λ e. omega arith)) (ne_eqb byte 0x11 (λ e. omega arith))
+      head_sort_lem false false false (le-ltb byte 0x10 (omega arith)) (ne_eqb byte 0x10 (λ e. omega arith)) (ne_eqb byte 0x11 (λ e. omega arith))
 
   -- a name has its own sort
   pub head_name : (number : ℕ) → is_name_tag byte ≡ true → head_sort byte L ≡ sort_of (name_by (eqb byte 0x10) number) L
   head_name number e =
       by_name byte e
-      (λ h. cc (head-sort false true (eqb byte 0x11) (le-ltb byte 0x10 (omega arith)) (eq-eqb byte 0x10 h) refl, eq-eqb byte 0x10 h))
+      (λ h. cc (head_sort_lem false true (eqb byte 0x11) (le-ltb byte 0x10 (omega arith)) (eq-eqb byte 0x10 h) refl, eq-eqb byte 0x10 h))
       (λ h.
       cc (
-        head-sort false false true (le-ltb byte 0x10 (omega arith)) (ne_eqb byte 0x10 (λ k. omega arith)) (eq-eqb byte 0x11 h),
+        head_sort_lem false false true (le-ltb byte 0x10 (omega arith)) (ne_eqb byte 0x10 (λ k. omega arith)) (eq-eqb byte 0x11 h),
         ne_eqb byte 0x10 (λ k. omega arith),
       ))
 
@@ -140,11 +140,11 @@ params_some byte h = ap (choose [] (constructor byte).params) (le-ltb byte 0x20 
 
 -- what a first byte tells, by its sort, its places and whether a name follows
 module _ (L : List ℕ) where
-  fill-first :
+  fill_first :
       (byte : ℕ) (bs ps new : List ℕ) (asked sort : ℕ) (named : Bool) → head_sort byte L ≡ sort → head_params byte ≡ new → is_name_tag byte ≡ named
       → fill_bytes false (byte ∷ bs) L (asked ∷ ps) ≡ (fits sort asked && fill_bytes named bs L (new ++ ps))
   unfolding fill_bytes
-  fill-first byte bs ps new asked sort named e f g =
+  fill_first byte bs ps new asked sort named e f g =
       cc
 
   fill_number : (number : ℕ) (bs ps : List ℕ) → fill_bytes true (number ∷ bs) L ps ≡ fill_bytes false bs L ps
@@ -152,13 +152,13 @@ module _ (L : List ℕ) where
   fill_number number bs [] = refl
   fill_number number bs (p ∷ ps) = refl
 
-  fill-taken :
+  fill_taken :
       (new ps : List ℕ) (ts : Templates)
       → Apart (λ us vs. fill ts L (new ++ ps) ≡ (fill us L new && fill vs L ps)) (take_templates (length new) ts)
   unfolding take_templates fill
-  fill-taken [] ps ts = refl
-  fill-taken (p ∷ new) ps none = tt
-  fill-taken (p ∷ new) ps (more t ts) = also (take_templates (length new) ts) (fill-taken new ps ts)
+  fill_taken [] ps ts = refl
+  fill_taken (p ∷ new) ps none = tt
+  fill_taken (p ∷ new) ps (more t ts) = also (take_templates (length new) ts) (fill_taken new ps ts)
     where
       also :
           (split : SplitTemplates) → Apart (λ us vs. fill ts L (new ++ ps) ≡ (fill us L new && fill vs L ps)) split
@@ -193,7 +193,7 @@ module _ (L : List ℕ) where
   at_name byte number bs ts e q (p ∷ ps) =
       let s : ℕ = sort_of (name_by (eqb byte 0x10) number) L in
       cc (
-        fill-first byte (number ∷ bs) ps [] p s true (head_name L byte number e) (params_none byte (by_name byte e (λ h. omega arith) (λ h. omega arith))) e,
+        fill_first byte (number ∷ bs) ps [] p s true (head_name L byte number e) (params_none byte (by_name byte e (λ h. omega arith) (λ h. omega arith))) e,
         fill_number number bs ps,
         q ps,
         sorted_name (eqb byte 0x10) number,
@@ -205,23 +205,23 @@ module _ (L : List ℕ) where
   at_variable byte bs ts e v q [] = refl
   at_variable byte bs ts e v q (p ∷ ps) =
       let h : byte < 0x10 = ltb-true byte 0x10 v in
-      cc (fill-first byte bs ps [] p (get_or L byte unit) false (head_variable L byte v) (params_none byte (omega arith)) e, q ps)
+      cc (fill_first byte bs ps [] p (get_or L byte unit) false (head_variable L byte v) (params_none byte (omega arith)) e, q ps)
 
-  at-constructor :
+  at_constructor :
       (byte : ℕ) (bs : List ℕ) (ts us vs : Templates) → is_name_tag byte ≡ false → ltb byte 0x10 ≡ false → is_constructor byte ≡ true
       → take_templates (arity byte) ts ≡ taken us vs → Filled bs ts → Filled (byte ∷ bs) (more (make byte us) vs)
   unfolding Filled fill_bytes fill is_sorted
-  at-constructor byte bs ts us vs e v k t q [] = refl
-  at-constructor byte bs ts us vs e v k t q (p ∷ ps) =
+  at_constructor byte bs ts us vs e v k t q [] = refl
+  at_constructor byte bs ts us vs e v k t q (p ∷ ps) =
       let h : 0x20 ≤ byte = leb-true 0x20 byte (both (leb 0x20 byte) (leb byte 0x27) k).0 in
       let s : ℕ = (constructor byte).result in
       let new : List ℕ = (constructor byte).params in
-      fill-first byte bs ps new p s false (head_constructor L byte (omega arith)) (params_some byte h) e
-      ∙ ap (◌&&◌ (fits s p)) (q (new ++ ps) ∙ subst (Apart _) t (fill-taken new ps ts))
+      fill_first byte bs ps new p s false (head_constructor L byte (omega arith)) (params_some byte h) e
+      ∙ ap (◌&&◌ (fits s p)) (q (new ++ ps) ∙ subst (Apart _) t (fill_taken new ps ts))
       ∙ around (fits s p) (fill us L new) (fill vs L ps)
 
   fill_read : Read Filled
-  fill_read = record { at-end = at-end; at_name = at_name; at_variable = at_variable; at-constructor = at-constructor }
+  fill_read = record { at-end = at-end; at_name = at_name; at_variable = at_variable; at_constructor = at_constructor }
 
   -- whole templates fill places exactly if their bytes do
   pub fill_bytes_lem : (bs : List ℕ) (ts : Templates) (ps : List ℕ) → templates_of bs ≡ parsed ts → fill_bytes false bs L ps ≡ fill ts L ps

@@ -9,7 +9,7 @@ use lib.ListN.{length, get_or, take, drop, replicate, length-append, length-repl
 use borrow.Author.Tests.{leb-true, eqb-true, eqb-false, lt-leb, eq-eqb, ne_eqb}
 use Rattle.spellings.specs.Alike.{Alike}
 use Rattle.spellings.specs.Bytes.{same}
-use Rattle.spellings.proofs.BytesLaws.{by-test, length_same}
+use Rattle.spellings.proofs.BytesLaws.{by_test, length_same}
 use Rattle.spellings.proofs.AlikeLaws.{alike_start, alike_next, alike_same, differ_at}
 use Rattle.cases.specs.declared.case.Places.{Places}
 use Rattle.cases.specs.declared.case.Case.{Case}
@@ -165,12 +165,12 @@ pub whole_cause : (file : List ℕ) (places : Places) → is_whole file places �
 unfolding is_whole
 whole_cause file places w =
     let number = four_at file (places.lent + 8) in
-    by-test (leb number last_cause) (leb-true number last_cause) (λ over. absurd (true≢false (sym w ∙ simp (over, and-false) refl)))
+    by_test (leb number last_cause) (leb-true number last_cause) (λ over. absurd (true≢false (sym w ∙ simp (over, and-false) refl)))
 
 whole_within : (file : List ℕ) (places : Places) → is_whole file places ≡ true → places.end ≤ length file
 unfolding is_whole
 whole_within file places w =
-    by-test (leb places.end (length file)) (leb-true places.end (length file)) (λ over. absurd (true≢false (sym w ∙ simp over refl)))
+    by_test (leb places.end (length file)) (leb-true places.end (length file)) (λ over. absurd (true≢false (sym w ∙ simp over refl)))
 
 placed : (file : List ℕ) (places : Places) → (case_of file places).places ≡ places
 unfolding case_of
@@ -185,14 +185,14 @@ pub record Within (file : List ℕ) (at : ℕ) (case : Case) : Type 0 where
 
 -- a case that is read as whole lies so
 pub next_within : (file : List ℕ) (at : ℕ) {case : Case} → next_at file at ≡ Whole case → Within file at case
-next_within file at {case} next = by-test (eqb at (length file)) (λ t. at-end (eqb-true at (length file) t)) (λ t. inside (eqb-false at (length file) t))
+next_within file at {case} next = by_test (eqb at (length file)) (λ t. at-end (eqb-true at (length file) t)) (λ t. inside (eqb-false at (length file) t))
   where
     at-end : at ≡ length file → Within file at case
     at-end e = let z : ◌≡◌ {A = ℕ} 0 1 = cc (next-end file at e) in absurd (omega arith)
 
     inside : (at ≡ length file → ⊥) → Within file at case
     inside n =
-        by-test (is_whole file (places_at file at))
+        by_test (is_whole file (places_at file at))
         (λ w.
         let e : Whole (case_of file (places_at file at)) ≡ next_at file at = next_whole file at n refl refl w refl in
         let p : case.places ≡ places_at file at = cc (placed file (places_at file at)) in

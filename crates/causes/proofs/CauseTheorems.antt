@@ -8,7 +8,7 @@ use native.Mathlib.Omega.{arith}
 use lib.Dec.{eqb, leb}
 use lib.ListN.{get_or}
 use borrow.Author.Tests.{eqb-true, leb-true}
-use Rattle.spellings.proofs.BytesLaws.{by-test}
+use Rattle.spellings.proofs.BytesLaws.{by_test}
 use Rattle.answers.specs.declared.Refusal.{Refusal}
 use Rattle.answers.specs.declared.Verdict.{Verdict}
 use Rattle.answers.specs.declared.Verdict.TheVariants.{Passed, Refused}
@@ -152,8 +152,8 @@ module _ (bs : List ℕ) (bytes : (place : ℕ) → get_or bs place 0 < 256) whe
   -- numbers of the rules
   laid_number : {number : ℕ} → is_layout_number number ≡ true → number ≤ 11
   laid_number {number} e =
-      by-test (eqb number 10) (λ q. omega (arith, eqb-true number 10 q))
-      (λ q. by-test (leb number 6) (λ l. omega (arith, leb-true number 6 l)) (λ l. absurd (true≢false (sym e ∙ rw (l, q) (no_front (leb 1 number))))))
+      by_test (eqb number 10) (λ q. omega (arith, eqb-true number 10 q))
+      (λ q. by_test (leb number 6) (λ l. omega (arith, leb-true number 6 l)) (λ l. absurd (true≢false (sym e ∙ rw (l, q) (no_front (leb 1 number))))))
     where
       no_front : (test : Bool) → ((test && false) || false) ≡ false
       no_front true = refl

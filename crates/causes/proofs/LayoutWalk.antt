@@ -12,7 +12,7 @@ use borrow.Author.Tests.{le-leb, leb-true, leb-false, lt-leb, eqb-true, eqb-fals
 use Rattle.answers.specs.declared.Refusal.{Refusal}
 use Rattle.answers.specs.Refusals.{refusal}
 use Rattle.answers.specs.Checked.{Checked, ok, bad, ◌>>=◌, ◌>>◌, need}
-use Rattle.spellings.proofs.BytesLaws.{by-test}
+use Rattle.spellings.proofs.BytesLaws.{by_test}
 use Rattle.grammar.specs.Limits.{most}
 use Rattle.grammar.specs.Values.{Field, field}
 use Rattle.grammar.specs.Encode.{field_then}
@@ -37,19 +37,19 @@ module _ (before : List Field) (at : ℕ) (f : Field) where
   -- a field passes, or fails by its first test
   pub judged : Bytes f.value → Passes before f ⊎ ((r : Refusal) × Fails at before f r)
   judged bytes =
-      by-test (is_known f.tag f.value)
+      by_test (is_known f.tag f.value)
       (λ k.
       let known = known_rule f.tag f.value k in
-      by-test (follows f.tag s.last)
+      by_test (follows f.tag s.last)
       (λ o.
       let ordered = order_rule f.tag f.value k (last_tag before) (rw (last_is before) at o) in
-      by-test (is_spelled f.tag f.value before)
+      by_test (is_spelled f.tag f.value before)
       (λ p.
       let spelled = spelled_rule before f known p in
-      by-test (has_room f.tag s)
+      by_test (has_room f.tag s)
       (λ r.
       let room = room_rule before f r in
-      by-test (is_whole f.tag f.value)
+      by_test (is_whole f.tag f.value)
       (λ w. inl (record { known = known; in_order = ordered; spelled = spelled; room = room; whole = whole_rule f bytes w }))
       (λ w. inr (refusal 10 at 0 0, rules.not_whole known ordered spelled room (λ h. true≢false (sym (rule_whole f h) ∙ w)))))
       (λ r. inr (refusal 6 at 0 0, rules.too_many known ordered spelled (λ h. true≢false (sym (rule_room before f h) ∙ r)))))
@@ -67,7 +67,7 @@ module _ (before : List Field) (at : ℕ) (f : Field) where
 
   -- a test that a rule says is not met
   unmet : {R : Type 0} (test : Bool) → (test ≡ true → R) → ¬ R → test ≡ false
-  unmet test rule h = by-test test (λ e. absurd (h (rule e))) (λ e. e)
+  unmet test rule h = by_test test (λ e. absurd (h (rule e))) (λ e. e)
 
   disordered : (known : is_known f.tag f.value ≡ true) → ¬ Among (behind f.tag) (last_tag before) → follows f.tag s.last ≡ false
   disordered known o = rw (last_is before) (unmet (follows f.tag (last_tag before)) (order_rule _ f.value known _) o)
@@ -119,7 +119,7 @@ front (tag ∷ []) b = past tag_alone
 front (tag ∷ high ∷ []) b = past half_a_length
 front (tag ∷ high ∷ low ∷ rest) b =
     let n : ℕ = high * 256 + low in
-    by-test (leb n (length rest))
+    by_test (leb n (length rest))
     (λ e.
     let l : n ≤ length rest = leb-true n (length rest) e in
     let size : length (take n rest) ≡ n = length-take-le n rest l in
@@ -269,7 +269,7 @@ module _ (bs : List ℕ) where
   -- A layout that is refused is refused by the rules.
   pub layout_rule : Bytes bs → {r : Refusal} → layout bs ≡ bad r → Misplaced bs r
   layout_rule b {r} e =
-      by-test (leb (length bs) most.bytes)
+      by_test (leb (length bs) most.bytes)
       (λ h.
       let l = leb-true (length bs) most.bytes h in
       refused_rule (length bs) 0 [] bs r (omega arith) b (at-start l) (sym (short_enough l) ∙ e))

@@ -11,7 +11,7 @@ use borrow.Author.Tests.{eqb-true, ltb-true, ltb-false, le-ltb, lt-ltb}
 use Rattle.answers.specs.declared.Refusal.{Refusal}
 use Rattle.answers.specs.Refusals.{refusal}
 use Rattle.answers.specs.Checked.{Checked, ok, bad, need}
-use Rattle.spellings.proofs.BytesLaws.{by-test}
+use Rattle.spellings.proofs.BytesLaws.{by_test}
 use Rattle.grammar.specs.Sorts.{Signature, gives, unit, term}
 use Rattle.grammar.specs.SortTests.{fits}
 use Rattle.grammar.specs.Table.{Template, Templates, variable, outside_var, outside_label, make, none, more, keyword, ide, number, Item, terminal}
@@ -27,7 +27,7 @@ use Rattle.judgements.specs.CheckSorts.{check_item}
 use Rattle.judgements.specs.Judgements.{Newest, Undeclared, Fits, Sorted, Fill, ItemSorted, by_keyword, by_ide, by_number, by_place, by_local, by_call}
 use Rattle.judgements.proofs.Environments.{defined_here, defined_later, defined_newest, newest_defined, newest_signature, undefined_absent}
 use Rattle.judgements.proofs.Environments.{absent_undefined, same_signature_lem, signature_same}
-use Rattle.judgements.proofs.TemplateSorts.{both, pair, fits_rule, rule_fits, sorted-rule, rule-sorted, fill-rule, rule-fill}
+use Rattle.judgements.proofs.TemplateSorts.{both, pair, fits_rule, rule_fits, sorted_rule, rule_sorted, fill_rule, rule_fill}
 use Rattle.texts.specs.Reading.{TextRead}
 use Rattle.elaboration.specs.Contexts.{Before}
 use Rattle.elaboration.specs.CheckSequence.{check_result, check_root}
@@ -90,21 +90,21 @@ module _ (G : Scope) (L : List ℕ) (at : ℕ) where
   closed_call n ts d c (in_arguments s) = true≢false (sym c ∙ rule_opens G (length L) ts s)
 
   unfilled : (n : ℕ) (ts : Templates) → fill ts L (signature_of G.env n).params ≡ false → (A : ℕ) → ¬ ItemSorted G L (call n ts) A
-  unfilled n ts e A (by_call {S = S} d h) = true≢false (sym (rule-fill G L ts h).1 ∙ rw (newest_signature d) at e)
+  unfilled n ts e A (by_call {S = S} d h) = true≢false (sym (rule_fill G L ts h).1 ∙ rw (newest_signature d) at e)
 
   -- an item passes by a judgement, or fails
   pub item_view : (i : Item) → ItemWithin i → Outcome at (item G L i) (ItemSorted G L i) (check_item G L at i)
   item_view _ (terminal_within (keyword_within {k} l)) =
-      by-test (ltb k G.keywords) (λ e. passing unit (by_keyword (ltb-true k G.keywords e)) (rw e refl))
+      by_test (ltb k G.keywords) (λ e. passing unit (by_keyword (ltb-true k G.keywords e)) (rw e refl))
       (λ e. failing (rules.undefined_item (no_keyword (ltb-false k G.keywords e))) (rw e refl))
   item_view _ (terminal_within (ide_within {s} l u)) = passing s (by_ide l u) refl
   item_view _ (terminal_within number_within) = passing _ by_number refl
   item_view _ local_within = passing _ by_local refl
   item_view _ (call_within {n} {ts} l ws) =
-      by-test (is_defined G.env n)
-      (λ d. by-test (are_closed ts G (length L))
-      (λ c. by-test (fill ts L (signature_of G.env n).params)
-      (λ f. passing (signature_of G.env n).result (by_call (defined_newest G.env n d) (fill-rule G L ts _ ws c f)) (rw (d, c, f) refl))
+      by_test (is_defined G.env n)
+      (λ d. by_test (are_closed ts G (length L))
+      (λ c. by_test (fill ts L (signature_of G.env n).params)
+      (λ f. passing (signature_of G.env n).result (by_call (defined_newest G.env n d) (fill_rule G L ts _ ws c f)) (rw (d, c, f) refl))
       (λ f. failing (rules.unsorted_item (closed_call n ts d c) (unfilled n ts f)) (rw (d, c, f) refl)))
       (λ c. failing (rules.undefined_item (in_arguments (opens_rule G (length L) ts c))) (rw (d, c) refl)))
       (λ d. failing (rules.undefined_item (no_nonterminal (undefined_absent G.env n d))) (rw d refl))
@@ -117,13 +117,13 @@ module _ (G : Scope) (L : List ℕ) (at : ℕ) where
   item_passes (by_place l) = refl
   item_passes by_local = refl
   item_passes (by_call {n} {S} {ts} d h) =
-      let (closed, filled) = rule-fill G L ts h in rw (newest_defined d, newest_signature d, closed, filled) refl
+      let (closed, filled) = rule_fill G L ts h in rw (newest_defined d, newest_signature d, closed, filled) refl
 
   -- an item with a sort is defined
   sorted_defined : {i : Item} {A : ℕ} → ItemSorted G L i A → ¬ UndefinedItem G (length L) i
   sorted_defined (by_keyword h) (no_keyword l) = omega arith
   sorted_defined (by_call {n = n} d h) (no_nonterminal u) = true≢false (sym (newest_defined d) ∙ absent_undefined u)
-  sorted_defined (by_call {n = n} {ts = ts} d h) (in_arguments s) = true≢false (sym (rule-fill G L ts h).0 ∙ rule_opens G (length L) ts s)
+  sorted_defined (by_call {n = n} {ts = ts} d h) (in_arguments s) = true≢false (sym (rule_fill G L ts h).0 ∙ rule_opens G (length L) ts s)
 
   -- an item that fails is refused
   pub item_fails : {i : Item} {r : Refusal} → ItemWithin i → Fails at (item G L i) r → check_item G L at i ≡ bad r
@@ -144,18 +144,18 @@ module _ (G : Scope) (L : List ℕ) (at : ℕ) where
 
   unfit : (B : ℕ) (t : Template) → (is_sorted t L && fits (sort_of t L) B) ≡ false → (A : ℕ) → Sorted G.outsides L t A → ¬ Fits A B
   unfit B t e A s f =
-      let (c, k, is) = rule-sorted G L t s in
+      let (c, k, is) = rule_sorted G L t s in
       true≢false (sym (pair (is_sorted t L) (fits (sort_of t L) B) k (cc (is, rule_fits f))) ∙ e)
 
   -- a result passes by a judgement, or fails
   pub result_view : (P : Before) (B used : ℕ) {r : WrittenResult} → ResultWithin r
       → Outcome at (result G P L B used r) (ResultSorted G P L B used r) (check_result G P L B used at r)
   result_view P B used (template_within {t} w) =
-      by-test (is_closed t G (length L))
-      (λ c. by-test (is_sorted t L && fits (sort_of t L) B)
+      by_test (is_closed t G (length L))
+      (λ c. by_test (is_sorted t L && fits (sort_of t L) B)
       (λ s.
       let (k, f) = both (is_sorted t L) (fits (sort_of t L) B) s in
-      passing (record { template = t; used = used }) (by_template (sorted-rule G L t w c k) (fits_rule (sort_of t L) B f)) (rw (c, s) refl))
+      passing (record { template = t; used = used }) (by_template (sorted_rule G L t w c k) (fits_rule (sort_of t L) B f)) (rw (c, s) refl))
       (λ s. failing (rules.unsorted_result (closed_result t c) (unfit B t s)) (rw (c, s) refl)))
       (λ c. failing (rules.undefined_result (open_rule G (length L) t c)) (rw c refl))
 
@@ -163,7 +163,7 @@ module _ (G : Scope) (L : List ℕ) (at : ℕ) where
   pub result_passes : {P : Before} {B used : ℕ} {r : WrittenResult} {made : TextRead} → ResultWithin r → ResultSorted G P L B used r made
       → check_result G P L B used at r ≡ ok made
   result_passes w (by_template {t = t} s f) =
-      let (closed, sorted, is) = rule-sorted G L t s in rw (closed, sorted, is, rule_fits f) refl
+      let (closed, sorted, is) = rule_sorted G L t s in rw (closed, sorted, is, rule_fits f) refl
 
   -- a result that fails is refused
   pub result_fails : {P : Before} {B used : ℕ} {result : WrittenResult} {r : Refusal} → ResultWithin result → Fails at (rules.result G P L B used result) r
@@ -172,7 +172,7 @@ module _ (G : Scope) (L : List ℕ) (at : ℕ) where
     where
       by : {r : Refusal} → Outcome at (result G P L B used (template t)) (ResultSorted G P L B used (template t)) (check_result G P L B used at (template t))
           → Fails at (result G P L B used (template t)) r → check_result G P L B used at (template t) ≡ bad r
-      by (passing u (by_template s f) e) (rules.undefined_result v) = absurd (closed_result t (rule-sorted G L t s).0 v)
+      by (passing u (by_template s f) e) (rules.undefined_result v) = absurd (closed_result t (rule_sorted G L t s).0 v)
       by (passing u (by_template {A = A} s f) e) (rules.unsorted_result d v) = absurd (v A s f)
       by (failing (rules.undefined_result v) e) (rules.undefined_result u) = e
       by (failing (rules.unsorted_result d v) e) (rules.undefined_result u) = absurd (d u)
@@ -202,8 +202,8 @@ module _ (E : Env) (at : ℕ) where
   root_view n =
       let S : Signature = signature_of E n in
       let suits : Bool = eqb (length S.params) 0 && eqb S.result term in
-      by-test (is_defined E n)
-      (λ d. by-test suits
+      by_test (is_defined E n)
+      (λ d. by_test suits
       (λ s. passing tt (subst (Newest E n) (plain S s) (defined_newest E n d)) (rw (d, s) refl))
       (λ s. failing (rules.unfit_root (defined_newest E n d) (λ e. true≢false (sym (rw e refl) ∙ s))) (rw (d, s) refl)))
       (λ d. failing (rules.undefined_root (undefined_absent E n d)) (rw d refl))
@@ -227,7 +227,7 @@ defined_append : (own E : Env) (n : ℕ) → is_defined (own ++ E) n ≡ (is_def
 unfolding is_defined
 defined_append [] E n = refl
 defined_append (e ∷ own) E n =
-    by-test (eqb e.nonterminal n) (λ q. rw (defined_here e (own ++ E) n q, defined_here e own n q) refl)
+    by_test (eqb e.nonterminal n) (λ q. rw (defined_here e (own ++ E) n q, defined_here e own n q) refl)
     (λ q. rw (defined_later e (own ++ E) n q, defined_later e own n q) (defined_append own E n))
 
 module _ (E own : Env) (d : WrittenDefinition) (at : ℕ) where
@@ -240,18 +240,18 @@ module _ (E own : Env) (d : WrittenDefinition) (at : ℕ) where
 
   add_view : d.mode ≡ add → Outcome at (head E own d) Consistent (need (is_unused E own d) 7 at)
   add_view m =
-      by-test (is_defined own n)
+      by_test (is_defined own n)
       (λ o. failing (rules.in_use m (defined_newest (own ++ E) n (rw (defined_append own E n, o) refl))) (rw o refl))
-      (λ o. by-test (is_defined E n)
+      (λ o. by_test (is_defined E n)
       (λ e. failing (rules.in_use m (defined_newest (own ++ E) n (rw (defined_append own E n, o, e) refl))) (rw (o, e) refl))
       (λ e. passing tt (inl (m, undefined_absent own n o, undefined_absent E n e)) (rw (o, e) refl)))
 
   again_view : ¬ (d.mode ≡ add) → Outcome at (head E own d) Consistent (need (is_as_before E own d) 8 at)
   again_view m =
-      by-test (is_defined own n)
+      by_test (is_defined own n)
       (λ o. failing (rules.again m (defined_newest own n o)) (rw o refl))
-      (λ o. by-test (is_defined E n)
-      (λ e. by-test (same_signature (signature_of E n) d.signature)
+      (λ o. by_test (is_defined E n)
+      (λ e. by_test (same_signature (signature_of E n) d.signature)
       (λ s. passing tt (inr (m, undefined_absent own n o, subst (Newest E n) (same_signature_lem _ _ s) (defined_newest E n e))) (rw (o, e, s) refl))
       (λ s. failing (rules.other_signature m (defined_newest E n e) (λ q. true≢false (sym (signature_same _ _ q) ∙ s))) (rw (o, e, s) refl)))
       (λ e. failing (rules.no_earlier m (undefined_absent E n e)) (rw (o, e) refl)))

@@ -16,7 +16,7 @@ use Rattle.judgements.specs.CheckSorts.{consistent, collect, check_item, check_i
 use Rattle.judgements.specs.Judgements.{ItemSorted, Numbered, no_item, one_more, Defines, no_definition, by_add, by_extend, by_update}
 use Rattle.texts.specs.Reading.{TextRead}
 use Rattle.elaboration.specs.Contexts.{Before, behind_block, scope_after}
-use Rattle.elaboration.specs.CheckSequence.{Elaborated, none_yet, and_then, check_result, check_alternative, checkAlternatives, check_bodies, check_blocks}
+use Rattle.elaboration.specs.CheckSequence.{Elaborated, none_yet, and_then, check_result, check_alternative, check_alternatives, check_bodies, check_blocks}
 use Rattle.elaboration.specs.Elaboration.{ResultSorted, Bodies, no_alternative, by_choice, Ok, ok_empty, ok_definition, Sequence, no_grammar, by_grammar}
 use Rattle.causes.proofs.PartTests.{outcome, item_view, item_passes, result_view, result_passes, Consistent, head_view, inconsistent}
 use Rattle.causes.proofs.Walking.{no_refusal, both_pass, then_is, Walk, passes, passed}
@@ -102,10 +102,10 @@ module _ (G : Scope) where
 
       -- the alternatives of a definition: each has its sort, and is elaborated
       unfoldable pub alternatives : Walk (Elaborated (List Alternative)) WrittenAlternative (Elaborated Alternative)
-      unfolding checkAlternatives alternatives_size
+      unfolding check_alternatives alternatives_size
       alternatives =
           record {
-            all = checkAlternatives G P S;
+            all = check_alternatives G P S;
             one = λ done at a. check_alternative G P S done.used at a;
             next = λ done a b. and_then done b.value b.used;
             bytes = alternative_size;
@@ -167,7 +167,7 @@ module _ (G : Scope) where
         }
       where
         check_definition : ℕ → ℕ → WrittenDefinition → Checked (Elaborated (List Alternative))
-        check_definition used at d = checkAlternatives G P d.signature (none_yet used) (at + field_size (head_value d)) d.alternatives
+        check_definition used at d = check_alternatives G P d.signature (none_yet used) (at + field_size (head_value d)) d.alternatives
 
         more : (done all : Elaborated (List Definition)) (at : ℕ) (d : WrittenDefinition) (ds : List WrittenDefinition) (e : Elaborated (List Alternative))
             → DefinitionWithin d → check_definition done.used at d ≡ ok e

@@ -12,9 +12,9 @@ use Rattle.expansion.specs.Expansion.{Rule, ready_for, Choice, unfit, chosen, fi
 use Rattle.expansion.proofs.Choosing.{Found, Missing, first_rule_lem, rule}
 
 -- the rule of a production of a nonterminal, or none
-pub data Chosen (g : List Production) (n : ℕ) (given-choice : Choice) : Type 0 where
-  of_production : (p : Production) → Of g n p → given-choice ≡ chosen (rule g p) → Chosen g n given-choice
-  none_chosen : given-choice ≡ unfit → Chosen g n given-choice
+pub data Chosen (g : List Production) (n : ℕ) (given_choice : Choice) : Type 0 where
+  of_production : (p : Production) → Of g n p → given_choice ≡ chosen (rule g p) → Chosen g n given_choice
+  none_chosen : given_choice ≡ unfit → Chosen g n given_choice
 
 -- by three searches: what opens with the token, what has a place for it, what is nullable
 pub choice_of : (patterns : List Item → ℕ) (g : List Production) (n : ℕ) → n < 64 → (kind : ℕ) → Chosen g n (choice (ready_for patterns g) n kind)

@@ -33,13 +33,13 @@ token_of (done a s c) = 0
 token_of (halt r c) = r.a
 
 -- a moment of a list at which so many calls are open, with so many tokens taken
-pub record Deep (open-calls taken : ℕ) (moments : List Moment) : Type 0 where
+pub record Deep (open_calls taken : ℕ) (moments : List Moment) : Type 0 where
   -- the moment
   pub at : Moment
   -- is one of the list
   pub among : Among moments at
   -- so many calls are open
-  pub deep : length at.stack ≡ open-calls
+  pub deep : length at.stack ≡ open_calls
   -- so many tokens are taken
   pub taken_are : at.taken ≡ taken
 
@@ -89,9 +89,9 @@ module _ (input : Input) where
     items_deep (i ∷ is) xs state cells e =
         go (run_item called input i xs state cells) (item_deep i xs state cells) (λ v s' c'. items_deep is (xs ++ (v ∷ [])) s' c') e
       where
-        widened : {deep taken : ℕ} (more-moments : List Moment) → Deep deep taken (moment stack state ∷ item_moments inside input i xs state cells)
-            → Deep deep taken (moment stack state ∷ (item_moments inside input i xs state cells ++ more-moments))
-        widened more-moments d = record { at = d.at; among = in_front_lem more-moments d.among; deep = d.deep; taken_are = d.taken_are }
+        widened : {deep taken : ℕ} (more_moments : List Moment) → Deep deep taken (moment stack state ∷ item_moments inside input i xs state cells)
+            → Deep deep taken (moment stack state ∷ (item_moments inside input i xs state cells ++ more_moments))
+        widened more_moments d = record { at = d.at; among = in_front_lem more_moments d.among; deep = d.deep; taken_are = d.taken_are }
 
         go : (result : Result ℕ)
             → (number result ≡ 19 → Deep (length stack + more) (token_of result) (moment stack state ∷ item_moments inside input i xs state cells))
@@ -122,12 +122,12 @@ module _ (input : Input) where
       now_stack : List Call
       now_stack = record { nonterminal = n; began = s.at } ∷ stack
 
-      go : (test : Bool) (given-choice : Choice) → DeepCallee more now_stack (run_call more input) (call_moments more input now_stack)
+      go : (test : Bool) (given_choice : Choice) → DeepCallee more now_stack (run_call more input) (call_moments more input now_stack)
           → number {A = ℕ}
           (elim test as (λ x. Result ℕ) [
             | false ↦ halt (refusal 20 s.at 0 0) cells
             | true ↦
-                elim given-choice as (λ x. Result ℕ) [
+                elim given_choice as (λ x. Result ℕ) [
                   | unfit ↦ misfit (get_or input.grammar.firsts n 0) s cells
                   | chosen r ↦ after (run_items (run_call more input) input r.items vs (call_begun s) cells) (λ M. build r.result input M)
                 ]
@@ -138,7 +138,7 @@ module _ (input : Input) where
           (elim test as (λ x. Result ℕ) [
             | false ↦ halt (refusal 20 s.at 0 0) cells
             | true ↦
-                elim given-choice as (λ x. Result ℕ) [
+                elim given_choice as (λ x. Result ℕ) [
                   | unfit ↦ misfit (get_or input.grammar.firsts n 0) s cells
                   | chosen r ↦ after (run_items (run_call more input) input r.items vs (call_begun s) cells) (λ M. build r.result input M)
                 ]
@@ -147,12 +147,12 @@ module _ (input : Input) where
           ∷ elim test as (λ x. List Moment) [
             | false ↦ []
             | true ↦
-                elim given-choice as (λ x. List Moment) [
+                elim given_choice as (λ x. List Moment) [
                   | unfit ↦ []
                   | chosen r ↦ items_moments (run_call more input) (call_moments more input now_stack) input now_stack r.items vs (call_begun s) cells
                 ]
           ])
-      go false given-choice f e = absurd (omega (arith, e))
+      go false given_choice f e = absurd (omega (arith, e))
       go true unfit f e = absurd (omega (arith, e))
       go true (chosen r) f e =
           result (run_items (run_call more input) input r.items vs (call_begun s) cells)

@@ -84,7 +84,7 @@ module _ (bs : List ℕ) where
     sorts_here = bytes_checked bs bytes encoded.0 decoded
 
     -- its verdict
-    judged_here : {given-verdict : Verdict} → sorts_of bs ≡ Judged given-verdict → verdict (check_sorts encoded.0) ≡ given-verdict
+    judged_here : {given_verdict : Verdict} → sorts_of bs ≡ Judged given_verdict → verdict (check_sorts encoded.0) ≡ given_verdict
     judged_here e = ap judgement (sym sorts_here ∙ e)
       where
         judgement : Finding → Verdict
@@ -148,8 +148,8 @@ module _ (bs : List ℕ) where
 
       -- a table with neither refusal is answered by the check of its first sets
       pub into_firsts : {many : ℕ} {owners starts : List ℕ} → Index (places_of bs) most.alternatives many owners starts
-          → {room₀ room : List ℕ} {given-verdict : Verdict}
-          → FirstsChecked bs (places_in many owners starts) room₀ room given-verdict → CheckedInto bs room₀ room given-verdict
+          → {room₀ room : List ℕ} {given_verdict : Verdict}
+          → FirstsChecked bs (places_in many owners starts) room₀ room given_verdict → CheckedInto bs room₀ room given_verdict
       unfolding table_room_for
       into_firsts i {room₀} f =
           record {

@@ -8,7 +8,7 @@ use mathlib.Core.List.{List, [], ◌∷◌, Memᴰ}
 use lib.ListN.{get_or}
 use lib.Dec.{eqb, leb}
 use borrow.Author.Tests.{eqb-true, leb-true}
-use Rattle.spellings.proofs.BytesLaws.{by-test}
+use Rattle.spellings.proofs.BytesLaws.{by_test}
 use Rattle.answers.specs.Refusals.{refusal}
 use Rattle.decoding.proofs.RefusalNumbers.{is_layout_number, decode_answers}
 use Rattle.clashes.specs.Clashes.{Never, Lowest, LeftRecursive, Clashes}
@@ -108,7 +108,7 @@ module _ (bs : List ℕ) where
     check_exactly = (passing, passed)
 
     -- the same of any verdict that is the check's
-    pub verdict_exactly : {given-verdict : Verdict} → given-verdict ≡ check bs → (given-verdict ≡ Passed) ↔ Passes bs
+    pub verdict_exactly : {given_verdict : Verdict} → given_verdict ≡ check bs → (given_verdict ≡ Passed) ↔ Passes bs
     verdict_exactly e = (λ h. passing (sym e ∙ h), λ p. e ∙ passed p)
 
 -- ------------------------------------------------------------------ 12 and 13
@@ -116,8 +116,8 @@ module _ (bs : List ℕ) where
 -- neither the layout nor the sorts refuse with 12 or 13
 not_layout : {A : Type 0} {number : ℕ} → 11 < number → is_layout_number number ≡ true → A
 not_layout {number = number} h e =
-    by-test (eqb number 10) (λ q. absurd (omega (arith, eqb-true number 10 q)))
-    (λ q. by-test (leb number 6) (λ l. absurd (omega (arith, leb-true number 6 l))) (λ l. absurd (true≢false (sym e ∙ rw (l, q) (no_front (leb 1 number))))))
+    by_test (eqb number 10) (λ q. absurd (omega (arith, eqb-true number 10 q)))
+    (λ q. by_test (leb number 6) (λ l. absurd (omega (arith, leb-true number 6 l))) (λ l. absurd (true≢false (sym e ∙ rw (l, q) (no_front (leb 1 number))))))
   where
     no_front : (test : Bool) → ((test && false) || false) ≡ false
     no_front true = refl
@@ -165,7 +165,7 @@ module _ (bs : List ℕ) (bytes : (place : ℕ) → get_or bs place 0 < 256) whe
       by_layout (bad q) e h = go (decode_answers bs)
         where
           go : ((table : Written) × (decode bs ≡ ok table))
-              ⊎ ((given-refusal : Refusal) × (decode bs ≡ bad given-refusal) × (is_layout_number given-refusal.number ≡ true))
+              ⊎ ((given_refusal : Refusal) × (decode bs ≡ bad given_refusal) × (is_layout_number given_refusal.number ≡ true))
               → (laid : Laid bs) × (check_firsts (grammar_of laid.table) ≡ bad cause)
           go (inl a) = let z : ok a.0 ≡ bad q = sym a.1 ∙ e in let z' : ◌≡◌ {A = ℕ} 0 1 = cc in absurd (omega arith)
           go (inr a) =

@@ -11,7 +11,7 @@ use lib.Dec.{eqb, ltb}
 use lib.ListN.{length, get_or, set, drop, length-set, length-drop, length-map, drop_of_length-le, replicate, length-replicate, get_or-replicate}
 use lib.Seq.{drop-cons, drop-nil, drop-drop, get_or-drop, get_or-set_same, get_or-set_other}
 use borrow.Author.Tests.{eq-eqb, ne_eqb, eqb-true, lt-ltb, le-ltb, ltb-true, ltb-false}
-use Rattle.spellings.proofs.BytesLaws.{by-test}
+use Rattle.spellings.proofs.BytesLaws.{by_test}
 use Rattle.kinds.specs.Kinds.{word_kind, no_kind, has_kind}
 use Rattle.kinds.specs.TextKinds.{outside_kind}
 use Rattle.grammar.specs.SortTests.{fits}
@@ -112,7 +112,7 @@ module _ (test other : Entry → Bool) where
   unfolding place_from
   landed [] from h = landed_none from (omega arith)
   landed (e ∷ ds) from h =
-      by-test (test e)
+      by_test (test e)
       (λ t. subst⁻¹ (Landed test other (e ∷ ds) from) (place_hit test e ds from t) (landed_here e ds from (omega arith) t))
       (λ t. subst⁻¹ (Landed test other (e ∷ ds) from) (place_miss test e ds from t) (landed_further e ds from _ t (landed ds (from + 1) (omega arith))))
 
@@ -298,8 +298,8 @@ remembers_none patterns bs =
 
 module _ {patterns : List Item → ℕ} {bs memory : List ℕ} (remembers : RemembersFor patterns bs memory) {nonterminal kind : ℕ} (few : nonterminal < 64) (fits : kind < no_kind) where
   -- What is remembered is what is chosen.
-  pub remembered : {found-place : ℕ} → found-place ≡ get_or memory (slot nonterminal kind) 0 → 0 < found-place
-      → found-place ≡ chosen_place (entries_for patterns bs) nonterminal kind
+  pub remembered : {found_place : ℕ} → found_place ≡ get_or memory (slot nonterminal kind) 0 → 0 < found_place
+      → found_place ≡ chosen_place (entries_for patterns bs) nonterminal kind
   remembered e l = e ∙ remembers.known nonterminal kind few fits (omega (arith, e))
 
   -- One more choice is remembered.
@@ -346,22 +346,22 @@ module _ (rule_at : Place → Rule) (other : Choice) where
   choice_outside (p ∷ ps) (suc spot) h = choice_outside ps spot (omega arith)
 
 -- a search among rules, and one among the entries of the same productions
-module _ (entry_at : Place → Entry) (production-at : Place → Production) (rule-of : Production → Rule) (te : Entry → Bool) (tr : Rule → Bool) (nonterminal : ℕ)
+module _ (entry_at : Place → Entry) (production_at_lem : Place → Production) (rule_of_lem : Production → Rule) (te : Entry → Bool) (tr : Rule → Bool) (nonterminal : ℕ)
     (agree : (stands_at : Place) → te (entry_at stands_at)
-    ≡ (eqb (rule-of (production-at stands_at)).nonterminal nonterminal && tr (rule-of (production-at stands_at)))) (other : Choice) where
+    ≡ (eqb (rule_of_lem (production_at_lem stands_at)).nonterminal nonterminal && tr (rule_of_lem (production_at_lem stands_at)))) (other : Choice) where
   searched : (ps : List Place) (spot : ℕ) → spot + length ps ≤ 256
-      → first_rule tr nonterminal (map rule-of (map production-at ps)) other ≡ choice_at (λ p. rule-of (production-at p)) ps
+      → first_rule tr nonterminal (map rule_of_lem (map production_at_lem ps)) other ≡ choice_at (λ p. rule_of_lem (production_at_lem p)) ps
       (place_from te (map entry_at ps) spot - spot) other
   unfolding first_rule choice_at place_from
   searched [] spot h = refl
   searched (p ∷ ps) spot h =
-      by-test (te (entry_at p))
+      by_test (te (entry_at p))
       (λ t.
-      let u : (eqb (rule-of (production-at p)).nonterminal nonterminal && tr (rule-of (production-at p))) ≡ true = sym (agree p) ∙ t in
+      let u : (eqb (rule_of_lem (production_at_lem p)).nonterminal nonterminal && tr (rule_of_lem (production_at_lem p))) ≡ true = sym (agree p) ∙ t in
       let z : place_from te (map entry_at (p ∷ ps)) spot - spot ≡ 0 = ap (λ k. k - spot) (place_hit te (entry_at p) (map entry_at ps) spot t) ∙ sub_self spot in
       rw (u, z, first_rule) refl)
       (λ t.
-      let u : (eqb (rule-of (production-at p)).nonterminal nonterminal && tr (rule-of (production-at p))) ≡ false = sym (agree p) ∙ t in
+      let u : (eqb (rule_of_lem (production_at_lem p)).nonterminal nonterminal && tr (rule_of_lem (production_at_lem p))) ≡ false = sym (agree p) ∙ t in
       let l : spot + 1 ≤ place_from te (map entry_at ps) (spot + 1) = (landed te te (map entry_at ps) (spot + 1) (omega (arith, length-map ps entry_at))).later in
       let z : place_from te (map entry_at (p ∷ ps)) spot - spot ≡ suc (place_from te (map entry_at ps) (spot + 1) - (spot + 1)) =
       ap (λ k. k - spot) (place_miss te (entry_at p) (map entry_at ps) spot t) ∙ omega arith in
@@ -392,11 +392,11 @@ module _ {A B : Type 0} (image : A → B) where
   among_mapped (x ∷ xs) among_first = record { item = x; member = among_first; equal = refl }
   among_mapped (x ∷ xs) (among_later a) = let r = among_mapped xs a in record { item = r.item; member = among_later r.member; equal = r.equal }
 
-map_at : {A B : Type 0} (image : A → B) (xs : List A) (spot : ℕ) (default : A) (image-default : B) → spot < length xs
-    → get_or (map image xs) spot image-default ≡ image (get_or xs spot default)
-map_at image [] spot default image-default h = absurd (omega arith)
-map_at image (x ∷ xs) zero default image-default h = refl
-map_at image (x ∷ xs) (suc spot) default image-default h = map_at image xs spot default image-default (omega arith)
+map_at : {A B : Type 0} (image : A → B) (xs : List A) (spot : ℕ) (default : A) (image_default : B) → spot < length xs
+    → get_or (map image xs) spot image_default ≡ image (get_or xs spot default)
+map_at image [] spot default image_default h = absurd (omega arith)
+map_at image (x ∷ xs) zero default image_default h = refl
+map_at image (x ∷ xs) (suc spot) default image_default h = map_at image xs spot default image_default (omega arith)
 
 -- ------------------------------------------------------------------ a room that holds a grammar
 
@@ -509,10 +509,10 @@ module _ {patterns : List Item → ℕ} {bs room : List ℕ} (held : HeldFor pat
       place_nullable l e = nullable_here small e ∙ or_second (null_of nonterminal) l ∙ rw equal (chosen_formula (entries_for patterns bs) nonterminal kind formula)
 
     module _ (text : no_kind < kind) (variable : kind ≡ outside_kind → ⊥) {by_ide : ℕ}
-        (ide-is : by_ide ≡ first_with (entries_for patterns bs) nonterminal (opens_sort false (kind - 65))) where
+        (ide_is : by_ide ≡ first_with (entries_for patterns bs) nonterminal (opens_sort false (kind - 65))) where
       chosen_by : {found : ℕ} → found ≡ or_else by_ide (or_else (first_with (entries_for patterns bs) nonterminal (opens_sort true (kind - 65)))
           (place_from (is_nullable_of nonterminal) (entries_for patterns bs) 0)) → found ≡ chosen_place (entries_for patterns bs) nonterminal kind
-      chosen_by e = e ∙ rw ide-is (chosen_variable (entries_for patterns bs) nonterminal kind text variable)
+      chosen_by e = e ∙ rw ide_is (chosen_variable (entries_for patterns bs) nonterminal kind text variable)
 
       -- By a variable a place is chosen that opens with an ide that it fits;
       pub place_ide : by_ide < 256 → by_ide ≡ chosen_place (entries_for patterns bs) nonterminal kind
@@ -548,7 +548,7 @@ module _ {patterns : List Item → ℕ} {bs room : List ℕ} (held : HeldFor pat
       → spot + length ps ≤ 256 → place_from test (map E ps) spot < 256
   one_passes test {ps = p ∷ ps} among_first t spot h = rw (place_hit test (E p) (map E ps) spot t) (omega arith)
   one_passes test {ps = p ∷ ps} (among_later a) t spot h =
-      by-test (test (E p)) (λ e. rw (place_hit test (E p) (map E ps) spot e) (omega arith))
+      by_test (test (E p)) (λ e. rw (place_hit test (E p) (map E ps) spot e) (omega arith))
       (λ e. rw (place_miss test (E p) (map E ps) spot e) (one_passes test a t (spot + 1) (omega arith)))
 
   -- the nonterminals are 64
@@ -556,7 +556,7 @@ module _ {patterns : List Item → ℕ} {bs room : List ℕ} (held : HeldFor pat
       → place_from test (map E (places_of bs)) 0 ≡ 256
   each_other test nonterminal l own =
       none_passes test (places_of bs)
-      (λ p a. by-test (test (E p)) (λ t. absurd (omega (arith, own (E p) t, (each_among held.places a).small))) (λ t. t)) 0
+      (λ p a. by_test (test (E p)) (λ t. absurd (omega (arith, own (E p) t, (each_among held.places a).small))) (λ t. t)) 0
 
   none_of : (nonterminal : ℕ) → 64 ≤ nonterminal → (test : Entry → Bool) → place_from (of_with nonterminal test) (map E (places_of bs)) 0 ≡ 256
   none_of nonterminal l test = each_other (of_with nonterminal test) nonterminal l (λ e t. eqb-true _ nonterminal ((and-eq-true_iff _ _).0 t).0)
@@ -599,7 +599,7 @@ module _ {patterns : List Item → ℕ} {bs room : List ℕ} (held : HeldFor pat
         sym
         (none_passes (of_with nonterminal (holds_kind kind)) (places_of bs)
         (λ p a.
-        by-test (of_with nonterminal (holds_kind kind) (E p))
+        by_test (of_with nonterminal (holds_kind kind) (E p))
         (λ e.
         let q = (and-eq-true_iff _ _).0 e in
         absurd
@@ -643,7 +643,7 @@ module _ {patterns : List Item → ℕ} {bs room : List ℕ} (held : HeldFor pat
     or_choice : (rule_at : Place → Rule) (left : Choice)
         → choice_at rule_at (places_of bs) spot (choice_at rule_at (places_of bs) other left) ≡ choice_at rule_at (places_of bs) (or_else spot other) left
     or_choice rule_at left =
-        by-test (ltb spot 256)
+        by_test (ltb spot 256)
         (λ t.
         let l = ltb-true _ _ t in
         choice_inside rule_at _ (places_of bs) spot (inside l)
@@ -655,7 +655,7 @@ module _ {patterns : List Item → ℕ} {bs room : List ℕ} (held : HeldFor pat
 
     or_inside : (other < 256 → other < length (places_of bs)) → or_else spot other < 256 → or_else spot other < length (places_of bs)
     or_inside too =
-        by-test (ltb spot 256) (λ t. rw (← (or_first {place = spot} other (ltb-true _ _ t))) inside)
+        by_test (ltb spot 256) (λ t. rw (← (or_first {place = spot} other (ltb-true _ _ t))) inside)
         (λ t. rw (← (or_second {place = spot} other (ltb-false _ _ t))) too)
 
   -- the searches of a choice

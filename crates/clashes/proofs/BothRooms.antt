@@ -8,7 +8,7 @@ use lib.Bits.{or_zero_r, and_zero_l}
 use lib.Count.{count_trailing_zeros}
 use lib.Dec.{ltb}
 use borrow.Author.Tests.{ltb-true, ltb-false, lt-ltb, le-ltb}
-use Rattle.spellings.proofs.BytesLaws.{by-test}
+use Rattle.spellings.proofs.BytesLaws.{by_test}
 use Rattle.answers.specs.Refusals.{refusal}
 use Rattle.answers.specs.Checked.{Checked, ok, bad}
 use Rattle.decoding.specs.Within.{Each, each_none, each_more}
@@ -41,7 +41,7 @@ module _ {A : Type 0} (one other : A → A → Bool) where
 
 -- The lower of two numbers, where one is known.
 pub lower_left : (a b : ℕ) → a ≤ b → lower_of a b ≡ a
-lower_left a b h = by-test (ltb a b) (λ t. rw (t, lower_of) refl) (λ t. rw (t, lower_of) (omega (arith, ltb-false a b t)))
+lower_left a b h = by_test (ltb a b) (λ t. rw (t, lower_of) refl) (λ t. rw (t, lower_of) (omega (arith, ltb-false a b t)))
 
 pub lower_right : (a b : ℕ) → b ≤ a → lower_of a b ≡ b
 lower_right a b h = rw (le-ltb a b h, lower_of) refl
@@ -50,17 +50,17 @@ lowest_after : (count : ℕ) (test : ℕ → Bool) (start : ℕ) → start ≤ l
 unfolding lowest
 lowest_after zero test start = omega arith
 lowest_after (suc count) test start =
-    by-test (test start) (λ t. rw (t, lowest) (omega arith)) (λ t. rw (t, lowest) (omega (arith, lowest_after count test (start + 1))))
+    by_test (test start) (λ t. rw (t, lowest) (omega arith)) (λ t. rw (t, lowest) (omega (arith, lowest_after count test (start + 1))))
 
 lowest_or : (count : ℕ) (one other : ℕ → Bool) (start : ℕ)
     → lowest count (λ n. one n || other n) start ≡ lower_of (lowest count one start) (lowest count other start)
 unfolding lowest
 lowest_or zero one other start = sym (lower_left start start (omega arith))
 lowest_or (suc count) one other start =
-    by-test (one start)
+    by_test (one start)
     (λ t. rw (t, lowest) (sym (lower_left start _ (lowest_after (suc count) other start))))
     (λ t.
-    by-test (other start)
+    by_test (other start)
     (λ u. rw (t, u, lowest) (sym (lower_right _ start (omega (arith, lowest_after count one (start + 1))))))
     (λ u. rw (t, u, lowest) (lowest_or count one other (start + 1))))
 
@@ -104,7 +104,7 @@ answer found n kind = elim found [ true ↦ bad (refusal 13 n kind 0) | false �
 answers : (n n' : ℕ) (kind kind' : ℕ → ℕ) → n ≡ n' → ((m : ℕ) → m < 64 → kind m ≡ kind' m) → answer (ltb n 64) n (kind n) ≡ answer (ltb n' 64) n' (kind' n')
 unfolding answer
 answers n n' kind kind' e same =
-    by-test (ltb n 64) (λ t. rw (← e) (rw (t, same n (ltb-true n 64 t)) refl)) (λ t. rw (← e) (rw t refl))
+    by_test (ltb n 64) (λ t. rw (← e) (rw (t, same n (ltb-true n 64 t)) refl)) (λ t. rw (← e) (rw t refl))
 
 module _ (bs : List ℕ) (o : Openings) (places : List Place) {sets room : List ℕ}
     (held : HoldsEntries sets (map (entry_by bs o.kinds o.nullable) places) room) where
@@ -124,27 +124,27 @@ module _ (bs : List ℕ) (o : Openings) (places : List Place) {sets room : List 
 
 -- ------------------------------------------------------------------ where no place opens a production
 
-module _ (set-of : Production → ℕ) (nonterminal : ℕ) where
-  shared_nothing : (p other : Production) → set-of p ≡ 0 → shared_by set-of nonterminal p other ≡ 0
+module _ (set_of : Production → ℕ) (nonterminal : ℕ) where
+  shared_nothing : (p other : Production) → set_of p ≡ 0 → shared_by set_of nonterminal p other ≡ 0
   shared_nothing p other e =
-      by-test (both_of nonterminal p other) (λ t. rw (t, e, shared_by) (and_zero_l (set-of other))) (λ t. rw (t, shared_by) refl)
+      by_test (both_of nonterminal p other) (λ t. rw (t, e, shared_by) (and_zero_l (set_of other))) (λ t. rw (t, shared_by) refl)
 
-  with_nothing : (p : Production) → set-of p ≡ 0 → (g : List Production) → any_with (clash_by set-of (λ q. false) nonterminal p) g ≡ false
+  with_nothing : (p : Production) → set_of p ≡ 0 → (g : List Production) → any_with (clash_by set_of (λ q. false) nonterminal p) g ≡ false
   unfolding any_with
   with_nothing p e [] = refl
   with_nothing p e (q ∷ g) = rw (shared_nothing p q e, and-false (both_of nonterminal p q)) (with_nothing p e g)
 
-  pairs_nothing : {g : List Production} → Each (λ (p : Production). set-of p ≡ 0) g → any_pair (clash_by set-of (λ q. false) nonterminal) g ≡ false
+  pairs_nothing : {g : List Production} → Each (λ (p : Production). set_of p ≡ 0) g → any_pair (clash_by set_of (λ q. false) nonterminal) g ≡ false
   unfolding any_pair
   pairs_nothing each_none = refl
   pairs_nothing (each_more {x = p} {xs = g} e es) = rw (with_nothing p e g) (pairs_nothing es)
 
-  joined_nothing : (p : Production) → set-of p ≡ 0 → (g : List Production) → join_with (shared_by set-of nonterminal p) g 0 ≡ 0
+  joined_nothing : (p : Production) → set_of p ≡ 0 → (g : List Production) → join_with (shared_by set_of nonterminal p) g 0 ≡ 0
   unfolding join_with
   joined_nothing p e [] = refl
   joined_nothing p e (q ∷ g) = rw (shared_nothing p q e, or_zero_r 0) (joined_nothing p e g)
 
-  all_nothing : {g : List Production} → Each (λ (p : Production). set-of p ≡ 0) g → join_pairs (shared_by set-of nonterminal) g 0 ≡ 0
+  all_nothing : {g : List Production} → Each (λ (p : Production). set_of p ≡ 0) g → join_pairs (shared_by set_of nonterminal) g 0 ≡ 0
   unfolding join_pairs
   all_nothing each_none = refl
   all_nothing (each_more {x = p} {xs = g} e es) = rw (joined_nothing p e g) (all_nothing es)
@@ -159,7 +159,7 @@ lowest_small : (count start : ℕ) (test : ℕ → Bool) → lowest count test s
 unfolding lowest
 lowest_small zero start test = omega arith
 lowest_small (suc count) start test =
-    by-test (test start) (λ t. rw (t, lowest) (omega arith)) (λ t. rw (t, lowest) (omega (arith, lowest_small count (start + 1) test)))
+    by_test (test start) (λ t. rw (t, lowest) (omega arith)) (λ t. rw (t, lowest) (omega (arith, lowest_small count (start + 1) test)))
 
 kinds_alone : (kinds : ℕ) → count_trailing_zeros 64 kinds ≡ lowest_of kinds 0
 unfolding count_trailing_zeros

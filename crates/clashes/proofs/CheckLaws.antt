@@ -46,10 +46,10 @@ use Rattle.firsts.proofs.StepLaws.{length-sets, sets_below}
 -- ------------------------------------------------------------------ the sets
 
 -- there are 64 sets of each
-module _ {nulls : ℕ} {g : List Production} {kinds calls : List ℕ} (both-sets : BothSets nulls g kinds calls) where
+module _ {nulls : ℕ} {g : List Production} {kinds calls : List ℕ} (both_sets : BothSets nulls g kinds calls) where
   -- as many first sets as nonterminals
   pub kinds_many : length kinds ≡ 64
-  kinds_many = ap length both-sets.kinds_are ∙ length-sets opening_of nulls g
+  kinds_many = ap length both_sets.kinds_are ∙ length-sets opening_of nulls g
 
   -- the same, as a slice asks for it
   pub kinds_size : 64 ≡ length kinds
@@ -57,7 +57,7 @@ module _ {nulls : ℕ} {g : List Production} {kinds calls : List ℕ} (both-sets
 
   -- and as many sets of left calls
   pub calls_size : 64 ≡ length calls
-  calls_size = sym (ap length both-sets.calls_are ∙ length-sets call_of nulls g)
+  calls_size = sym (ap length both_sets.calls_are ∙ length-sets call_of nulls g)
 
 module _ {g : List Production} {nulls : ℕ} {reading calling : List ℕ} (noted : NullablesNoted g nulls reading calling) where
   -- as many sets of what is read are noted as there are nonterminals
@@ -111,7 +111,7 @@ pub record Bounding (many : ℕ) (owners : List ℕ) (below turn : ℕ) : Type 0
 pub bounding_start : {many : ℕ} {owners : List ℕ} → Bounding many owners 0 0
 bounding_start = record { within = omega arith; small = omega arith; so_far = λ place l. absurd (omega arith) }
 
-module _ {many : ℕ} {owners : List ℕ} {below turn : ℕ} (owners-are : OwnersSmall many owners) (bounding : Bounding many owners below turn)
+module _ {many : ℕ} {owners : List ℕ} {below turn : ℕ} (owners_are : OwnersSmall many owners) (bounding : Bounding many owners below turn)
     (left : turn < many) where
   next : (new : ℕ) → new ≤ 64 → below ≤ new → get_or owners turn 0 < new → Bounding many owners new (turn + 1)
   next new h l e =
@@ -123,7 +123,7 @@ module _ {many : ℕ} {owners : List ℕ} {below turn : ℕ} (owners-are : Owner
 
   -- a higher one
   pub bounding_higher : below ≤ get_or owners turn 0 → Bounding many owners (get_or owners turn 0 + 1) (turn + 1)
-  bounding_higher h = next (get_or owners turn 0 + 1) (omega (arith, owners-are.each turn left)) (omega arith) (omega arith)
+  bounding_higher h = next (get_or owners turn 0 + 1) (omega (arith, owners_are.each turn left)) (omega arith) (omega arith)
 
   -- another
   pub bounding_lower : get_or owners turn 0 < below → Bounding many owners below (turn + 1)
@@ -135,7 +135,7 @@ bounding_end b h = record { small = b.small; each = λ place l. b.so_far place (
 
 -- ------------------------------------------------------------------ the rooms
 
-module _ {bs : List ℕ} {below many : ℕ} {owners starts : List ℕ} (bound-index : BoundIndex below bs many owners starts) where
+module _ {bs : List ℕ} {below many : ℕ} {owners starts : List ℕ} (bound_index : BoundIndex below bs many owners starts) where
   abbrev places : List Place
   places = places_in many owners starts
 
@@ -146,7 +146,7 @@ module _ {bs : List ℕ} {below many : ℕ} {owners starts : List ℕ} (bound-in
   module _ (image : Place → Entry) (owned : (p : Place) → (image p).nonterminal ≡ p.nonterminal) (starting : (p : Place) → (image p).start ≡ p.start) where
     near : {ps : List Place} → Each (Whole bs) ps → (place : ℕ) → (get_or (map image ps) place no_entry).start < start_base
     near each_none place = omega arith
-    near (each_more {x = p} w ws) zero = omega (arith, starting p, w.inside, bound-index.index.short)
+    near (each_more {x = p} w ws) zero = omega (arith, starting p, w.inside, bound_index.index.short)
     near (each_more w ws) (suc place) = near ws place
 
     entries_held : (kinds : ℕ) (room₀ : List ℕ) {sets room : List ℕ} → room ≡ overwritten (room_of kinds sets (map image places)) room₀
@@ -156,8 +156,8 @@ module _ {bs : List ℕ} {below many : ℕ} {owners starts : List ℕ} (bound-in
           kinds = kinds;
           rest = _;
           held = e;
-          few = omega (arith, bound-index.index.few, length-entries image many owners starts);
-          near = near bound-index.index.whole;
+          few = omega (arith, bound_index.index.few, length-entries image many owners starts);
+          near = near bound_index.index.whole;
         }
 
     no_entry_lem : (number : ℕ) → below ≤ number → (count from turn : ℕ) → from + count ≤ many
@@ -166,14 +166,14 @@ module _ {bs : List ℕ} {below many : ℕ} {owners starts : List ℕ} (bound-in
     no_entry_lem number h zero from turn l = refl
     no_entry_lem number h (suc count) from turn l =
         let other : eqb (image (place_at owners starts from)).nonterminal number ≡ false =
-        ne_eqb _ number (λ e. omega (arith, owned (place_at owners starts from), bound-index.owned.each from (omega arith))) in
+        ne_eqb _ number (λ e. omega (arith, owned (place_at owners starts from), bound_index.owned.each from (omega arith))) in
         rw (other, place_from) (no_entry_lem number h count (from + 1) (turn + 1) (omega arith))
 
     -- a nonterminal without a production has no place in the room
     entries_below : {sets room : List ℕ} → HoldsEntries sets (map image places) room → PlacesBelow below room
     entries_below held =
         record {
-          small = bound-index.owned.small;
+          small = bound_index.owned.small;
           none = λ n h l. first_place_in_lem held n l ∙ no_entry_lem n h many 0 0 (omega arith);
         }
 
@@ -185,10 +185,10 @@ module _ {bs : List ℕ} {below many : ℕ} {owners starts : List ℕ} (bound-in
   abbrev entry : Place → Entry
   entry = entry_at bs (nullables g) (first_sets (nullables g) g)
 
-  module _ {room₀ room : List ℕ} {found : Preparation} (given-prepared : Prepared below bs places room₀ room found) where
+  module _ {room₀ room : List ℕ} {found : Preparation} (given_prepared : Prepared below bs places room₀ room found) where
     -- a room over what was there holds the entries of the grammar
     holds_entries : HoldsEntries (first_sets (nullables g) g) (map entry places) room
-    holds_entries = entries_held entry (λ p. refl) (λ p. refl) (kinds_reached g (root_in bs)) room₀ given-prepared.held
+    holds_entries = entries_held entry (λ p. refl) (λ p. refl) (kinds_reached g (root_in bs)) room₀ given_prepared.held
 
     -- a nonterminal without a production has no place in it
     pub places_below : PlacesBelow below room
@@ -197,7 +197,7 @@ module _ {bs : List ℕ} {below many : ℕ} {owners starts : List ℕ} (bound-in
     -- ---------------------------------------------------------------- verdicts
 
     none_reached : (number : ℕ) → below ≤ number → number < 64 → has_kind (get_or (left_calls (nullables g) g) number 0) number ≡ false
-    none_reached number h l = rw ((sets_below bound-index.owned call_of (nullables g) bs starts).none number h) (has_none number)
+    none_reached number h l = rw ((sets_below bound_index.owned call_of (nullables g) bs starts).none number h) (has_none number)
 
     check_tests : (number : ℕ) → number ≡ left_recursive (left_calls (nullables g) g) → (test : Bool) → ltb number 64 ≡ test
         → verdict (refused_if test (refusal 12 number 0 0) >> no_clash (openings_of g) g) ≡ verdict (check_firsts g)
@@ -208,24 +208,24 @@ module _ {bs : List ℕ} {below many : ℕ} {owners starts : List ℕ} (bound-in
     pub check_recursive : found.recursive < below → {cause : Refusal} → cause ≡ refusal 12 found.recursive 0 0 → Refused cause ≡ verdict (check_firsts g)
     check_recursive h er =
         ap Refused er
-        ∙ check_tests found.recursive (lowest_within bound-index.owned.small none_reached given-prepared.recursive h) true
-        (lt-ltb found.recursive 64 (omega (arith, bound-index.owned.small)))
+        ∙ check_tests found.recursive (lowest_within bound_index.owned.small none_reached given_prepared.recursive h) true
+        (lt-ltb found.recursive 64 (omega (arith, bound_index.owned.small)))
 
-    module _ (not-recursive : below ≤ found.recursive) where
+    module _ (not_recursive : below ≤ found.recursive) where
       no_recursion : verdict (no_clash (openings_of g) g) ≡ verdict (check_firsts g)
       no_recursion =
-          check_tests 64 (lowest_beyond bound-index.owned.small none_reached given-prepared.recursive not-recursive) false (le-ltb 64 64 (omega arith))
+          check_tests 64 (lowest_beyond bound_index.owned.small none_reached given_prepared.recursive not_recursive) false (le-ltb 64 64 (omega arith))
 
       -- where 12 is not given and no pattern place opens a production, the room decides 13
       pub check_clashes : found.places ≡ 0 → verdict (no_clash_in room) ≡ verdict (check_firsts g)
       unfolding production_at
       check_clashes e =
-          ap verdict (without_sorts bs (openings_of g) places holds_entries (given-prepared.none_opens e)) ∙ no_recursion
+          ap verdict (without_sorts bs (openings_of g) places holds_entries (given_prepared.none_opens e)) ∙ no_recursion
 
       both_are : no_clash_with room (sorts_room bs places found.nulls) ≡ no_clash (openings_of g) g
       unfolding production_at
       both_are =
-          rw given-prepared.nulls_are
+          rw given_prepared.nulls_are
           (with_sorts bs (openings_of g) places holds_entries
           (entries_held (sorts_at bs (nullables g) (pattern_sets (nullables g) g)) (λ p. refl) (λ p. refl) 0 (replicate room_size 0) refl))
 
@@ -236,9 +236,9 @@ module _ {bs : List ℕ} {below many : ℕ} {owners starts : List ℕ} (bound-in
 -- The room of the sorts is lent empty, with the sets that are worked out.
 pub sorts_lent : {bs : List ℕ} {below many : ℕ} {owners starts : List ℕ} → BoundIndex below bs many owners starts → (nulls : ℕ) {sets : List ℕ}
     → sets ≡ pattern_sets nulls (productions_at bs (places_in many owners starts)) → FillRoom bs many owners starts sets (replicate room_size 0)
-sorts_lent bound-index nulls e =
+sorts_lent bound_index nulls e =
     record {
-      index = bound-index.index;
+      index = bound_index.index;
       lent = record { size = length-replicate {A = ℕ} room_size 0; many = ap length e ∙ length-sets pattern_of nulls _ };
     }
 
@@ -253,10 +253,10 @@ abbrev clash_of : ℕ → ℕ → Refusal
 clash_of n s = refusal 13 n (count_trailing_zeros 64 s) 0
 
 -- refusal 13 or none, by the lowest nonterminal with a clash
-module _ {room : List ℕ} {below nonterminal : ℕ} (places-are : PlacesBelow below room) (equal : nonterminal ≡ clashing_below below room) where
+module _ {room : List ℕ} {below nonterminal : ℕ} (places_are : PlacesBelow below room) (equal : nonterminal ≡ clashing_below below room) where
   none_clashes : (number : ℕ) → below ≤ number → number < 64 → any_pair (clash_in room) (linked room (first_place_in room number)) ≡ false
   unfolding any_pair
-  none_clashes number h l = rw (places-are.none number h l, linked_none room 256 (omega arith)) refl
+  none_clashes number h l = rw (places_are.none number h l, linked_none room 256 (omega arith)) refl
 
   clash_tests : (number : ℕ) → number ≡ clashing_in room → (test : Bool) → ltb number 64 ≡ test
       → verdict (refused_if test (clash_of number (all_shared_in room number))) ≡ verdict (no_clash_in room)
@@ -268,8 +268,8 @@ module _ {room : List ℕ} {below nonterminal : ℕ} (places-are : PlacesBelow b
       → cause ≡ refusal 13 nonterminal kind 0 → Refused cause ≡ verdict (no_clash_in room)
   clash_refused h es ek er =
       rw (er, ek, es)
-      (clash_tests nonterminal (lowest_within places-are.small none_clashes equal h) true (lt-ltb nonterminal 64 (omega (arith, places-are.small))))
+      (clash_tests nonterminal (lowest_within places_are.small none_clashes equal h) true (lt-ltb nonterminal 64 (omega (arith, places_are.small))))
 
   -- without one the table passes
   pub clash_passed : below ≤ nonterminal → Passed ≡ verdict (no_clash_in room)
-  clash_passed h = clash_tests 64 (lowest_beyond places-are.small none_clashes equal h) false (le-ltb 64 64 (omega arith))
+  clash_passed h = clash_tests 64 (lowest_beyond places_are.small none_clashes equal h) false (le-ltb 64 64 (omega arith))

@@ -47,13 +47,13 @@ pub has_behind : (set sort : ℕ) → has_kind (set / 2 ^ place_bit 0) sort ≡ 
 unfolding has_kind
 has_behind set sort = cc (pow-add 2 8 sort, div-div-eq-div-mul set (2 ^ 8) (2 ^ sort))
 
-shared_seen : (set-of : Production → ℕ) (nonterminal : ℕ) (p other : Production) (kind : ℕ)
-    → has_kind (shared_by set-of nonterminal p other) kind ≡ (both_of nonterminal p other && (has_kind (set-of p) kind && has_kind (set-of other) kind))
-shared_seen set-of nonterminal p other kind = by (both_of nonterminal p other) refl
+shared_seen : (set_of : Production → ℕ) (nonterminal : ℕ) (p other : Production) (kind : ℕ)
+    → has_kind (shared_by set_of nonterminal p other) kind ≡ (both_of nonterminal p other && (has_kind (set_of p) kind && has_kind (set_of other) kind))
+shared_seen set_of nonterminal p other kind = by (both_of nonterminal p other) refl
   where
     by : (test : Bool) → both_of nonterminal p other ≡ test
-        → has_kind (shared_by set-of nonterminal p other) kind ≡ (both_of nonterminal p other && (has_kind (set-of p) kind && has_kind (set-of other) kind))
-    by true e = rw (e, shared_by) (has_meet (set-of p) (set-of other) kind)
+        → has_kind (shared_by set_of nonterminal p other) kind ≡ (both_of nonterminal p other && (has_kind (set_of p) kind && has_kind (set_of other) kind))
+    by true e = rw (e, shared_by) (has_meet (set_of p) (set_of other) kind)
     by false e = rw (e, shared_by) (has_none kind)
 
 module _ (g : List Production) where
@@ -76,14 +76,14 @@ module _ (g : List Production) where
 
   -- ---------------------------------------------------------------- what is shared
 
-  -- a number of `set-of` of a production is what the rules say of its items
-  module _ (Own : Item → ℕ → Type 0) (set-of : Production → ℕ)
-      (exactly : (p : Production) (kind : ℕ) → (has_kind (set-of p) kind ≡ true) ↔ First g Own p.items kind) where
+  -- a number of `set_of` of a production is what the rules say of its items
+  module _ (Own : Item → ℕ → Type 0) (set_of : Production → ℕ)
+      (exactly : (p : Production) (kind : ℕ) → (has_kind (set_of p) kind ≡ true) ↔ First g Own p.items kind) where
     share_sound : {nonterminal kind : ℕ} {p other : Production} → nonterminal < 64 → Before g p other
-        → has_kind (shared_by set-of nonterminal p other) kind ≡ true → SharesBy Own g nonterminal kind
+        → has_kind (shared_by set_of nonterminal p other) kind ≡ true → SharesBy Own g nonterminal kind
     share_sound {nonterminal} {kind} {p} {other} l apart e =
-        let o = (and-eq-true_iff (both_of nonterminal p other) _).0 (sym (shared_seen set-of nonterminal p other kind) ∙ e) in
-        let f = (and-eq-true_iff (has_kind (set-of p) kind) (has_kind (set-of other) kind)).0 o.1 in
+        let o = (and-eq-true_iff (both_of nonterminal p other) _).0 (sym (shared_seen set_of nonterminal p other kind) ∙ e) in
+        let f = (and-eq-true_iff (has_kind (set_of p) kind) (has_kind (set_of other) kind)).0 o.1 in
         record {
           one = p;
           other = other;
@@ -93,16 +93,16 @@ module _ (g : List Production) where
         }
 
     share_complete : {nonterminal kind : ℕ} (shares : SharesBy Own g nonterminal kind)
-        → has_kind (shared_by set-of nonterminal shares.one shares.other) kind ≡ true
+        → has_kind (shared_by set_of nonterminal shares.one shares.other) kind ≡ true
     share_complete {nonterminal} {kind} shares =
-        shared_seen set-of nonterminal shares.one shares.other kind
+        shared_seen set_of nonterminal shares.one shares.other kind
         ∙ (and-eq-true_iff _ _).1 (
           two_complete shares.two,
           (and-eq-true_iff _ _).1 ((exactly shares.one kind).1 shares.one_first, (exactly shares.other kind).1 shares.other_first),
         )
 
     -- what any two productions of `nonterminal` share, together
-    all_shared : (nonterminal : ℕ) → nonterminal < 64 → (kind : ℕ) → (has_kind (join_pairs (shared_by set-of nonterminal) g 0) kind ≡ true)
+    all_shared : (nonterminal : ℕ) → nonterminal < 64 → (kind : ℕ) → (has_kind (join_pairs (shared_by set_of nonterminal) g 0) kind ≡ true)
         ↔ SharesBy Own g nonterminal kind
     all_shared nonterminal l kind = (
       λ e. let r = (pair_exactly gives g).0 (sym joined ∙ e) in share_sound l r.apart r.passes,
@@ -110,18 +110,18 @@ module _ (g : List Production) where
     )
       where
         gives : Production → Production → Bool
-        gives p q = has_kind (shared_by set-of nonterminal p q) kind
+        gives p q = has_kind (shared_by set_of nonterminal p q) kind
 
-        joined : has_kind (join_pairs (shared_by set-of nonterminal) g 0) kind ≡ any_pair gives g
-        joined = rw (has_none kind) at (pairs_seen (shared_by set-of nonterminal) g 0 kind)
+        joined : has_kind (join_pairs (shared_by set_of nonterminal) g 0) kind ≡ any_pair gives g
+        joined = rw (has_none kind) at (pairs_seen (shared_by set_of nonterminal) g 0 kind)
 
     -- two productions share something exactly if the set is not empty
-    some_shared : {nonterminal : ℕ} {p other : Production} → nonterminal < 64 → Before g p other → ltb 0 (shared_by set-of nonterminal p other) ≡ true
+    some_shared : {nonterminal : ℕ} {p other : Production} → nonterminal < 64 → Before g p other → ltb 0 (shared_by set_of nonterminal p other) ≡ true
         → (kind : ℕ) × SharesBy Own g nonterminal kind
     some_shared {nonterminal} {p} {other} l apart h =
-        let k = some_kind (shared_by set-of nonterminal p other) (ltb-true 0 _ h) in (k.0, share_sound l apart k.1)
+        let k = some_kind (shared_by set_of nonterminal p other) (ltb-true 0 _ h) in (k.0, share_sound l apart k.1)
 
-    shared_some : {nonterminal kind : ℕ} (shares : SharesBy Own g nonterminal kind) → ltb 0 (shared_by set-of nonterminal shares.one shares.other) ≡ true
+    shared_some : {nonterminal kind : ℕ} (shares : SharesBy Own g nonterminal kind) → ltb 0 (shared_by set_of nonterminal shares.one shares.other) ≡ true
     shared_some {kind = kind} shares = lt-ltb 0 _ (kind_positive _ kind (share_complete shares))
 
   kinds_are : (p : Production) (kind : ℕ) → (has_kind (openings.kinds p) kind ≡ true) ↔ First g Reads p.items kind

@@ -39,21 +39,21 @@ one_of {g} {nonterminal} {p} {other} P never o k x y = by (apart o.member k.memb
     by (inr (inr b)) = absurd (never other p (two k o b) y x)
 
 module _ (g : List Production) (none : Never (Clashes g)) {nonterminal : ℕ} {p other : Production} (owned : Of g nonterminal p)
-    (other-owned : Of g nonterminal other) where
+    (other_owned : Of g nonterminal other) where
   -- one kind opens one production
   pub one_opened : {kind : ℕ} → First g Reads p.items kind → First g Reads other.items kind → p ≡ other
   one_opened {kind} =
       one_of (λ r. First g Reads r.items kind)
-      (λ r s w x y. none nonterminal (inl (kind, record { one = r; other = s; two = w; one_first = x; other_first = y }))) owned other-owned
+      (λ r s w x y. none nonterminal (inl (kind, record { one = r; other = s; two = w; one_first = x; other_first = y }))) owned other_owned
 
   -- one production opens with a place of one sort
   pub one_placed : {sort : ℕ} → First g ReadsPlace p.items sort → First g ReadsPlace other.items sort → p ≡ other
   one_placed {sort} =
       one_of (λ r. First g ReadsPlace r.items sort)
-      (λ r s w x y. none nonterminal (inr (inl (sort, record { one = r; other = s; two = w; one_first = x; other_first = y })))) owned other-owned
+      (λ r s w x y. none nonterminal (inr (inl (sort, record { one = r; other = s; two = w; one_first = x; other_first = y })))) owned other_owned
 
   -- one production is nullable
   pub one_nullable : NullItems g p.items → NullItems g other.items → p ≡ other
   one_nullable =
       one_of (λ r. NullItems g r.items)
-      (λ r s w x y. none nonterminal (inr (inr (record { one = r; other = s; two = w; one_null = x; other_null = y })))) owned other-owned
+      (λ r s w x y. none nonterminal (inr (inr (record { one = r; other = s; two = w; one_null = x; other_null = y })))) owned other_owned

@@ -12,7 +12,7 @@ use lib.Bits.{bit_and, bit_or, and_zero_l, or_zero_l, or_add_and, and_le_r}
 use lib.Dec.{ltb}
 use lib.Seq.{append_snoc}
 use borrow.Author.Tests.{lt-ltb, le-ltb, ltb-true, ltb-false}
-use Rattle.spellings.proofs.BytesLaws.{by-test}
+use Rattle.spellings.proofs.BytesLaws.{by_test}
 use Rattle.kinds.specs.Kinds.{has_kind}
 use Rattle.kinds.proofs.KindsLaws.{has_none, has_join, has_meet}
 use Rattle.productions.specs.Room.{first_in, next_place_in, nullable_in}
@@ -25,36 +25,36 @@ use Rattle.clashes.proofs.Searches.{lowest_passes, lowest_skips, pairs_seen}
 
 -- ------------------------------------------------------------------ the lowest number below a limit
 
--- none below `lowest-number` passes
-pub record Lowest (limit : ℕ) (test : ℕ → Bool) (lowest-number : ℕ) : Type 0 where
-  -- `lowest-number` is at most the limit
-  pub small : lowest-number ≤ limit
-  -- the search from `lowest-number` on finds what the whole search finds
-  pub rest : lowest (limit - lowest-number) test lowest-number ≡ lowest limit test 0
+-- none below `lowest_number` passes
+pub record Lowest (limit : ℕ) (test : ℕ → Bool) (lowest_number : ℕ) : Type 0 where
+  -- `lowest_number` is at most the limit
+  pub small : lowest_number ≤ limit
+  -- the search from `lowest_number` on finds what the whole search finds
+  pub rest : lowest (limit - lowest_number) test lowest_number ≡ lowest limit test 0
 
 -- at the begin
 pub lowest_start : {limit : ℕ} {test : ℕ → Bool} → Lowest limit test 0
 lowest_start {limit} = record { small = omega arith; rest = rw (sub-zero limit) refl }
 
-module _ {limit : ℕ} {test : ℕ → Bool} {lowest-number : ℕ} (given-lowest : Lowest limit test lowest-number) where
+module _ {limit : ℕ} {test : ℕ → Bool} {lowest_number : ℕ} (given_lowest : Lowest limit test lowest_number) where
   -- a number that does not pass is left behind
-  pub lowest_next : lowest-number < limit → test lowest-number ≡ false → Lowest limit test (lowest-number + 1)
+  pub lowest_next : lowest_number < limit → test lowest_number ≡ false → Lowest limit test (lowest_number + 1)
   unfolding lowest
   lowest_next h e =
-      let z : limit - lowest-number ≡ suc (limit - (lowest-number + 1)) = omega arith in
-      record { small = omega arith; rest = rw (z, e, lowest) at given-lowest.rest }
+      let z : limit - lowest_number ≡ suc (limit - (lowest_number + 1)) = omega arith in
+      record { small = omega arith; rest = rw (z, e, lowest) at given_lowest.rest }
 
   -- one that passes is the lowest
-  pub lowest_stop : lowest-number < limit → test lowest-number ≡ true → lowest-number ≡ lowest limit test 0
+  pub lowest_stop : lowest_number < limit → test lowest_number ≡ true → lowest_number ≡ lowest limit test 0
   unfolding lowest
-  lowest_stop h e = let z : limit - lowest-number ≡ suc (limit - (lowest-number + 1)) = omega arith in rw (z, e, lowest) at given-lowest.rest
+  lowest_stop h e = let z : limit - lowest_number ≡ suc (limit - (lowest_number + 1)) = omega arith in rw (z, e, lowest) at given_lowest.rest
 
   -- no number is left
-  pub lowest_end : limit ≤ lowest-number → lowest-number ≡ lowest limit test 0
+  pub lowest_end : limit ≤ lowest_number → lowest_number ≡ lowest limit test 0
   unfolding lowest
   lowest_end h =
-      let z : limit - lowest-number ≡ 0 = omega arith in
-      rw z at given-lowest.rest
+      let z : limit - lowest_number ≡ 0 = omega arith in
+      rw z at given_lowest.rest
 
 -- the numbers below one do not pass
 lowest_from : (limit : ℕ) (test : ℕ → Bool) (number : ℕ) → number ≤ limit → ((lower : ℕ) → lower < number → test lower ≡ false) → Lowest limit test number
@@ -80,8 +80,8 @@ module _ {limit many : ℕ} {test : ℕ → Bool} (few : many ≤ limit) (none :
       (omega arith)
 
 -- whether a nonterminal reaches itself
-pub reach_is : (nonterminal : ℕ) {reached reached-set : ℕ} → reached ≡ reached-set → {test : Bool} → test ≡ has_kind reached nonterminal
-    → has_kind reached-set nonterminal ≡ test
+pub reach_is : (nonterminal : ℕ) {reached reached_set : ℕ} → reached ≡ reached_set → {test : Bool} → test ≡ has_kind reached nonterminal
+    → has_kind reached_set nonterminal ≡ test
 reach_is nonterminal e f = cc
 
 -- ------------------------------------------------------------------ links
@@ -90,7 +90,7 @@ module _ (room : List ℕ) where
   -- a link leads on
   pub after_more : (place : ℕ) → place < 256 → place < after_in room place
   after_more place h =
-      by-test (ltb place (next_place_in room place)) (λ e. rw (e, after_in) (ltb-true place (next_place_in room place) e)) (λ e. rw (e, after_in) h)
+      by_test (ltb place (next_place_in room place)) (λ e. rw (e, after_in) (ltb-true place (next_place_in room place) e)) (λ e. rw (e, after_in) h)
 
   -- a link that leads on
   pub after_on : (place : ℕ) {next : ℕ} → next ≡ next_place_in room place → place < next → next ≡ after_in room place
@@ -109,7 +109,7 @@ module _ (room : List ℕ) where
   fuel zero (suc steps') place h h' = rw (le-ltb place 256 (omega arith), linked_from) refl
   fuel (suc steps) zero place h h' = rw (le-ltb place 256 (omega arith), linked_from) refl
   fuel (suc steps) (suc steps') place h h' =
-      by-test (ltb place 256)
+      by_test (ltb place 256)
       (λ e.
       let on = after_more place (ltb-true place 256 e) in
       rw (e, linked_from) (ap (◌∷◌ place) (fuel steps steps' (after_in room place) (omega (arith, on)) (omega (arith, on)))))
@@ -134,7 +134,7 @@ module _ (room : List ℕ) where
   linked_head : (place : ℕ) {one : ℕ} {others : List ℕ} → linked room place ≡ one ∷ others
       → (place < 256) × (place ≡ one) × (linked room (after_in room place) ≡ others)
   linked_head place {one} {others} e =
-      by-test (ltb place 256)
+      by_test (ltb place 256)
       (λ t.
       let inside = ltb-true place 256 t in
       let same : place ∷ linked room (after_in room place) ≡ one ∷ others = sym (linked_next place inside) ∙ e in
@@ -293,7 +293,7 @@ module _ {room : List ℕ} {start : ℕ} {seen : Seen} {one : ℕ} (row : Row ro
   pub column_start : {other : ℕ} → other ≡ other_from room start one seen → Column room start seen one other
   unfolding any_with
   column_start {other} e =
-      by-test (clash_seen room seen one)
+      by_test (clash_seen room seen one)
       (λ t. record { row = row; left = row.before; places = rw (e, t, other_from) row.split; rest = refl })
       (λ t. record { row = row; left = []; places = rw (e, t, other_from) refl; rest = sym (row.covers one ∙ t) })
 
@@ -384,8 +384,8 @@ sharing_start room e = record { before = []; split = ap (linked room) (sym e); s
 
 module _ {room : List ℕ} {start seen found one : ℕ} (sharing : Sharing room start seen found one) where
   -- one place more is past
-  pub sharing_next : one < 256 → {own more-found more-seen more after : ℕ} → own ≡ first_in room one → more ≡ bit_and seen own → more-found ≡ bit_or found more
-      → more-seen ≡ bit_or seen own → after ≡ after_in room one → Sharing room start more-seen more-found after
+  pub sharing_next : one < 256 → {own more_found more_seen more after : ℕ} → own ≡ first_in room one → more ≡ bit_and seen own → more_found ≡ bit_or found more
+      → more_seen ≡ bit_or seen own → after ≡ after_in room one → Sharing room start more_seen more_found after
   sharing_next h eo em ef es g =
       let before : List ℕ = sharing.before in
       record {

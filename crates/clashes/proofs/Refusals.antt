@@ -170,10 +170,10 @@ module _ (g : List Production) where
 
   -- ---------------------------------------------------------------- no other result says what it means
 
-  same_12 : {cause given-refusal : Refusal} → Says12 g cause → Says12 g given-refusal → cause ≡ given-refusal
+  same_12 : {cause given_refusal : Refusal} → Says12 g cause → Says12 g given_refusal → cause ≡ given_refusal
   same_12 x y = cc (x.answer, y.answer, lowest_one x.lowest y.lowest)
 
-  same_13 : {cause given-refusal : Refusal} → Says13 g cause → Says13 g given-refusal → cause ≡ given-refusal
+  same_13 : {cause given_refusal : Refusal} → Says13 g cause → Says13 g given_refusal → cause ≡ given_refusal
   same_13 x y =
       let n : x.nonterminal ≡ y.nonterminal = lowest_one x.lowest y.lowest in
       let b : x.kind ≡ y.kind = names_one (rw n at x.shared) y.shared in

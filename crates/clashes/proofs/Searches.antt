@@ -101,19 +101,19 @@ pair_exactly test g = (pair_sound test g, λ r. pair_complete test r.apart r.pas
 
 -- ------------------------------------------------------------------ what all pairs give together
 
-with_seen : {A : Type 0} (set-of : A → ℕ) (g : List A) (found kind : ℕ)
-    → has_kind (join_with set-of g found) kind ≡ (has_kind found kind || any_with (λ q. has_kind (set-of q) kind) g)
+with_seen : {A : Type 0} (set_of : A → ℕ) (g : List A) (found kind : ℕ)
+    → has_kind (join_with set_of g found) kind ≡ (has_kind found kind || any_with (λ q. has_kind (set_of q) kind) g)
 unfolding join_with any_with
-with_seen set-of [] found kind = sym (or-false (has_kind found kind))
-with_seen set-of (q ∷ g) found kind =
-    rw (has_join found (set-of q) kind) at (with_seen set-of g (bit_or found (set-of q)) kind)
-    ∙ or_assoc (has_kind found kind) (has_kind (set-of q) kind) (any_with (λ r. has_kind (set-of r) kind) g)
+with_seen set_of [] found kind = sym (or-false (has_kind found kind))
+with_seen set_of (q ∷ g) found kind =
+    rw (has_join found (set_of q) kind) at (with_seen set_of g (bit_or found (set_of q)) kind)
+    ∙ or_assoc (has_kind found kind) (has_kind (set_of q) kind) (any_with (λ r. has_kind (set_of r) kind) g)
 
 -- a kind is in the join over all pairs if some pair gives it
-pub pairs_seen : {A : Type 0} (set-of : A → A → ℕ) (g : List A) (found kind : ℕ)
-    → has_kind (join_pairs set-of g found) kind ≡ (has_kind found kind || any_pair (λ p q. has_kind (set-of p q) kind) g)
+pub pairs_seen : {A : Type 0} (set_of : A → A → ℕ) (g : List A) (found kind : ℕ)
+    → has_kind (join_pairs set_of g found) kind ≡ (has_kind found kind || any_pair (λ p q. has_kind (set_of p q) kind) g)
 unfolding join_pairs any_pair
-pairs_seen set-of [] found kind = sym (or-false (has_kind found kind))
-pairs_seen set-of (p ∷ g) found kind =
-    rw (with_seen (set-of p) g found kind) at (pairs_seen set-of g (join_with (set-of p) g found) kind)
-    ∙ or_assoc (has_kind found kind) (any_with (λ q. has_kind (set-of p q) kind) g) (any_pair (λ q r. has_kind (set-of q r) kind) g)
+pairs_seen set_of [] found kind = sym (or-false (has_kind found kind))
+pairs_seen set_of (p ∷ g) found kind =
+    rw (with_seen (set_of p) g found kind) at (pairs_seen set_of g (join_with (set_of p) g found) kind)
+    ∙ or_assoc (has_kind found kind) (any_with (λ q. has_kind (set_of p q) kind) g) (any_pair (λ q r. has_kind (set_of q r) kind) g)

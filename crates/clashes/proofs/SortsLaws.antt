@@ -9,7 +9,7 @@ use native.Mathlib.Omega.{arith}
 use lib.Count.{count_trailing_zeros}
 use lib.Dec.{ltb}
 use borrow.Author.Tests.{lt-ltb, le-ltb, le-leb}
-use Rattle.spellings.proofs.BytesLaws.{by-test}
+use Rattle.spellings.proofs.BytesLaws.{by_test}
 use Rattle.answers.specs.Refusals.{refusal}
 use Rattle.answers.specs.Checked.{Checked, ok, bad, verdict}
 use Rattle.answers.specs.declared.Refusal.{Refusal}
@@ -63,7 +63,7 @@ module _ (g : List Production) (none : Each (λ (p : Production). places_first (
       or_right (given place_of (place_bit sort) (bit_of_all (place_bit sort) []) i) (rw ((null_item_exactly g i).1 n) (first_place f))
 
   no_sort : (p : Production) → places_first (nullables g) p.items ≡ 0 → place_sorts g p ≡ 0
-  no_sort p e = same_set (place_sorts g p) 0 (λ sort. by-test (has_kind (place_sorts g p) sort) (λ t. absurd (has sort t)) (λ t. t ∙ sym (has_none sort)))
+  no_sort p e = same_set (place_sorts g p) 0 (λ sort. by_test (has_kind (place_sorts g p) sort) (λ t. absurd (has sort t)) (λ t. t ∙ sym (has_none sort)))
     where
       has : (sort : ℕ) → has_kind (place_sorts g p) sort ≡ true → ⊥
       has sort t =
@@ -91,58 +91,58 @@ name_neither kinds sorts h l = rw (le-ltb 0 kinds h, le-ltb 0 sorts l, lowest_of
 
 -- ------------------------------------------------------------------ both rooms
 
-module _ {room : List ℕ} {below : ℕ} (places-are : PlacesBelow below room) where
+module _ {room : List ℕ} {below : ℕ} (places_are : PlacesBelow below room) where
   none_clashes : (number : ℕ) → below ≤ number → number < 64 → any_pair (clash_in room) (linked room (first_place_in room number)) ≡ false
   unfolding any_pair
-  none_clashes number h l = rw (places-are.none number h l, linked_none room 256 (omega arith)) refl
+  none_clashes number h l = rw (places_are.none number h l, linked_none room 256 (omega arith)) refl
 
   within : clashing_below below room < below → clashing_below below room ≡ clashing_in room
-  within h = lowest_within places-are.small none_clashes refl h
+  within h = lowest_within places_are.small none_clashes refl h
 
   beyond : below ≤ clashing_below below room → 64 ≡ clashing_in room
-  beyond h = lowest_beyond places-are.small none_clashes refl h
+  beyond h = lowest_beyond places_are.small none_clashes refl h
 
-module _ {room sorts : List ℕ} {below : ℕ} (places-are : PlacesBelowBoth below room sorts) {one other : ℕ} (one-is : one ≡ clashing_below below room)
-    (other-is : other ≡ clashing_below below sorts) {nonterminal : ℕ} (lower-is : nonterminal ≡ lower_of one other) where
+module _ {room sorts : List ℕ} {below : ℕ} (places_are : PlacesBelowBoth below room sorts) {one other : ℕ} (one_is : one ≡ clashing_below below room)
+    (other_is : other ≡ clashing_below below sorts) {nonterminal : ℕ} (lower_is : nonterminal ≡ lower_of one other) where
   one_within : one < below → one ≡ clashing_in room
-  one_within h = one-is ∙ within places-are.kinds_below (rw one-is at h)
+  one_within h = one_is ∙ within places_are.kinds_below (rw one_is at h)
 
   one_beyond : below ≤ one → 64 ≡ clashing_in room
-  one_beyond h = beyond places-are.kinds_below (rw one-is at h)
+  one_beyond h = beyond places_are.kinds_below (rw one_is at h)
 
   other_within : other < below → other ≡ clashing_in sorts
-  other_within h = other-is ∙ within places-are.sorts_below (rw other-is at h)
+  other_within h = other_is ∙ within places_are.sorts_below (rw other_is at h)
 
   other_beyond : below ≤ other → 64 ≡ clashing_in sorts
-  other_beyond h = beyond places-are.sorts_below (rw other-is at h)
+  other_beyond h = beyond places_are.sorts_below (rw other_is at h)
 
   small : below ≤ 64
-  small = places-are.kinds_below.small
+  small = places_are.kinds_below.small
 
   lower_within : nonterminal < below → nonterminal ≡ lower_of (clashing_in room) (clashing_in sorts)
   lower_within h = by (dec_lt one below) (dec_lt other below)
     where
       by : Dec (one < below) → Dec (other < below) → nonterminal ≡ lower_of (clashing_in room) (clashing_in sorts)
-      by (yes a) (yes b) = rw (← (one_within a), ← (other_within b)) lower-is
+      by (yes a) (yes b) = rw (← (one_within a), ← (other_within b)) lower_is
       by (yes a) (no b) =
           rw (← (one_within a), ← (other_beyond (omega arith)))
-          (lower-is ∙ lower_left one other (omega arith) ∙ sym (lower_left one 64 (omega (arith, small))))
+          (lower_is ∙ lower_left one other (omega arith) ∙ sym (lower_left one 64 (omega (arith, small))))
       by (no a) (yes b) =
           rw (← (one_beyond (omega arith)), ← (other_within b))
-          (lower-is ∙ lower_right one other (omega arith) ∙ sym (lower_right 64 other (omega (arith, small))))
+          (lower_is ∙ lower_right one other (omega arith) ∙ sym (lower_right 64 other (omega (arith, small))))
       by (no a) (no b) =
-          dite (dec_lt one other) (λ l. absurd (omega (arith, lower-is ∙ lower_left one other (omega arith))))
-          (λ l. absurd (omega (arith, lower-is ∙ lower_right one other (omega arith))))
+          dite (dec_lt one other) (λ l. absurd (omega (arith, lower_is ∙ lower_left one other (omega arith))))
+          (λ l. absurd (omega (arith, lower_is ∙ lower_right one other (omega arith))))
 
   lower_beyond : below ≤ nonterminal → 64 ≡ lower_of (clashing_in room) (clashing_in sorts)
   lower_beyond h = by (dec_lt one other)
     where
       by : Dec (one < other) → 64 ≡ lower_of (clashing_in room) (clashing_in sorts)
       by (yes l) =
-          let e : nonterminal ≡ one = lower-is ∙ lower_left one other (omega arith) in
+          let e : nonterminal ≡ one = lower_is ∙ lower_left one other (omega arith) in
           rw (← (one_beyond (omega arith)), ← (other_beyond (omega arith))) (sym (lower_left 64 64 (omega arith)))
       by (no l) =
-          let e : nonterminal ≡ other = lower-is ∙ lower_right one other (omega arith) in
+          let e : nonterminal ≡ other = lower_is ∙ lower_right one other (omega arith) in
           rw (← (one_beyond (omega arith)), ← (other_beyond (omega arith))) (sym (lower_left 64 64 (omega arith)))
 
   abbrev told : Bool → ℕ → Checked (Unit {0})

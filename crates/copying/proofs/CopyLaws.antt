@@ -9,7 +9,7 @@ use lib.Dec.{eqb}
 use lib.ListN.{length, get_or, drop, set, length-append, drop_of_length-le}
 use lib.Seq.{sets, drop-cons}
 use borrow.Author.Tests.{eq-eqb, ne_eqb, not-true}
-use Rattle.spellings.proofs.BytesLaws.{by-test}
+use Rattle.spellings.proofs.BytesLaws.{by_test}
 use Rattle.grammar.specs.Sorts.{constructor, arity, unit}
 use Rattle.grammar.specs.Table.{Template, Templates, outside_var, outside_label, none, more}
 use Rattle.grammar.specs.Table as Table
@@ -64,7 +64,7 @@ rows_at sort x rows e =
 -- what is neither a variable nor a row has no sort of rows
 pub no_row_sort : (sort x : ℕ) → is_row_at sort x ≡ false → is_variable_name x ≡ false → is_row_sort sort ≡ false
 no_row_sort sort x no_row other =
-    by-test (is_row_sort sort) (λ e. let row : is_row_at sort x ≡ true = rw (e, other) refl in absurd (true≢false (sym row ∙ no_row))) (λ e. e)
+    by_test (is_row_sort sort) (λ e. let row : is_row_at sort x ≡ true = rw (e, other) refl in absurd (true≢false (sym row ∙ no_row))) (λ e. e)
 
 -- a variable has the value at its place
 pub value_variable : (sort x : ℕ) (env : List ℕ) {value : ℕ} → x / name_base ≡ 4 → x % name_base < 16 → value ≡ get_or env (x % name_base) 0
@@ -349,16 +349,16 @@ module _ {text : List ℕ} {row : ℕ} {env : List ℕ} {made : ℕ} {cells₀ :
 
 -- a value that is a row hangs together
 pub text_hangs : {text : List ℕ} {most sort x : ℕ} {below : Bool} → below ≡ is_row_at sort x → below ≡ true → HangsAt text most sort x → Hangs text most x
-text_hangs told true-is hang = hang.row (sym told ∙ true-is)
+text_hangs told true_is hang = hang.row (sym told ∙ true_is)
 
 module _ {text : List ℕ} {sort x : ℕ} {env : List ℕ} {made : ℕ} {cells : List ℕ} {below : Bool} (told : below ≡ is_row_at sort x) where
   -- a text whose value is a row
-  module _ (true-is : below ≡ true) {r : ℕ} {cells' : List ℕ} (copies : CopiesRow text x env made cells r cells') where
+  module _ (true_is : below ≡ true) {r : ℕ} {cells' : List ℕ} (copies : CopiesRow text x env made cells r cells') where
     text_gives : (I : Input) (s : State) (M : List ℕ) (count depth : ℕ) → I.rows ≡ rows_lent (length cells) → Holds env count M → HangsAt text count sort x
         → (is_row_at sort x ≡ true → x < depth) → row_made s r cells' ≡ build (text_template depth text sort x) I M (with_made s made) cells
     text_gives I s M count depth e holds hang l =
-        copies.evaluates I s M count depth e holds (hang.row (sym told ∙ true-is)) (l (sym told ∙ true-is))
-        ∙ ap (λ t. build t I M (with_made s made) cells) (sym (rows_at sort x (λ q. row_template depth text q) (sym told ∙ true-is)))
+        copies.evaluates I s M count depth e holds (hang.row (sym told ∙ true_is)) (l (sym told ∙ true_is))
+        ∙ ap (λ t. build t I M (with_made s made) cells) (sym (rows_at sort x (λ q. row_template depth text q) (sym told ∙ true_is)))
 
     -- It gives its row.
     pub text_row : (r ≡ 0 → ⊥) → CopiesText text sort x env made cells (Made (r - 1) r) cells'

@@ -8,7 +8,7 @@ use lib.Dec.{eqb, leb, ltb}
 use lib.ListN.{length, get_or, set, length-set}
 use lib.Seq.{get_or-set_same, get_or-set_other}
 use borrow.Author.Tests.{eqb-true, eqb-false, ltb-true, leb-true, leb-false, le-leb, lt-leb, lt-ltb, le-ltb, not-true}
-use Rattle.spellings.proofs.BytesLaws.{by-test}
+use Rattle.spellings.proofs.BytesLaws.{by_test}
 use Rattle.grammar.proofs.ReaderLaws.{get_d_past}
 use Rattle.grammar.specs.Sorts.{constructor, constructor_signatures, var, binder, unit}
 use Rattle.grammar.specs.Table.{Template}
@@ -37,17 +37,17 @@ module _ (rows : ℕ → Template) where
   leaf_size : (sort x : ℕ) → is_row_sort sort ≡ false → rows_of (value_template sort rows x) ≡ 0
   unfolding rows_of
   leaf_size sort x no_row =
-      by-test (is_variable_name x) (λ e. ap rows_of (at_variable rows sort x e))
+      by_test (is_variable_name x) (λ e. ap rows_of (at_variable rows sort x e))
       (λ e.
-      by-test (eqb sort var || eqb sort binder) (λ f. ap rows_of (at_name rows sort x e no_row f))
+      by_test (eqb sort var || eqb sort binder) (λ f. ap rows_of (at_name rows sort x e no_row f))
       (λ f.
-      by-test (eqb sort unit) (λ g. ap rows_of (at_unit rows sort x e no_row f g)) (λ g. ap rows_of (at_plain rows sort x e no_row f g))))
+      by_test (eqb sort unit) (λ g. ap rows_of (at_unit rows sort x e no_row f g)) (λ g. ap rows_of (at_plain rows sort x e no_row f g))))
 
   -- a row, or a variable in its place, has its own
   place_size : (sort x : ℕ) → is_row_sort sort ≡ true → rows_of (value_template sort rows x) ≡ size_by x
   unfolding rows_of
   place_size sort x is_row =
-      by-test (is_variable_name x) (λ e. ap rows_of (at_variable rows sort x e) ∙ rw (e, size_by) refl)
+      by_test (is_variable_name x) (λ e. ap rows_of (at_variable rows sort x e) ∙ rw (e, size_by) refl)
       (λ e. ap rows_of (at_row rows sort x e is_row) ∙ rw (e, size_by) refl)
 
   module _ (text : List ℕ) (row : ℕ) where
@@ -153,7 +153,7 @@ module _ {text sizes : List ℕ} {row : ℕ} (sized : SizedBelow text sizes row)
   -- what stands before a row has its size in the room
   before_size : (depth x : ℕ) → row ≤ depth → is_before row x ≡ true → get_or sizes x 0 ≡ min size_cap (part_size depth text x)
   before_size depth x l e =
-      by-test (is_variable_name x) (λ t. variable_past text sizes depth x sized.few t)
+      by_test (is_variable_name x) (λ t. variable_past text sizes depth x sized.few t)
       (λ f.
       let less : x < row = ltb-true x row (rw f at e) in
       sized.each x depth less (omega arith) ∙ rw (f, part_size) refl)
@@ -184,7 +184,7 @@ module _ {text sizes : List ℕ} {row : ℕ} (sized : SizedBelow text sizes row)
         within = rw (length-set sizes row (below + 1)) (omega arith);
         each =
             λ q depth h d.
-            by-test (eqb q row) (λ k. let same : q ≡ row = eqb-true q row k in rw (same, get_or-set_same sizes row (below + 1) 0 l) (here depth (omega arith)))
+            by_test (eqb q row) (λ k. let same : q ≡ row = eqb-true q row k in rw (same, get_or-set_same sizes row (below + 1) 0 l) (here depth (omega arith)))
             (λ k.
             let other : q ≡ row → ⊥ = eqb-false q row k in
             rw (get_or-set_other sizes row q (below + 1) 0 other) (sized.each q depth (omega (arith, h, other)) d));
@@ -237,7 +237,7 @@ text_size text made sort x = rows_of (text_template made text sort x)
 pub leaf_small : (text : List ℕ) (made sort x : ℕ) {below : Bool} → below ≡ is_row_at sort x → below ≡ false → true ≡ is_small_text text made sort x
 unfolding rows_of
 leaf_small text made sort x told f =
-    by-test (is_variable_name x) (λ e. rw (e, value_template) refl)
+    by_test (is_variable_name x) (λ e. rw (e, value_template) refl)
     (λ e.
     let none : text_size text made sort x ≡ 0 = leaf_size (λ q. row_template made text q) sort x (no_row_sort sort x (sym told ∙ f) e) in
     sym (le-leb (text_size text made sort x) largest_term (omega arith)))
@@ -259,7 +259,7 @@ module _ (text : List ℕ) (sort x : ℕ) {below : Bool} (told : below ≡ is_ro
       let both = (and-eq-true_iff ordered (ltb x (length sizes₀))).0 t in
       let cut = (rows.sized both.0).each x (length sizes₀) (told_inside rows t) (ltb-true x (length sizes₀) both.1) in
       let same = text_size_lem (length sizes₀) in
-      by-test (is_small_text text (length sizes₀) sort x)
+      by_test (is_small_text text (length sizes₀) sort x)
       (λ f.
       let small : text_size text (length sizes₀) sort x ≤ largest_term = leb-true (text_size text (length sizes₀) sort x) largest_term f in
       le-leb size largest_term (omega arith) ∙ sym f)
@@ -273,7 +273,7 @@ module _ (text : List ℕ) (sort x : ℕ) {below : Bool} (told : below ≡ is_ro
       let no_variable = not-true (is_variable_name x) ((and-eq-true_iff (is_row_sort sort) (not (is_variable_name x))).0 (sym told ∙ is_row)).1 in
       let size : part_size made text x ≡ rows_of (row_template made text x) = rw (no_variable, part_size) refl in
       let same = text_size_lem made in
-      by-test (is_small_text text made sort x)
+      by_test (is_small_text text made sort x)
       (λ f.
       let small : text_size text made sort x ≤ largest_term = leb-true (text_size text made sort x) largest_term f in
       lt-ltb 0 left (omega arith) ∙ sym f)

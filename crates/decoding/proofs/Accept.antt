@@ -41,15 +41,15 @@ tests known ordered spelled room whole at s = do
   need whole 10 at
   ok s
 
-all_true : (first second third fourth fifth : Bool) (at : ℕ) (progress : Progress) (then-check : Progress → Checked (Unit {0}))
-    → (tests first second third fourth fifth at progress >>= then-check) ≡ ok tt
-    → (first ≡ true) × (second ≡ true) × (third ≡ true) × (fourth ≡ true) × (fifth ≡ true) × (then-check progress ≡ ok tt)
-all_true true true true true true at progress then-check h = (refl, refl, refl, refl, refl, h)
-all_true true true true true false at progress then-check h = absurd (subst⁻¹ Accepts h tt)
-all_true true true true false fifth at progress then-check h = absurd (subst⁻¹ Accepts h tt)
-all_true true true false fourth fifth at progress then-check h = absurd (subst⁻¹ Accepts h tt)
-all_true true false third fourth fifth at progress then-check h = absurd (subst⁻¹ Accepts h tt)
-all_true false second third fourth fifth at progress then-check h = absurd (subst⁻¹ Accepts h tt)
+all_true : (first second third fourth fifth : Bool) (at : ℕ) (progress : Progress) (then_check : Progress → Checked (Unit {0}))
+    → (tests first second third fourth fifth at progress >>= then_check) ≡ ok tt
+    → (first ≡ true) × (second ≡ true) × (third ≡ true) × (fourth ≡ true) × (fifth ≡ true) × (then_check progress ≡ ok tt)
+all_true true true true true true at progress then_check h = (refl, refl, refl, refl, refl, h)
+all_true true true true true false at progress then_check h = absurd (subst⁻¹ Accepts h tt)
+all_true true true true false fifth at progress then_check h = absurd (subst⁻¹ Accepts h tt)
+all_true true true false fourth fifth at progress then_check h = absurd (subst⁻¹ Accepts h tt)
+all_true true false third fourth fifth at progress then_check h = absurd (subst⁻¹ Accepts h tt)
+all_true false second third fourth fifth at progress then_check h = absurd (subst⁻¹ Accepts h tt)
 
 module _ (at tag : ℕ) (value : List ℕ) (fs : RawFields) (before : List Field) (progress : Progress) where
   -- A field that passes is accepted with what follows it.

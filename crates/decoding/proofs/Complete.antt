@@ -45,8 +45,8 @@ record Inside (last : ℕ) : Type 0 where
 -- is needed of that state is said.
 items_accepted : {is : List Item} → Each ItemWithin is → (before : List Field) (progress : Progress) → Inside progress.last
     → progress.items + length is ≤ most.items → (follow : List Field)
-    → ((passed-fields : List Field) (next : Progress) → Inside next.last → next.blocks ≡ progress.blocks → next.alternatives ≡ progress.alternatives
-    → Accepted passed-fields next follow) → Accepted before progress (items_then is follow)
+    → ((passed_fields : List Field) (next : Progress) → Inside next.last → next.blocks ≡ progress.blocks → next.alternatives ≡ progress.alternatives
+    → Accepted passed_fields next follow) → Accepted before progress (items_then is follow)
 unfolding items_then passed follows is_spelled has_room
 items_accepted each_none before progress i m follow c = c before progress i refl refl
 items_accepted (each_more {x} {xs} h t) before progress i m follow c =
@@ -62,8 +62,8 @@ items_accepted (each_more {x} {xs} h t) before progress i m follow c =
     (λ b t i e f. c b t i (omega arith) (omega arith)))
 
 result_accepted : {result : WrittenResult} → ResultWithin result → (before : List Field) (progress : Progress) → Inside progress.last → (follow : List Field)
-    → ((passed-fields : List Field) (next : Progress) → next.last ≡ 7 → next.blocks ≡ progress.blocks → next.alternatives ≡ progress.alternatives
-    → Accepted passed-fields next follow) → Accepted before progress (result_field result ∷ follow)
+    → ((passed_fields : List Field) (next : Progress) → next.last ≡ 7 → next.blocks ≡ progress.blocks → next.alternatives ≡ progress.alternatives
+    → Accepted passed_fields next follow) → Accepted before progress (result_field result ∷ follow)
 unfolding passed is_known is_spelled has_room
 result_accepted (template_within {t} w) before progress i follow c =
     and_then (record { known = refl; ordered = i.result; spelled = refl; room = refl; whole = result_whole w })
@@ -71,8 +71,8 @@ result_accepted (template_within {t} w) before progress i follow c =
 
 alternative_accepted : {alternative : WrittenAlternative} → AlternativeWithin alternative → (before : List Field) (progress : Progress)
     → follows 5 progress.last ≡ true → progress.alternatives < most.alternatives → (follow : List Field)
-    → ((passed-fields : List Field) (next : Progress) → next.last ≡ 7 → next.blocks ≡ progress.blocks → next.alternatives ≡ progress.alternatives + 1
-    → Accepted passed-fields next follow)
+    → ((passed_fields : List Field) (next : Progress) → next.last ≡ 7 → next.blocks ≡ progress.blocks → next.alternatives ≡ progress.alternatives + 1
+    → Accepted passed_fields next follow)
     → Accepted before progress (field 5 [] ∷ items_then alternative.items (result_field alternative.result ∷ follow))
 unfolding passed follows is_known is_spelled has_room is_whole
 alternative_accepted {alternative} w before progress f m follow c =
@@ -85,8 +85,8 @@ alternative_accepted {alternative} w before progress f m follow c =
 alternatives_accepted : {rest : List WrittenAlternative} → Each AlternativeWithin rest → (before : List Field) (progress : Progress)
     → follows 5 progress.last ≡ true → (length rest ≡ 0 → progress.last ≡ 7) → progress.alternatives + length rest ≤ most.alternatives
     → (follow : List Field)
-    → ((passed-fields : List Field) (next : Progress) → next.last ≡ 7 → next.blocks ≡ progress.blocks → next.alternatives
-    ≡ progress.alternatives + length rest → Accepted passed-fields next follow)
+    → ((passed_fields : List Field) (next : Progress) → next.last ≡ 7 → next.blocks ≡ progress.blocks → next.alternatives
+    ≡ progress.alternatives + length rest → Accepted passed_fields next follow)
     → Accepted before progress (alternatives_then rest follow)
 unfolding alternatives_then follows
 alternatives_accepted each_none before progress f z m follow c = c before progress (z refl) refl (omega arith)
@@ -108,8 +108,8 @@ closed_after last e = record { block = ap (follows 3) e; root = ap (follows 8) e
 
 definitions_accepted : {ds : List WrittenDefinition} → Each DefinitionWithin ds → (before : List Field) (progress : Progress)
     → follows 4 progress.last ≡ true → Closed progress.last → progress.alternatives + alternatives_of ds ≤ most.alternatives → (follow : List Field)
-    → ((passed-fields : List Field) (next : Progress) → Closed next.last → next.blocks ≡ progress.blocks → next.alternatives
-    ≡ progress.alternatives + alternatives_of ds → Accepted passed-fields next follow)
+    → ((passed_fields : List Field) (next : Progress) → Closed next.last → next.blocks ≡ progress.blocks → next.alternatives
+    ≡ progress.alternatives + alternatives_of ds → Accepted passed_fields next follow)
     → Accepted before progress (definitions_then ds follow)
 unfolding definitions_then alternatives_of passed follows is_spelled has_room is_whole
 definitions_accepted each_none before progress f n m follow c = c before progress n refl (omega arith)
@@ -144,8 +144,8 @@ module _ (root : ℕ) (below : root < most.nonterminals) where
 
 -- What follows the outside names is accepted where nothing of a block was counted.
 module _ (follow : List Field)
-    (accepts : (passed-fields : List Field) (progress : Progress) → Closed progress.last → progress.blocks ≡ 0 → progress.alternatives ≡ 0
-    → Accepted passed-fields progress follow) where
+    (accepts : (passed_fields : List Field) (progress : Progress) → Closed progress.last → progress.blocks ≡ 0 → progress.alternatives ≡ 0
+    → Accepted passed_fields progress follow) where
   outsides_accepted : (os : List (List ℕ)) (before : List Field) (progress : Progress) → Spelled is_word 2 before os
       → follows 2 progress.last ≡ true → Closed progress.last → progress.outsides + length os ≤ most.outsides → progress.blocks ≡ 0
       → progress.alternatives ≡ 0 → Accepted before progress (spellings_then 2 os follow)

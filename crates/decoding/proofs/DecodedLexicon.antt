@@ -9,7 +9,7 @@ use lib.ListN.{length}
 use lib.Seq.{take_all}
 use borrow.Author.Tests.{leb-true}
 use Rattle.answers.specs.Checked.{ok}
-use Rattle.spellings.proofs.BytesLaws.{by-test}
+use Rattle.spellings.proofs.BytesLaws.{by_test}
 use Rattle.grammar.specs.Limits.{most}
 use Rattle.grammar.specs.Written.{Written}
 use Rattle.grammar.specs.Values.{Field, field}
@@ -42,7 +42,7 @@ unfolding after_leading
 after_none tag (end at) e = refl
 after_none tag (cut at) e = refl
 after_none tag (next at t v fs) e =
-    by-test (eqb t tag) (λ h. let z : ◌≡◌ {A = ℕ} 0 1 = cc (leading_one tag at t v fs h) in absurd (omega arith))
+    by_test (eqb t tag) (λ h. let z : ◌≡◌ {A = ℕ} 0 1 = cc (leading_one tag at t v fs h) in absurd (omega arith))
     (λ h. after_not tag at t v fs h)
 
 -- ------------------------------------------------------------------ field by field

@@ -8,7 +8,7 @@ use lib.ListN.{length}
 use borrow.Author.Tests.{le-leb, leb-true}
 use Rattle.answers.specs.Refusals.{refusal}
 use Rattle.answers.specs.Checked.{Checked, ok, bad, ◌>>◌}
-use Rattle.spellings.proofs.BytesLaws.{by-test}
+use Rattle.spellings.proofs.BytesLaws.{by_test}
 use Rattle.grammar.specs.Written.{Written}
 use Rattle.grammar.specs.Encode.{field_bytes, table_fields, encode}
 use Rattle.grammar.specs.Fields.{fields_of}
@@ -35,7 +35,7 @@ layout_long bs e = rw (e, layout) refl
 -- A layout is right exactly if the table is not too long and its fields are accepted.
 pub layout_parts : (bs : List ℕ) → layout bs ≡ ok tt → (length bs ≤ most.bytes) × (check_fields (fields_of bs) [] initial_progress ≡ ok tt)
 layout_parts bs h =
-    by-test (leb (length bs) most.bytes) (λ e. (leb-true (length bs) most.bytes e, sym (layout_short bs e) ∙ h))
+    by_test (leb (length bs) most.bytes) (λ e. (leb-true (length bs) most.bytes e, sym (layout_short bs e) ∙ h))
     (λ e. absurd (subst⁻¹ Accepts (sym (layout_long bs e) ∙ h) tt))
 
 -- ------------------------------------------------------------------ decoding
@@ -76,5 +76,5 @@ decoded_encoding bs b table h =
     let one : found.0 ≡ table = same_value (sym (ap decode found.1 ∙ decode_encoded found.0 found.2) ∙ h) in
     (found.1 ∙ ap encode one, subst Within one found.2)
   where
-    same_value : {other other-table : Written} → ok other ≡ ok other-table → other ≡ other-table
+    same_value : {other other_table : Written} → ok other ≡ ok other_table → other ≡ other_table
     same_value e = cc

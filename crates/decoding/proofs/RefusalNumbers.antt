@@ -34,10 +34,10 @@ and_numbered : {A B : Type 0} (first : Checked A) (checked : Checked B) → Numb
 and_numbered (ok a) checked h k = k
 and_numbered (bad r) checked h k = h
 
-then_numbered : {A B : Type 0} (first : Checked A) (then-check : A → Checked B) → Numbered first → ((item : A) → Numbered (then-check item))
-    → Numbered (first >>= then-check)
-then_numbered (ok a) then-check h n = n a
-then_numbered (bad r) then-check h n = h
+then_numbered : {A B : Type 0} (first : Checked A) (then_check : A → Checked B) → Numbered first → ((item : A) → Numbered (then_check item))
+    → Numbered (first >>= then_check)
+then_numbered (ok a) then_check h n = n a
+then_numbered (bad r) then_check h n = h
 
 field_numbered : (before : List Field) (at tag : ℕ) (value : List ℕ) (progress : Progress) → Numbered (check_field before at tag value progress)
 unfolding check_field

@@ -9,7 +9,7 @@ use lib.ListN.{length, get_or, take, drop, length-append, length-drop, take-appe
 use lib.Seq.{drop-drop, take-append_seam, drop-append_seam, get_or-drop, length-take-le}
 use borrow.Author.Tests.{le-leb, leb-true, ne_eqb}
 pub use Rattle.spellings.specs.Alike.{Bytes}
-use Rattle.spellings.proofs.BytesLaws.{by-test}
+use Rattle.spellings.proofs.BytesLaws.{by_test}
 use Rattle.grammar.specs.Encode.{field_then, field_bytes}
 use Rattle.grammar.specs.Values.{Field, field}
 use Rattle.grammar.specs.Fields.{RawFields, end, cut, next, size_of, fields_from, fields_of}
@@ -125,7 +125,7 @@ split_uncut (suc fuel) at [] b h u = rw (from_end (suc fuel) at) refl
 split_uncut zero at (c ∷ cs) b h u = absurd (omega arith)
 split_uncut (suc fuel) at (c ∷ cs) b h u =
     let rest : List ℕ = c ∷ cs in
-    by-test (leb (3 + size_of rest) (length rest))
+    by_test (leb (3 + size_of rest) (length rest))
     (λ e.
     let l = leb-true (3 + size_of rest) (length rest) e in
     let next_is = from_next fuel at rest (λ z. omega arith) e in
@@ -146,7 +146,7 @@ split_values zero at rest b = rw (from_none at rest) tt
 split_values (suc fuel) at [] b = rw (from_end (suc fuel) at) tt
 split_values (suc fuel) at (c ∷ cs) b =
     let rest : List ℕ = c ∷ cs in
-    by-test (leb (3 + size_of rest) (length rest))
+    by_test (leb (3 + size_of rest) (length rest))
     (λ e.
     rw (from_next fuel at rest (λ z. omega arith) e) (
       taken_bytes (size_of rest) (drop 3 rest) (dropped_bytes 3 rest b),

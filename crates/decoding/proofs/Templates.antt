@@ -6,7 +6,7 @@ use mathlib.Core.List.{List, [], ◌∷◌}
 use native.Mathlib.Omega.{arith}
 use lib.Dec.{eqb, leb, ltb}
 use borrow.Author.Tests.{lt-ltb, le-ltb, ltb-true, le-leb, leb-true, ne_eqb, eqb-true}
-use Rattle.spellings.proofs.BytesLaws.{by-test}
+use Rattle.spellings.proofs.BytesLaws.{by_test}
 use Rattle.grammar.specs.Sorts.{arity}
 use Rattle.grammar.specs.SortTests.{is_constructor}
 use Rattle.grammar.specs.Table.{Template, Templates, make, none, more}
@@ -161,10 +161,10 @@ forms_constructed code l h bs (parsed ts) f = forms_applied code l h bs ts f (ta
 forms_byte : (byte : ℕ) (bs : List ℕ) (read : ReadTemplates) → Forms bs read → Forms (byte ∷ bs) (byte_in_front byte read)
 unfolding templates_then template_then
 forms_byte byte bs read f =
-    by-test (ltb byte 0x10)
+    by_test (ltb byte 0x10)
     (λ e.
     subst⁻¹ (Forms (byte ∷ bs)) (variable_first byte read e) (forms_front (variable_within (omega (arith, ltb-true byte 0x10 e))) bs read f))
-    (λ e. by-test (is_constructor byte)
+    (λ e. by_test (is_constructor byte)
     (λ c.
     let both = (and-eq-true_iff (leb 0x20 byte) (leb byte 0x27)).0 c in
     subst⁻¹ (Forms (byte ∷ bs)) (constructor_first byte read e c)
@@ -176,7 +176,7 @@ forms_name : (byte number : ℕ) (bs : List ℕ) (read : ReadTemplates) → is_n
     → Forms (byte ∷ number ∷ bs) (in_front (name_by (eqb byte 0x10) number) read)
 unfolding templates_then template_then
 forms_name byte number bs read e l f =
-    by-test (eqb byte 0x10)
+    by_test (eqb byte 0x10)
     (λ q. subst₂ (λ c t. Forms (c ∷ number ∷ bs) (in_front (name_by t number) read)) (sym (eqb-true byte 0x10 q)) (sym q)
     (forms_front (outside_within l) bs read f))
     (λ q.
@@ -189,10 +189,10 @@ pub forms : (bs : List ℕ) → Bytes bs → Forms bs (templates_of bs)
 unfolding templates_of templates_then
 forms [] h = (refl, none_within)
 forms (b ∷ []) h =
-    by-test (is_name_tag b) (λ e. subst⁻¹ (Forms (b ∷ [])) (name_last b e) tt)
+    by_test (is_name_tag b) (λ e. subst⁻¹ (Forms (b ∷ [])) (name_last b e) tt)
     (λ e. subst⁻¹ (Forms (b ∷ [])) (byte_first b [] e) (forms_byte b [] (parsed none) (refl, none_within)))
 forms (b ∷ n ∷ bs) h =
-    by-test (is_name_tag b)
+    by_test (is_name_tag b)
     (λ e.
     subst⁻¹ (Forms (b ∷ n ∷ bs)) (name_first b n bs e)
     (forms_name b n bs (templates_of bs) e (h 1) (forms bs (λ i. h (suc (suc i))))))

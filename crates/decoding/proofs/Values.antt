@@ -220,9 +220,9 @@ two (a ∷ []) e = absurd (false≢true e)
 two (a ∷ b ∷ value) e = refl
 
 -- kind and operand, and no more
-operand : (value : List ℕ) (kind operand-byte : ℕ) → eqb (get_or value 0 0) kind ≡ true → eqb (length value) 2 ≡ true → get_or value 1 0 ≡ operand-byte
-    → value ≡ kind ∷ operand-byte ∷ []
-operand value kind operand-byte k l e = cc (pair value l, eqb-true (get_or value 0 0) kind k)
+operand : (value : List ℕ) (kind operand_byte : ℕ) → eqb (get_or value 0 0) kind ≡ true → eqb (length value) 2 ≡ true → get_or value 1 0 ≡ operand_byte
+    → value ≡ kind ∷ operand_byte ∷ []
+operand value kind operand_byte k l e = cc (pair value l, eqb-true (get_or value 0 0) kind k)
 
 -- the tests of an item's value, kind by kind
 module _ (value : List ℕ) where

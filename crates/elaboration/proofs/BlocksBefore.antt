@@ -10,7 +10,7 @@ use Rattle.judgements.specs.Sizes.{definitions_size, blocks_size}
 use Rattle.judgements.specs.Scopes.{Scope}
 use Rattle.judgements.specs.CheckSorts.{collect}
 use Rattle.judgements.proofs.Accepting.{passes}
-use Rattle.judgements.proofs.HeadSorts.{rule-collect}
+use Rattle.judgements.proofs.HeadSorts.{rule_collect}
 use Rattle.elaboration.specs.Contexts.{Before, scope_after}
 use Rattle.elaboration.specs.CheckSequence.{none_yet, check_bodies, check_blocks}
 use Rattle.elaboration.specs.Elaboration.{Sequence, no_grammar, by_grammar}
@@ -26,7 +26,7 @@ unfolding check_blocks blocks_size
 carried behind right at each_none no_grammar = rw (add-zero at) refl
 carried behind {P} right at (each_more w ws) (by_grammar {own = own} {g = g} {h = block} {gs = gs} {used = used} d o s) =
     let G : Scope = scope_after P own in
-    let heads : collect P.env [] (at + 3) g ≡ _ = passes (collect P.env [] (at + 3) g) (rule-collect P.env _ (at + 3) d refl) in
+    let heads : collect P.env [] (at + 3) g ≡ _ = passes (collect P.env [] (at + 3) g) (rule_collect P.env _ (at + 3) d refl) in
     let bodies : check_bodies G P (none_yet P.used) (at + 3) g ≡ _
     = passes (check_bodies G P (none_yet P.used) (at + 3) g)
     (rule_ok P right own (declared_behind d w right.declared) _ (none_yet P.used) (at + 3) w o refl) in

@@ -7,7 +7,7 @@ use native.Mathlib.Omega.{arith}
 use lib.Dec.{eqb}
 use lib.ListN.{length, get_or, length-append}
 use borrow.Author.Tests.{eqb-true, eqb-false}
-use Rattle.spellings.proofs.BytesLaws.{by-test}
+use Rattle.spellings.proofs.BytesLaws.{by_test}
 use Rattle.grammar.specs.Limits.{most}
 use Rattle.grammar.specs.Sorts.{Signature}
 use Rattle.grammar.specs.Table.{Template, Item, Mode, add, extend, update}
@@ -65,7 +65,7 @@ newest_append (absent_entry d h) k = newest_later d (newest_append h k)
 entry_more : (definition : WrittenDefinition) (E : Env) → ((S : Signature) → Newest E definition.nonterminal S → definition.signature ≡ S)
     → More E (entry_of definition ∷ E)
 entry_more definition E same n S h =
-    by-test (eqb definition.nonterminal n)
+    by_test (eqb definition.nonterminal n)
     (λ e.
     let q : definition.nonterminal ≡ n = eqb-true definition.nonterminal n e in
     let r : Newest (entry_of definition ∷ E) definition.nonterminal S = rw (← (same S (rw q h))) newest_first in

@@ -18,7 +18,7 @@ use Rattle.judgements.specs.CheckSorts.{is_defined, signature_of, is_unused, is_
 use Rattle.judgements.specs.CheckSorts.{check_item, check_items}
 use Rattle.judgements.specs.Scopes.{Env, Scope, entry_of}
 use Rattle.elaboration.specs.Contexts.{Before, at_first, behind_block, scope_after}
-use Rattle.elaboration.specs.CheckSequence.{Elaborated, none_yet, and_then, check_result, check_alternative, checkAlternatives, check_bodies, check_blocks}
+use Rattle.elaboration.specs.CheckSequence.{Elaborated, none_yet, and_then, check_result, check_alternative, check_alternatives, check_bodies, check_blocks}
 use Rattle.elaboration.specs.CheckSequence.{check_root, check_sorts}
 
 -- one of the four numbers; b and c are 0
@@ -33,9 +33,9 @@ data Sort {A : Type 0} : Checked A → Type 0 where
 refused : {A : Type 0} {refusal : Refusal} → Sort {A = A} (bad refusal) → IsSortRefusal refusal
 refused (one h) = h
 
-need_sort : (test : Bool) (cause-number at : ℕ) → Memᴰ cause-number (7 ∷ 8 ∷ 9 ∷ 11 ∷ []) → Sort (need test cause-number at)
-need_sort true cause-number at m = none
-need_sort false cause-number at m = one (m, refl, refl)
+need_sort : (test : Bool) (cause_number at : ℕ) → Memᴰ cause_number (7 ∷ 8 ∷ 9 ∷ 11 ∷ []) → Sort (need test cause_number at)
+need_sort true cause_number at m = none
+need_sort false cause_number at m = one (m, refl, refl)
 
 need_7 : (test : Bool) (at : ℕ) → Sort (need test 7 at)
 need_7 test at = need_sort test 7 at (Memᴰ.head refl)
@@ -50,13 +50,13 @@ need_11 : (test : Bool) (at : ℕ) → Sort (need test 11 at)
 need_11 test at = need_sort test 11 at (Memᴰ.tail (Memᴰ.tail (Memᴰ.tail (Memᴰ.head refl))))
 
 module _ {A B : Type 0} where
-  bind : (first : Checked A) (then-check : A → Checked B) → Sort first → ((item : A) → Sort (then-check item)) → Sort (first >>= then-check)
-  bind (ok a) then-check h f = f a
-  bind (bad r) then-check (one h) f = one h
+  bind : (first : Checked A) (then_check : A → Checked B) → Sort first → ((item : A) → Sort (then_check item)) → Sort (first >>= then_check)
+  bind (ok a) then_check h f = f a
+  bind (bad r) then_check (one h) f = one h
 
-  after : (first : Checked A) (then-check : Checked B) → Sort first → Sort then-check → Sort (first >> then-check)
-  after (ok a) then-check h f = f
-  after (bad r) then-check (one h) f = one h
+  after : (first : Checked A) (then_check : Checked B) → Sort first → Sort then_check → Sort (first >> then_check)
+  after (ok a) then_check h f = f
+  after (bad r) then_check (one h) f = one h
 
 -- 9 before 11 at one place
 needs_sort : (first second : Bool) (at : ℕ) → Sort (need first 9 at >> need second 11 at)
@@ -96,8 +96,8 @@ module _ (scope : Scope) where
     result_sort L B used at (template t) w = after _ (ok _) (needs_sort (is_closed t scope (length L)) (is_sorted t L && fits (sort_of t L) B) at) none
 
     alternatives_sort : (S : Signature) (done : Elaborated (List Alternative)) (at : ℕ) (choices : List WrittenAlternative)
-        → Each AlternativeWithin choices → Sort (checkAlternatives scope before S done at choices)
-    unfolding checkAlternatives check_alternative
+        → Each AlternativeWithin choices → Sort (check_alternatives scope before S done at choices)
+    unfolding check_alternatives check_alternative
     alternatives_sort S done at [] each_none = none
     alternatives_sort S done at (a ∷ rest) (each_more w ws) =
         bind _ _

@@ -15,47 +15,47 @@ use Rattle.judgements.specs.Sizes.{spellings_size, definitions_size, blocks_size
 use Rattle.judgements.specs.CheckSorts.{is_defined, signature_of, collect}
 use Rattle.judgements.specs.Scopes.{Env, Scope}
 use Rattle.judgements.specs.Judgements.{Newest}
-use Rattle.judgements.proofs.Accepting.{Accepts, needs_passed, needs-passes, bind_passed, bind_passes, then_passed, then_passes}
+use Rattle.judgements.proofs.Accepting.{Accepts, needs_passed, needs_passes, bind_passed, bind_passes, then_passed, then_passes}
 use Rattle.judgements.proofs.Environments.{defined_newest, newest_defined, newest_signature}
 use Rattle.judgements.proofs.TemplateSorts.{both, pair}
-use Rattle.judgements.proofs.HeadSorts.{collect-rule, rule-collect}
+use Rattle.judgements.proofs.HeadSorts.{collect_rule, rule_collect}
 use Rattle.elaboration.specs.Contexts.{Before, at_first, scope_after}
 use Rattle.elaboration.specs.CheckSequence.{none_yet, check_bodies, check_blocks, check_root, check_sorts}
 use Rattle.elaboration.specs.Elaboration.{Sequence, no_grammar, by_grammar, Elaborates}
 use Rattle.elaboration.proofs.Ranges.{DefinitionFine, TableFine}
 use Rattle.elaboration.proofs.Normalizing.{declared_behind}
 use Rattle.elaboration.proofs.Rightness.{Right, right_first, right_behind}
-use Rattle.elaboration.proofs.ResultSorts.{ok-rule, rule_ok}
+use Rattle.elaboration.proofs.ResultSorts.{ok_rule, rule_ok}
 
 -- ------------------------------------------------------------------ ⊢ gseq ⇒ E
 
 module _ (P : Before → Type 0) where
-  sequence-rule :
+  sequence_rule :
       {before : Before} → Right before → (at : ℕ) (gs : List (List WrittenDefinition)) → Each (Each DefinitionFine) gs
       → Accepts (check_blocks before at gs) P → (last : Before) × Sequence before gs last × P last
   unfolding check_blocks
-  sequence-rule {before} right at [] each_none h = (before, no_grammar, h)
-  sequence-rule {before} right at (g ∷ gs) (each_more w ws) h =
-      let (own, d, p) = collect-rule before.env _ [] (at + 3) g (bind_passed P (collect before.env [] (at + 3) g) _ h) in
+  sequence_rule {before} right at [] each_none h = (before, no_grammar, h)
+  sequence_rule {before} right at (g ∷ gs) (each_more w ws) h =
+      let (own, d, p) = collect_rule before.env _ [] (at + 3) g (bind_passed P (collect before.env [] (at + 3) g) _ h) in
       let G : Scope = scope_after before own in
-      let (block, used, o, q) = ok-rule before right own (declared_behind d w right.declared) _ (none_yet before.used) (at + 3) g w
+      let (block, used, o, q) = ok_rule before right own (declared_behind d w right.declared) _ (none_yet before.used) (at + 3) g w
       (bind_passed P (check_bodies G before (none_yet before.used) (at + 3) g) _ p) in
-      let (last, s, r) = sequence-rule (right_behind right d o w) (at + 3 + definitions_size g) gs ws q in
+      let (last, s, r) = sequence_rule (right_behind right d o w) (at + 3 + definitions_size g) gs ws q in
       (last, by_grammar d o s, r)
 
-  rule-sequence :
+  rule_sequence :
       {before : Before} → Right before → (at : ℕ) {last : Before} {gs : List (List WrittenDefinition)} → Each (Each DefinitionFine) gs
       → Sequence before gs last → P last
       → Accepts (check_blocks before at gs) P
   unfolding check_blocks
-  rule-sequence right at each_none no_grammar p = p
-  rule-sequence {before} right at (each_more w ws) (by_grammar {own = own} {g = g} {h = block} {used = used} d o s) p =
+  rule_sequence right at each_none no_grammar p = p
+  rule_sequence {before} right at (each_more w ws) (by_grammar {own = own} {g = g} {h = block} {used = used} d o s) p =
       let G : Scope = scope_after before own in
       bind_passes P (collect before.env [] (at + 3) g) _
-      (rule-collect before.env _ (at + 3) d
+      (rule_collect before.env _ (at + 3) d
       (bind_passes P (check_bodies G before (none_yet before.used) (at + 3) g) _
       (rule_ok before right own (declared_behind d w right.declared) _ (none_yet before.used) (at + 3) w o
-      (rule-sequence (right_behind right d o w) (at + 3 + definitions_size g) ws s p))))
+      (rule_sequence (right_behind right d o w) (at + 3 + definitions_size g) ws s p))))
 
 -- ------------------------------------------------------------------ the root
 
@@ -94,7 +94,7 @@ unfolding check_root
 rule_root P E at root r p =
     let S : Signature = signature_of E root in
     let e : S ≡ r.signature = newest_signature r.defined in
-    needs-passes (is_defined E root) (eqb (length S.params) 0 && eqb S.result term) 9 11 at P (newest_defined r.defined)
+    needs_passes (is_defined E root) (eqb (length S.params) 0 && eqb S.result term) 9 11 at P (newest_defined r.defined)
     (pair (eqb (length S.params) 0) (eqb S.result term)
     (eq-eqb (length S.params) 0 (cc r.without))
     (eq-eqb S.result term (cc r.of_term)))
@@ -111,7 +111,7 @@ module _ (P : Table → Type 0) (table : Written) where
   pub table_rule : TableFine table → Accepts (check_sorts table) P → (made : Table) × Elaborates table made × P made
   unfolding check_sorts
   table_rule w h =
-      let (last, s, q) = sequence-rule _ (right_first w) _ table.blocks w.blocks (bind_passed P (check_blocks (at_first table) _ table.blocks) _ h) in
+      let (last, s, q) = sequence_rule _ (right_first w) _ table.blocks w.blocks (bind_passed P (check_blocks (at_first table) _ table.blocks) _ h) in
       let (r, p) = root_rule _ last.env root_place table.root (then_passed P (check_root last.env root_place table.root) _ q) in (
         record { keywords = table.keywords; outsides = table.outsides; blocks = last.blocks; root = table.root },
         record {
@@ -136,7 +136,7 @@ module _ (P : Table → Type 0) (table : Written) where
       let whole : made ≡ record { keywords = table.keywords; outsides = table.outsides; blocks = e.last.blocks; root = table.root }
       = rw (← e.same_keywords, ← e.same_outsides, ← e.same_blocks, ← e.same_root) refl in
       bind_passes P (check_blocks (at_first table) _ table.blocks) _
-      (rule-sequence _ (right_first w) _ w.blocks e.sequence
+      (rule_sequence _ (right_first w) _ w.blocks e.sequence
       (then_passes P (check_root e.last.env root_place table.root) _
       (rule_root _ e.last.env root_place table.root
       (record { signature = e.signature; defined = rw e.same_root at e.defined; without = e.without; of_term = e.of_term })

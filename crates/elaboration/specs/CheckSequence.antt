@@ -55,18 +55,18 @@ check_alternative G P S used at a =
     >>= λ r. ok (record { value = record { items = a.items; result = r.template }; used = r.used })
 
 -- `done` has what was checked before
-unfoldable pub checkAlternatives :
+unfoldable pub check_alternatives :
     Scope → Before → Signature → Elaborated (List Alternative) → ℕ → List WrittenAlternative → Checked (Elaborated (List Alternative))
-checkAlternatives G P S done at [] = ok done
-checkAlternatives G P S done at (a ∷ rest) =
-    check_alternative G P S done.used at a >>= λ b. checkAlternatives G P S (and_then done b.value b.used) (at + alternative_size a) rest
+check_alternatives G P S done at [] = ok done
+check_alternatives G P S done at (a ∷ rest) =
+    check_alternative G P S done.used at a >>= λ b. check_alternatives G P S (and_then done b.value b.used) (at + alternative_size a) rest
 
 -- ------------------------------------------------------------------ E ⊢ g ok, and ⊢ gseq ⇒ E
 
 unfoldable pub check_bodies : Scope → Before → Elaborated (List Definition) → ℕ → List WrittenDefinition → Checked (Elaborated (List Definition))
 check_bodies G P done at [] = ok done
 check_bodies G P done at (d ∷ ds) =
-    checkAlternatives G P d.signature (none_yet done.used) (at + field_size (head_value d)) d.alternatives
+    check_alternatives G P d.signature (none_yet done.used) (at + field_size (head_value d)) d.alternatives
     >>= λ e. check_bodies G P (and_then done (with_alternatives d e.value) e.used) (at + definition_size d) ds
 
 -- what stands behind the blocks

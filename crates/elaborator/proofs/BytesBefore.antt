@@ -7,7 +7,7 @@ use native.Mathlib.Omega.{arith}
 use lib.Dec.{eqb}
 use lib.ListN.{length, get_or, take, drop, length-take}
 use borrow.Author.Tests.{eq-eqb, ne_eqb, eqb-true}
-use Rattle.spellings.proofs.BytesLaws.{by-test}
+use Rattle.spellings.proofs.BytesLaws.{by_test}
 use Rattle.grammar.specs.Limits.{most}
 use Rattle.grammar.specs.Fields.{RawFields, end, cut, next, fields_of}
 use Rattle.grammar.specs.Lookup.{leading, after_leading, lexicon_of}
@@ -42,8 +42,8 @@ body_before block (cut at) h = refl
 body_before block (next at tag v fs) h =
     let rest = body_before block fs in
     let whole : Bool = is_templates (templates_of (drop 2 v)) in
-    by-test (eqb at block) (λ e. rw (e, fields_before) refl)
-    (λ e. by-test (eqb tag 6)
+    by_test (eqb at block) (λ e. rw (e, fields_before) refl)
+    (λ e. by_test (eqb tag 6)
     (λ s. let both : (whole && whole_body fs) ≡ true = rw (s, whole_body) at h in
     rw (e, fields_before, s, whole_body, and_left whole (whole_body fs) both) (rest (and_right whole (whole_body fs) both)))
     (λ s. rw (e, fields_before, s, whole_body) (rw (s, whole_body) at h)))
@@ -55,7 +55,7 @@ whole_before block (cut at) w = tt
 whole_before block (next at tag v fs) w =
     let rest = whole_before block fs w.2 in
     let here = body_before block (next at tag v fs) w.1 in
-    by-test (eqb at block) (λ e. rw (e, fields_before) tt)
+    by_test (eqb at block) (λ e. rw (e, fields_before) tt)
     (λ e. rw (e, fields_before) (w.0, rw (e, fields_before) at here, rest))
 
 fewer_before : (block : ℕ) (fs : RawFields) → alternative_fields (fields_before block fs) ≤ alternative_fields fs
@@ -64,8 +64,8 @@ fewer_before block (end at) = omega arith
 fewer_before block (cut at) = omega arith
 fewer_before block (next at tag v fs) =
     let rest = fewer_before block fs in
-    by-test (eqb at block) (λ e. rw (e, fields_before) (omega arith))
-    (λ e. by-test (eqb tag 5)
+    by_test (eqb at block) (λ e. rw (e, fields_before) (omega arith))
+    (λ e. by_test (eqb tag 5)
     (λ f. rw (e, fields_before, f, alternative_fields) (omega (arith, rest)))
     (λ f. rw (e, fields_before, f, alternative_fields) rest))
 
@@ -78,9 +78,9 @@ places_whole bs (end at) stand w nonterminal small ps each = each
 places_whole bs (cut at) stand w nonterminal small ps each = each
 places_whole bs (next at tag v fs) stand w nonterminal small ps each =
     let rest = places_whole bs fs stand.2 w.2 in
-    by-test (eqb tag 4)
+    by_test (eqb tag 4)
     (λ e. rw (e, places_by) (rest (get_or v 0 0) (w.0 (eqb-true tag 4 e)) _ (each_kept (mode_of (get_or v 1 0)) (get_or v 0 0) ps each)))
-    (λ e. by-test (eqb tag 5)
+    (λ e. by_test (eqb tag 5)
     (λ f. rw (e, f, places_by)
     (rest nonterminal small _
     (each_snoc each (record { small = small; inside = stand.0; whole = ap whole_body stand.1 ∙ first_whole fs w.2 }))))
@@ -94,14 +94,14 @@ leading_before block tag other block_here = rw (eq-eqb block block refl, fields_
 leading_before block tag other (block_later {at = at} {tag = t} {v = v} {fs = fs} l b) =
     let rest = leading_before block tag other b in
     let before : eqb at block ≡ false = ne_eqb at block (λ e. omega (arith, l, e)) in
-    by-test (eqb t tag) (λ e. rw (before, fields_before, e, leading) (ap (◌∷◌ v) rest)) (λ e. rw (before, fields_before, e, leading) refl)
+    by_test (eqb t tag) (λ e. rw (before, fields_before, e, leading) (ap (◌∷◌ v) rest)) (λ e. rw (before, fields_before, e, leading) refl)
 
 after_block : (block tag : ℕ) → (tag ≡ 3 → ⊥) → {fs : RawFields} → BlockAt block fs → BlockAt block (after_leading tag fs)
 unfolding after_leading
 after_block block tag other block_here = rw (ne_eqb 3 tag (λ e. other (sym e)), after_leading) block_here
 after_block block tag other (block_later {at = at} {tag = t} {v = v} {fs = fs} l b) =
     let rest = after_block block tag other b in
-    by-test (eqb t tag) (λ e. rw (e, after_leading) rest) (λ e. rw (e, after_leading) (block_later l b))
+    by_test (eqb t tag) (λ e. rw (e, after_leading) rest) (λ e. rw (e, after_leading) (block_later l b))
 
 after_before : (block tag : ℕ) → (tag ≡ 3 → ⊥) → {fs : RawFields} → BlockAt block fs
     → after_leading tag (fields_before block fs) ≡ fields_before block (after_leading tag fs)
@@ -111,7 +111,7 @@ after_before block tag other block_here =
 after_before block tag other (block_later {at = at} {tag = t} {v = v} {fs = fs} l b) =
     let rest = after_before block tag other b in
     let before : eqb at block ≡ false = ne_eqb at block (λ e. omega (arith, l, e)) in
-    by-test (eqb t tag) (λ e. rw (before, fields_before, e, after_leading) rest) (λ e. rw (e, after_leading, before, fields_before, e, after_leading) refl)
+    by_test (eqb t tag) (λ e. rw (before, fields_before, e, after_leading) rest) (λ e. rw (e, after_leading, before, fields_before, e, after_leading) refl)
 
 -- ------------------------------------------------------------------ the bytes before
 

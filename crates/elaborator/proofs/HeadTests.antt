@@ -17,21 +17,21 @@ use Rattle.elaborator.specs.TextHeads.{text_head}
 
 module _ (bs heads : List ℕ) (block nonterminal variables : ℕ) (text : List ℕ) {head : ℕ} (before : head ≡ head_before bs heads block nonterminal) where
   -- by its tests
-  head-by :
+  head_by :
       (defined few : Bool) → (ltb 0 head && dollars_below variables text) ≡ defined → leb (length (signature_at bs head)) 1 ≡ few
       → choose (choose (As (get_or (signature_at bs head) 0 0)) (Unsorted WrongSort) few) (Unsorted Undefined) defined
       ≡ text_head bs heads block nonterminal variables text
   unfolding text_head
-  head-by defined few d f = cc (before, d, f)
+  head_by defined few d f = cc (before, d, f)
 
   -- The blocks before do not define the nonterminal.
   pub head_undefined : head ≡ 0 → Unsorted Undefined ≡ text_head bs heads block nonterminal variables text
-  head_undefined z = head-by false _ (rw z refl) refl
+  head_undefined z = head_by false _ (rw z refl) refl
 
   module _ {named : Bool} (told : named ≡ dollars_below variables text) where
     -- Some `$` names no variable.
     pub head_unnamed : named ≡ false → Unsorted Undefined ≡ text_head bs heads block nonterminal variables text
-    head_unnamed f = head-by false _ (rw (sym told ∙ f) (and-false (ltb 0 head))) refl
+    head_unnamed f = head_by false _ (rw (sym told ∙ f) (and-false (ltb 0 head))) refl
 
     module _ (all : named ≡ true) (found : head ≡ 0 → ⊥) {signature : List ℕ} (signed : signature ≡ signature_at bs head) where
       defined : (ltb 0 head && dollars_below variables text) ≡ true
@@ -39,9 +39,9 @@ module _ (bs heads : List ℕ) (block nonterminal variables : ℕ) (text : List 
 
       -- It has parameters.
       pub head_parameters : 1 < length signature → Unsorted WrongSort ≡ text_head bs heads block nonterminal variables text
-      head_parameters l = head-by true false defined (rw (← signed) (lt-leb (length signature) 1 l))
+      head_parameters l = head_by true false defined (rw (← signed) (lt-leb (length signature) 1 l))
 
       -- Else it has a sort.
       pub head_sorted : length signature ≤ 1 → {sort : ℕ} → sort ≡ get_or signature 0 0 → As sort ≡ text_head bs heads block nonterminal variables text
       head_sorted l e =
-          ap As (e ∙ ap (λ s. get_or s 0 0) signed) ∙ head-by true true defined (rw (← signed) (le-leb (length signature) 1 l))
+          ap As (e ∙ ap (λ s. get_or s 0 0) signed) ∙ head_by true true defined (rw (← signed) (le-leb (length signature) 1 l))

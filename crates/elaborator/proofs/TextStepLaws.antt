@@ -8,7 +8,7 @@ use lib.ListN.{length, get_or, replicate}
 use Rattle.answers.specs.Checked.{Checked, ok, bad, ◌>>◌, need, verdict}
 use Rattle.answers.specs.declared.Verdict.{Verdict}
 use Rattle.answers.specs.declared.Verdict.TheVariants.{Passed}
-use Rattle.spellings.proofs.BytesLaws.{by-test}
+use Rattle.spellings.proofs.BytesLaws.{by_test}
 use Rattle.terms.specs.Cells.{columns}
 use Rattle.tokens.specs.Variables.{dollars_below}
 use Rattle.bodies.specs.declared.ItemSort.{ItemSort}
@@ -38,8 +38,8 @@ module _ (f : TextField) where
   by_head : text_step_at f ≡ behind_head (text_head_at f) f.at rest
   unfolding text_step_at text_head
   by_head =
-      by-test (ltb 0 (head_at f) && dollars_below (length f.sorts) f.text)
-      (λ n. by-test (leb (length (signature_at f.bytes (head_at f))) 1)
+      by_test (ltb 0 (head_at f) && dollars_below (length f.sorts) f.text)
+      (λ n. by_test (leb (length (signature_at f.bytes (head_at f))) 1)
       (λ p. rw (n, p, text_step_at, text_head) refl)
       (λ p. rw (n, p, text_step_at, text_head) refl))
       (λ n. rw (n, text_step_at, text_head) refl)

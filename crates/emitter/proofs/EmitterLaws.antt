@@ -16,7 +16,7 @@ use Rattle.answers.specs.declared.Verdict.TheVariants.{Passed, Refused}
 use Rattle.answers.specs.Refusals.{refusal}
 use Rattle.answers.specs.Checked.{Checked, ok, bad, verdict}
 use Rattle.spellings.specs.Buffers.{written_into}
-use Rattle.spellings.proofs.BytesLaws.{by-test}
+use Rattle.spellings.proofs.BytesLaws.{by_test}
 use Rattle.spellings.proofs.BuffersLaws.{written_fits, written_not}
 use Rattle.grammar.proofs.ReaderLaws.{get_d_past}
 use Rattle.terms.specs.Term as Term
@@ -166,8 +166,8 @@ verdict_ok : (checked : Checked (Unit {0})) → Passed ≡ verdict checked → c
 verdict_ok (ok u) e = refl
 verdict_ok (bad r) e = never (sym e)
 
-module _ {table formula words : List ℕ} {count : ℕ} {cells : List ℕ} {root size : ℕ} {marks marks' : List ℕ} {given-verdict : Verdict}
-    (given : Emittable table formula words count cells root) (lent : Markable cells root size marks) (judges : Judged cells root marks marks' given-verdict)
+module _ {table formula words : List ℕ} {count : ℕ} {cells : List ℕ} {root size : ℕ} {marks marks' : List ℕ} {given_verdict : Verdict}
+    (given : Emittable table formula words count cells root) (lent : Markable cells root size marks) (judges : Judged cells root marks marks' given_verdict)
   where
     abbrev spell : ℕ → List ℕ
     spell = spelled_by table formula words count
@@ -175,11 +175,11 @@ module _ {table formula words : List ℕ} {count : ℕ} {cells : List ℕ} {root
     abbrev T : Term Name
     T = term_of table formula words count cells root
 
-    judges_as : JudgedAs (rows_held cells) T marks' given-verdict
+    judges_as : JudgedAs (rows_held cells) T marks' given_verdict
     judges_as = judges.each spell given.distinct given.well_named
 
     -- what is judged refuses the term
-    pub emit_refused : (writing : Writing) (text list : List ℕ) {cause : Refusal} → given-verdict ≡ Refused cause
+    pub emit_refused : (writing : Writing) (text list : List ℕ) {cause : Refusal} → given_verdict ≡ Refused cause
         → Emits writing (rows_held cells) T text list (Refusing cause) text list
     emit_refused writing text list e =
         record {
@@ -190,13 +190,13 @@ module _ {table formula words : List ℕ} {count : ℕ} {cells : List ℕ} {root
         }
 
     -- a term that passes has a number for each of its constructors,
-    counted : given-verdict ≡ Passed → length marks' ≡ size_at cells (rows_held cells) root
+    counted : given_verdict ≡ Passed → length marks' ≡ size_at cells (rows_held cells) root
     counted e =
         let small = judges.small e in
         judges.long ∙ lent.marked (omega (arith, lent.sized)) ∙ omega (arith, lent.sized)
 
     -- can be printed,
-    pub emit_printable : given-verdict ≡ Passed → Printable table formula words count cells (rows_held cells) root marks'
+    pub emit_printable : given_verdict ≡ Passed → Printable table formula words count cells (rows_held cells) root marks'
     emit_printable e =
         record {
           few = given.few;
@@ -207,11 +207,11 @@ module _ {table formula words : List ℕ} {count : ℕ} {cells : List ℕ} {root
           small = omega (arith, counted e, judges.small e);
         }
 
-    passed_is : given-verdict ≡ Passed → judged (rows_held cells) T ≡ ok tt
+    passed_is : given_verdict ≡ Passed → judged (rows_held cells) T ≡ ok tt
     passed_is e = verdict_ok (judged (rows_held cells) T) (sym e ∙ judges_as.answer)
 
     -- and its text is written
-    pub emit_text : (text list : List ℕ) {text' : List ℕ} {answer : Answer} → given-verdict ≡ Passed → {writing : Writing} → writing ≡ Text
+    pub emit_text : (text list : List ℕ) {text' : List ℕ} {answer : Answer} → given_verdict ≡ Passed → {writing : Writing} → writing ≡ Text
         → fitted (rows_held cells) (length marks') (text_by spell cells marks' (rows_held cells) root) text ≡ leaves answer text'
         → Emits writing (rows_held cells) T text list answer text' list
     unfolding text_by
@@ -225,12 +225,12 @@ module _ {table formula words : List ℕ} {count : ℕ} {cells : List ℕ} {root
         })
 
     -- Its portions can be listed,
-    pub emit_portionable : given-verdict ≡ Passed → {writing : Writing} → Writable writing → (written wanted : ℕ) → writing ≡ Portions written wanted
+    pub emit_portionable : given_verdict ≡ Passed → {writing : Writing} → Writable writing → (written wanted : ℕ) → writing ≡ Portions written wanted
         → Portionable written wanted cells root
     emit_portionable e may written wanted is = record { counts = may.counts written wanted is; small = judges.small e }
 
     -- and are written
-    pub emit_portions : (text list : List ℕ) {list' : List ℕ} {answer : Answer} → given-verdict ≡ Passed → {writing : Writing} (written wanted : ℕ)
+    pub emit_portions : (text list : List ℕ) {list' : List ℕ} {answer : Answer} → given_verdict ≡ Passed → {writing : Writing} (written wanted : ℕ)
         → writing ≡ Portions written wanted
         → fitted (rows_held cells) size (entries_at written wanted cells (rows_held cells) root) list ≡ leaves answer list'
         → Emits writing (rows_held cells) T text list answer text list'
@@ -250,7 +250,7 @@ module _ {table formula words : List ℕ} {count : ℕ} {cells : List ℕ} {root
 -- the front of a room of zeros
 zeros_front : (count size place : ℕ) → get_or {A = ℕ} (take size (replicate count 0)) place 0 ≡ 0
 zeros_front count size place =
-    by-test (ltb place size)
+    by_test (ltb place size)
     (λ e. get_or-take {A = ℕ} size (replicate count 0) place 0 (ltb-true place size e) ∙ zeros count place)
     (λ e.
     get_d_past {A = ℕ} (take size (replicate count 0)) place 0

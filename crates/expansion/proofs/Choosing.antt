@@ -126,9 +126,9 @@ module _ (g : List Production) where
       record { kind = next_kind s; token = is_next s refl (first_small f); first = f }
 
   -- what a choice answers: the rule of the production taken, or that none is
-  pub data Picks (nonterminal : ℕ) (s : List Token) (given-choice : Choice) : Type 0 where
-    picks : (p : Production) → Taken g nonterminal s p → given-choice ≡ chosen (rule p) → Picks nonterminal s given-choice
-    picks_none : ((p : Production) → Taken g nonterminal s p → ⊥) → given-choice ≡ unfit → Picks nonterminal s given-choice
+  pub data Picks (nonterminal : ℕ) (s : List Token) (given_choice : Choice) : Type 0 where
+    picks : (p : Production) → Taken g nonterminal s p → given_choice ≡ chosen (rule p) → Picks nonterminal s given_choice
+    picks_none : ((p : Production) → Taken g nonterminal s p → ⊥) → given_choice ≡ unfit → Picks nonterminal s given_choice
 
   none_taken : {nonterminal : ℕ} {s : List Token} → Missing rule (λ p. refl) (λ r. has_kind r.first (next_kind s)) nonterminal
       (first_rule (λ r. r.nullable) nonterminal (map rule g) unfit) g

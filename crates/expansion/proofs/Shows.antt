@@ -126,11 +126,11 @@ shows_bound (show_more h hs) (bound_later b) = shows_bound hs b
 -- ------------------------------------------------------------------ names
 
 module _ (spell : ℕ → List ℕ) (number : ℕ) (small : number < name_base) where
-  class : (class-number : ℕ) → (class-number * name_base + number) / name_base ≡ class-number
-  class class-number = omega arith
+  class : (class_number : ℕ) → (class_number * name_base + number) / name_base ≡ class_number
+  class class_number = omega arith
 
-  number_of : (class-number : ℕ) → (class-number * name_base + number) % name_base ≡ number
-  number_of class-number = omega arith
+  number_of : (class_number : ℕ) → (class_number * name_base + number) % name_base ≡ number
+  number_of class_number = omega arith
 
   -- the number of a word is read as the word
   pub word_named : name_of spell (word_name number) ≡ word (spell number)
@@ -171,10 +171,10 @@ module _ (made : ℕ) (cells : List ℕ) {code : ℕ} {xs numbers : List ℕ} (r
   before_row place h =
       split place (omega arith) ∙ get_or-append front numbers 0 place (omega (arith, front_length)) ∙ get_or-take (made * columns) cells place 0 h
 
-  in_row : (column-number : ℕ) → column-number < columns
-      → get_or (with_row cells made numbers) (made * columns + column-number) 0 ≡ get_or numbers column-number 0
-  in_row column-number h =
-      cc (split (made * columns + column-number) (omega arith), front_length, get_or-append-add front numbers column-number 0)
+  in_row : (column_number : ℕ) → column_number < columns
+      → get_or (with_row cells made numbers) (made * columns + column_number) 0 ≡ get_or numbers column_number 0
+  in_row column_number h =
+      cc (split (made * columns + column_number) (omega arith), front_length, get_or-append-add front numbers column_number 0)
 
   -- one row more
   pub row_grown : IsCode code → Grown made cells (made + 1) (with_row cells made numbers)
@@ -193,9 +193,9 @@ module _ (made : ℕ) (cells : List ℕ) {code : ℕ} {xs numbers : List ℕ} (r
     old : Agree made cells cells'
     old = agree_trans (omega arith) (record { same = before_row }) same
 
-    at_column : (column-number : ℕ) → column-number < 4 → column cells' made column-number ≡ get_or (filled code xs) column-number 0
-    at_column column-number h =
-        same.same (made * columns + column-number) (omega arith) ∙ in_row column-number (omega arith) ∙ row.holds column-number h
+    at_column : (column_number : ℕ) → column_number < 4 → column cells' made column_number ≡ get_or (filled code xs) column_number 0
+    at_column column_number h =
+        same.same (made * columns + column_number) (omega arith) ∙ in_row column_number (omega arith) ∙ row.holds column_number h
 
     -- the term of the new row, by its constructor
     term_of : {constructed : Constructor} {t : Term Name} → constructor_of code ≡ constructed
@@ -214,23 +214,23 @@ module _ (made : ℕ) (cells : List ℕ) {code : ℕ} {xs numbers : List ℕ} (r
     fields_of_lem e h (suc depth) l = rw (at_column 0 (omega arith), e) (h depth (omega arith))
 
     -- a column of the new row that holds `number`, which shows an argument
-    name_in : {number : ℕ} {named : Name} (column-number : ℕ) → column-number < 4 → get_or (filled code xs) column-number 0 ≡ number
+    name_in : {number : ℕ} {named : Name} (column_number : ℕ) → column_number < 4 → get_or (filled code xs) column_number 0 ≡ number
         → name_of spell number ≡ named
-        → name_of spell (column cells' made column-number) ≡ named
-    name_in column-number h e n = ap (name_of spell) (at_column column-number h ∙ e) ∙ n
+        → name_of spell (column cells' made column_number) ≡ named
+    name_in column_number h e n = ap (name_of spell) (at_column column_number h ∙ e) ∙ n
 
-    label_in : {number : ℕ} (column-number : ℕ) → column-number < 4 → get_or (filled code xs) column-number 0 ≡ number
-        → spell (column cells' made column-number) ≡ spell number
-    label_in column-number h e = ap spell (at_column column-number h ∙ e)
+    label_in : {number : ℕ} (column_number : ℕ) → column_number < 4 → get_or (filled code xs) column_number 0 ≡ number
+        → spell (column cells' made column_number) ≡ spell number
+    label_in column_number h e = ap spell (at_column column_number h ∙ e)
 
-    term_in : {row : ℕ} {t : Term Name} (column-number : ℕ) → column-number < 4 → get_or (filled code xs) column-number 0 ≡ row
+    term_in : {row : ℕ} {t : Term Name} (column_number : ℕ) → column_number < 4 → get_or (filled code xs) column_number 0 ≡ row
         → ShowsTerm spell made cells row t
-        → (depth : ℕ) → made ≤ depth → term_at depth spell cells' (column cells' made column-number) ≡ t
-    term_in column-number h e s depth l = ap (term_at depth spell cells') (at_column column-number h ∙ e) ∙ s.read cells' old depth (omega arith)
+        → (depth : ℕ) → made ≤ depth → term_at depth spell cells' (column cells' made column_number) ≡ t
+    term_in column_number h e s depth l = ap (term_at depth spell cells') (at_column column_number h ∙ e) ∙ s.read cells' old depth (omega arith)
 
-    fields_in : {row : ℕ} {list : Fields Name} (column-number : ℕ) → column-number < 4 → get_or (filled code xs) column-number 0 ≡ row
-        → ShowsFields spell made cells row list → (depth : ℕ) → made ≤ depth → field_list_at depth spell cells' (column cells' made column-number) ≡ list
-    fields_in column-number h e s depth l = ap (field_list_at depth spell cells') (at_column column-number h ∙ e) ∙ s.read cells' old depth (omega arith)
+    fields_in : {row : ℕ} {list : Fields Name} (column_number : ℕ) → column_number < 4 → get_or (filled code xs) column_number 0 ≡ row
+        → ShowsFields spell made cells row list → (depth : ℕ) → made ≤ depth → field_list_at depth spell cells' (column cells' made column_number) ≡ list
+    fields_in column_number h e s depth l = ap (field_list_at depth spell cells') (at_column column_number h ∙ e) ∙ s.read cells' old depth (omega arith)
 
 -- the new row of a constructor over shown arguments shows what is constructed
 module _ (spell : ℕ → List ℕ) (made : ℕ) (cells numbers : List ℕ) (room : made * columns + columns ≤ length cells) where

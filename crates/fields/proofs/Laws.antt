@@ -34,12 +34,12 @@ fails {answer} e f = sym e ∙ not-true answer f
 -- ------------------------------------------------------------------ values
 
 -- a definition's head, by the test of its length and its first two bytes
-pub head-by :
+pub head_by :
     (value : List ℕ) {first second : ℕ} → first ≡ get_or value 0 0 → second ≡ get_or value 1 0 → (sized : Bool)
     → (leb 3 (length value) && leb (length value) (3 + most.parameters) && ltb first most.nonterminals && leb second 2) ≡ sized
     → (sized && every is_sort (drop 2 value)) ≡ is_head value
 unfolding is_head
-head-by value e f sized q =
+head_by value e f sized q =
     cc
 
 -- the test for a known tag, by the tests of the tag
@@ -92,11 +92,11 @@ module _ {tag : ℕ} (value : List ℕ) where
   known_root e = known_at e
 
   -- any other tag
-  pub known-none :
+  pub known_none :
       (((((((Unit {0} × (tag ≡ 1 → ⊥)) × (tag ≡ 2 → ⊥)) × (tag ≡ 3 → ⊥)) × (tag ≡ 4 → ⊥)) × (tag ≡ 5 → ⊥)) × (tag ≡ 6 → ⊥)) × (tag ≡ 7 → ⊥))
       × (tag ≡ 8 → ⊥) → false ≡ is_known tag value
   unfolding is_known known_tests
-  known-none ((((((((u, a), b), c), d), e), f), g), h) =
+  known_none ((((((((u, a), b), c), d), e), f), g), h) =
       sym
       (λ i. known_tests value (ne_eqb tag 1 a i) (ne_eqb tag 2 b i) (ne_eqb tag 3 c i) (ne_eqb tag 4 d i) (ne_eqb tag 5 e i) (ne_eqb tag 6 f i)
       (ne_eqb tag 7 g i) (ne_eqb tag 8 h i))
@@ -138,10 +138,10 @@ module _ {kind operand : ℕ} (value : List ℕ) (first : kind ≡ get_or value 
   item_call e = item_at e
 
   -- any other kind
-  pub item-none :
+  pub item_none :
       ((((Unit {0} × (kind ≡ 0 → ⊥)) × (kind ≡ 1 → ⊥)) × (kind ≡ 2 → ⊥)) × (kind ≡ 3 → ⊥)) × (kind ≡ 4 → ⊥) → false ≡ is_item value
   unfolding item_tests
-  item-none (((((u, a), b), c), d), e) =
+  item_none (((((u, a), b), c), d), e) =
       sym (λ i. item_tests (ne_eqb kind 0 a i) (ne_eqb kind 1 b i) (ne_eqb kind 2 c i) (ne_eqb kind 3 d i) (ne_eqb kind 4 e i)) ∙ item_at refl
 
 -- the bytes before `place` are sorts

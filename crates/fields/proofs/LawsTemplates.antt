@@ -8,7 +8,7 @@ use lib.Dec.{eqb, leb, ltb, leb-zero}
 use lib.ListN.{length, get_or, drop, length-drop, drop_of_length-le}
 use lib.Seq.{drop-drop}
 use borrow.Author.Tests.{le-leb, lt-leb, eq-eqb, ne_eqb, le-ltb, ltb-true, ltb-false, eqb-true, eqb-false, leb-true, leb-false}
-use Rattle.spellings.proofs.BytesLaws.{by-test}
+use Rattle.spellings.proofs.BytesLaws.{by_test}
 use Rattle.spellings.proofs.Loops.{drop_at_index}
 use Rattle.grammar.proofs.ReaderLaws.{arity_few}
 use Rattle.grammar.specs.Sorts.{arity}
@@ -63,7 +63,7 @@ low_byte byte h = cc (lt-leb 0x20 byte h)
 
 name_low : (byte : ℕ) → is_name_tag byte ≡ true → byte < 0x20
 name_low byte e =
-    by-test (eqb byte 0x10) (λ f. omega (arith, eqb-true byte 0x10 f))
+    by_test (eqb byte 0x10) (λ f. omega (arith, eqb-true byte 0x10 f))
     (λ f. omega (arith, eqb-true byte 0x11 (cc)))
 
 either : (left right third : Bool) → left ≡ right → (left || third) ≡ (right || third)
@@ -71,11 +71,11 @@ either left right third e = cc
 
 head_of : (byte : ℕ) → Head byte
 head_of byte =
-    by-test (is_name_tag byte) (λ e. name e (head_name byte e) (arguments_other byte (low_byte byte (name_low byte e))))
-    (λ e. by-test (ltb byte 0x10)
+    by_test (is_name_tag byte) (λ e. name e (head_name byte e) (arguments_other byte (low_byte byte (name_low byte e))))
+    (λ e. by_test (ltb byte 0x10)
     (λ f. leaf e f (head_byte byte e (either (ltb byte 0x10) true (is_constructor byte) f))
     (arguments_other byte (low_byte byte (omega (arith, ltb-true byte 0x10 f)))))
-    (λ f. by-test (is_constructor byte)
+    (λ f. by_test (is_constructor byte)
     (λ g. node e f g (head_byte byte e (either (ltb byte 0x10) false (is_constructor byte) f ∙ g)) (arguments_constructor byte g))
     (λ g. unknown e f g (head_unknown byte e (either (ltb byte 0x10) false (is_constructor byte) f ∙ g)))))
 
@@ -97,13 +97,13 @@ positive (suc number) f = omega arith
 
 eqb_iff : (left right below above : ℕ) → (left ≡ right → below ≡ above) → (below ≡ above → left ≡ right) → eqb left right ≡ eqb below above
 eqb_iff left right below above f g =
-    by-test (eqb left right) (λ e. e ∙ sym (eq-eqb below above (f (eqb-true left right e))))
+    by_test (eqb left right) (λ e. e ∙ sym (eq-eqb below above (f (eqb-true left right e))))
     (λ e. e ∙ sym (ne_eqb below above (λ q. eqb-false left right e (g q))))
 
 leb_iff : (left right below above : ℕ) → (left ≤ right → below ≤ above) → (below ≤ above → left ≤ right) → leb left right ≡ leb below above
 leb_iff left right below above f g =
-    by-test (leb left right) (λ e. e ∙ sym (le-leb below above (f (leb-true left right e))))
-    (λ e. e ∙ sym (by-test (leb below above) (λ q. absurd (omega (arith, g (leb-true below above q), leb-false left right e))) (λ q. q)))
+    by_test (leb left right) (λ e. e ∙ sym (le-leb below above (f (leb-true left right e))))
+    (λ e. e ∙ sym (by_test (leb below above) (λ q. absurd (omega (arith, g (leb-true below above q), leb-false left right e))) (λ q. q)))
 
 -- one template, made of `needed` of the `many` that follow, leaves one less due, and `needed` more
 makes_up_next : (single : Bool) (due needed many left : ℕ) → (single && eqb due 0) ≡ false → many ≡ needed + left
@@ -182,8 +182,8 @@ stops size left over = eqb size 0 || ltb left size || over
 
 stops_false : (size left : ℕ) (over : Bool) → stops size left over ≡ false → (0 < size) × (size ≤ left)
 stops_false size left over f =
-    by-test (eqb size 0) (λ e. absurd (true≢false (cc)))
-    (λ e. by-test (ltb left size) (λ g. absurd (true≢false (sym ((λ i. e i || g i || over)) ∙ f)))
+    by_test (eqb size 0) (λ e. absurd (true≢false (cc)))
+    (λ e. by_test (ltb left size) (λ g. absurd (true≢false (sym ((λ i. e i || g i || over)) ∙ f)))
     (λ g. (positive size (eqb-false size 0 e), ltb-false left size g)))
 
 -- a template of one byte before its arguments is not cut, nor one of two if another byte follows
@@ -250,7 +250,7 @@ meets_first false (parsed ts) = leb-zero (count ts)
 
 arguments_few : (byte : ℕ) → arguments byte ≤ 3
 arguments_few byte =
-    by-test (is_constructor byte) (λ e. omega (arith, arguments_constructor byte e, arity_few byte)) (λ e. omega (arith, arguments_other byte e))
+    by_test (is_constructor byte) (λ e. omega (arith, arguments_constructor byte e, arity_few byte)) (λ e. omega (arith, arguments_other byte e))
 
 -- after the bytes before `place`, what is left makes up for the templates due
 pub record Due (value : List ℕ) (from : ℕ) (single : Bool) (due place : ℕ) : Type 0 where
@@ -271,15 +271,15 @@ due_start value from single due e =
       rest = cc (meets_first single (templates_of (drop from value)));
     }
 
-module _ {value : List ℕ} {from : ℕ} {single : Bool} {due place : ℕ} (given-due : Due value from single due place) where
+module _ {value : List ℕ} {from : ℕ} {single : Bool} {due place : ℕ} (given_due : Due value from single due place) where
   -- at the end none may be due
   pub due_end : length value ≤ place → eqb due 0 ≡ is_wholly single (templates_of (drop from value))
   due_end h =
-      cc (meets_none single due, drop_of_length-le value h, given-due.rest)
+      cc (meets_none single due, drop_of_length-le value h, given_due.rest)
 
   module _ (below : place < length value) {size : ℕ} (hs : size ≡ head_size (get_or value place 0)) where
     front_is : meets single due (templates_of (get_or value place 0 ∷ drop (place + 1) value)) ≡ is_wholly single (templates_of (drop from value))
-    front_is = cc (drop_at_index value place below, given-due.rest)
+    front_is = cc (drop_at_index value place below, given_due.rest)
 
     left_is : (answer : Bool) → stops size (length value - place) (single && eqb due 0) ≡ answer
         → stops (head_size (get_or value place 0)) (suc (length (drop (place + 1) value))) (single && eqb due 0) ≡ answer
@@ -302,7 +302,7 @@ module _ {value : List ℕ} {from : ℕ} {single : Bool} {due place : ℕ} (give
         → Due value from single (less + more) (place + size)
     due_next f hl hm =
         record {
-          small = omega (arith, (due_room f).0, given-due.small, arguments_few (get_or value place 0));
+          small = omega (arith, (due_room f).0, given_due.small, arguments_few (get_or value place 0));
           rest =
               (λ j. meets single (hl j + hm j) (templates_of (rest-is j)))
               ∙ sym (next_by single due (get_or value place 0) (drop (place + 1) value) (head_of (get_or value place 0)) (left_is false f))

@@ -125,7 +125,7 @@ module _ (nulls : ℕ) (g : List Production) where
       by (no l) =
           absurd (false≢true (cc (get_or-eq_default {A = ℕ} sets 0 {n = nonterminal} (omega (arith, many)), has_none kind)))
 
-  module _ (own : Item → ℕ) {calls sets : List ℕ} (closed-below : ClosedBelow 64 (one_round call_of) (one_round call_of) calls calls)
+  module _ (own : Item → ℕ) {calls sets : List ℕ} (closed_below : ClosedBelow 64 (one_round call_of) (one_round call_of) calls calls)
       (other : ClosedBelow 64 (one_round call_of) (one_round own) calls sets) where
     closed_many : length sets ≡ 64
     closed_many = other.as_many ∙ length_over own nulls g (replicate 64 0) ∙ length-replicate {A = ℕ} 64 0
@@ -149,7 +149,7 @@ module _ (nulls : ℕ) (g : List Production) where
             let k = q.callee in
             let given = hs k q.in_it in
             let small = small_owner sets closed_many k kind given in
-            other.through caller k kind small (closed-below.kept caller k (admitted call_of caller k p o (q.stands small))) given)
+            other.through caller k kind small (closed_below.kept caller k (admitted call_of caller k p o (q.stands small))) given)
             (by_parts own nulls kind numbers p.items h)
 
     same_sets : sets ≡ sets_of own nulls g

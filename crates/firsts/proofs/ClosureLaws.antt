@@ -24,19 +24,19 @@ pub joined_by : (set more : ℕ) {test same_test : Bool} → test ≡ same_test 
     → joined_if answer set more ≡ joined_if same_test set more
 joined_by set more e f = cc
 
-module _ {callee caller : ℕ} {calls sets new : List ℕ} (callee-joined : CalleeJoined callee caller calls sets new) where
+module _ {callee caller : ℕ} {calls sets new : List ℕ} (callee_joined : CalleeJoined callee caller calls sets new) where
   joined_next : caller < length sets → {value : ℕ} → value ≡ with_callee calls sets callee caller
       → CalleeJoined callee (caller + 1) calls sets (set new caller value)
   joined_next h {value} e =
       record {
-        as_many = length-set new caller value ∙ callee-joined.as_many;
+        as_many = length-set new caller value ∙ callee_joined.as_many;
         done = λ i l. by i l (ℕ_discrete i caller);
-        left = λ i l. get_or-set_other new caller i value 0 (λ z. omega arith) ∙ callee-joined.left i (omega arith);
+        left = λ i l. get_or-set_other new caller i value 0 (λ z. omega arith) ∙ callee_joined.left i (omega arith);
       }
     where
       by : (place : ℕ) → place < caller + 1 → Dec (place ≡ caller) → get_or (set new caller value) place 0 ≡ with_callee calls sets callee place
-      by place l (yes z) = rw z (get_or-set_same new caller value 0 (omega (arith, callee-joined.as_many)) ∙ e)
-      by place l (no z) = get_or-set_other new caller place value 0 z ∙ callee-joined.done place (omega arith)
+      by place l (yes z) = rw z (get_or-set_same new caller value 0 (omega (arith, callee_joined.as_many)) ∙ e)
+      by place l (no z) = get_or-set_other new caller place value 0 z ∙ callee_joined.done place (omega arith)
 
 -- the nonterminals below `caller` of `many` are done
 pub record Taking (many callee caller : ℕ) (calls₀ kinds₀ calls kinds : List ℕ) : Type 0 where
@@ -57,11 +57,11 @@ taking_start callee {calls} {kinds} l =
 
 module _ {many callee caller : ℕ} {calls₀ kinds₀ calls kinds : List ℕ} (taking : Taking many callee caller calls₀ kinds₀ calls kinds) where
   -- the two sets of the next nonterminal, as the code computes them
-  pub taking_next : caller < many → {more-calls more-kinds : ℕ} → more-calls ≡ get_or calls₀ callee 0 → more-kinds ≡ get_or kinds₀ callee 0
-      → {joined-calls joined-kinds : ℕ} → joined-calls ≡ joined_if (has_kind (get_or calls caller 0) callee) (get_or calls caller 0) more-calls
-      → joined-kinds ≡ joined_if (has_kind (get_or calls caller 0) callee) (get_or kinds caller 0) more-kinds
-      → Taking many callee (caller + 1) calls₀ kinds₀ (set calls caller joined-calls) (set kinds caller joined-kinds)
-  taking_next h ec ek {joined-calls} {joined-kinds} ev ew =
+  pub taking_next : caller < many → {more_calls more_kinds : ℕ} → more_calls ≡ get_or calls₀ callee 0 → more_kinds ≡ get_or kinds₀ callee 0
+      → {joined_calls joined_kinds : ℕ} → joined_calls ≡ joined_if (has_kind (get_or calls caller 0) callee) (get_or calls caller 0) more_calls
+      → joined_kinds ≡ joined_if (has_kind (get_or calls caller 0) callee) (get_or kinds caller 0) more_kinds
+      → Taking many callee (caller + 1) calls₀ kinds₀ (set calls caller joined_calls) (set kinds caller joined_kinds)
+  taking_next h ec ek {joined_calls} {joined_kinds} ev ew =
       let l = taking.lent in
       let a = taking.taken.calls_joined in
       let x = taking.taken.kinds_joined in
@@ -71,8 +71,8 @@ module _ {many callee caller : ℕ} {calls₀ kinds₀ calls kinds : List ℕ} (
         lent =
             record {
               lent = record {
-                calls_many = length-set calls caller joined-calls ∙ l.lent.calls_many;
-                kinds_many = length-set kinds caller joined-kinds
+                calls_many = length-set calls caller joined_calls ∙ l.lent.calls_many;
+                kinds_many = length-set kinds caller joined_kinds
                     ∙ l.lent.kinds_many;
               };
               small = l.small;
@@ -115,24 +115,24 @@ no_set {many} {calls₀ = calls₀} {sets₀ = sets₀} c no_calls no-sets calle
 module _ {callee : ℕ} {calls₀ sets₀ calls sets : List ℕ} (calls' sets' : List ℕ)
     (came : (caller between : ℕ) → in_set_of calls' caller between ≡ true → (in_set_of calls caller between ≡ true)
     ⊎ ((in_set_of calls caller callee ≡ true) × (in_set_of calls callee between ≡ true)))
-    (came-sets : (caller kind : ℕ) → in_set_of sets' caller kind ≡ true → (in_set_of sets caller kind ≡ true)
+    (came_sets : (caller kind : ℕ) → in_set_of sets' caller kind ≡ true → (in_set_of sets caller kind ≡ true)
     ⊎ ((in_set_of calls caller callee ≡ true) × (in_set_of sets callee kind ≡ true)))
     (old : (caller kind : ℕ) → in_set_of sets caller kind ≡ true → in_set_of sets' caller kind ≡ true)
     (new : (caller kind : ℕ) → in_set_of calls caller callee ≡ true → in_set_of sets callee kind ≡ true → in_set_of sets' caller kind ≡ true)
-    (closed-below : ClosedBelow callee calls₀ calls₀ calls calls) (other : ClosedBelow callee calls₀ sets₀ calls sets) where
+    (closed_below : ClosedBelow callee calls₀ calls₀ calls calls) (other : ClosedBelow callee calls₀ sets₀ calls sets) where
   -- over `callee` itself
   over_last : (caller kind : ℕ) → in_set_of calls' caller callee ≡ true → in_set_of sets' callee kind ≡ true → in_set_of sets' caller kind ≡ true
-  over_last caller kind e f = new caller kind (⊎_elim (λ p. p) (λ p. p.0) (came caller callee e)) (⊎_elim (λ p. p) (λ p. p.1) (came-sets callee kind f))
+  over_last caller kind e f = new caller kind (⊎_elim (λ p. p) (λ p. p.0) (came caller callee e)) (⊎_elim (λ p. p) (λ p. p.1) (came_sets callee kind f))
 
   -- over an earlier callee `between`
   over_earlier : (caller between kind : ℕ) → between < callee → in_set_of calls' caller between ≡ true → in_set_of sets' between kind ≡ true
       → in_set_of sets' caller kind ≡ true
-  over_earlier caller between kind l e f = by (came caller between e) (came-sets between kind f)
+  over_earlier caller between kind l e f = by (came caller between e) (came_sets between kind f)
     where
       by : (in_set_of calls caller between ≡ true) ⊎ ((in_set_of calls caller callee ≡ true) × (in_set_of calls callee between ≡ true))
           → (in_set_of sets between kind ≡ true) ⊎ ((in_set_of calls between callee ≡ true) × (in_set_of sets callee kind ≡ true)) → in_set_of sets' caller kind ≡ true
       by (inl p) (inl q) = old caller kind (other.through caller between kind l p q)
-      by (inl p) (inr q) = new caller kind (closed-below.through caller between callee l p q.0) q.1
+      by (inl p) (inr q) = new caller kind (closed_below.through caller between callee l p q.0) q.1
       by (inr p) (inl q) = new caller kind p.0 (other.through callee between kind l p.1 q)
       by (inr p) (inr q) = new caller kind p.0 q.1
 
@@ -144,7 +144,7 @@ module _ {callee : ℕ} {calls₀ sets₀ calls sets : List ℕ} (calls' sets' :
         through = λ n j b l e f. by n j b l e f (dec_lt j callee);
         least = λ R S ra sx tr ts n b e.
             ⊎_elim (λ p. other.least R S ra sx tr ts n b p)
-            (λ p. ts n callee b (closed-below.least R R ra ra tr tr n callee p.0) (other.least R S ra sx tr ts callee b p.1)) (came-sets n b e);
+            (λ p. ts n callee b (closed_below.least R R ra ra tr tr n callee p.0) (other.least R S ra sx tr ts callee b p.1)) (came_sets n b e);
       }
     where
       by : (caller between kind : ℕ) → between < callee + 1 → in_set_of calls' caller between ≡ true → in_set_of sets' between kind ≡ true → Dec (between < callee)
@@ -153,7 +153,7 @@ module _ {callee : ℕ} {calls₀ sets₀ calls sets : List ℕ} (calls' sets' :
       by caller between kind l e f (no h) = let z : between ≡ callee = omega arith in over_last caller kind (rw (← z) e) (rw (← z) f)
 
 -- what the code's turn for `callee` does to one of the two arrays
-module _ {many callee : ℕ} {calls sets sets' : List ℕ} (callee-joined : CalleeJoined callee many calls sets sets')
+module _ {many callee : ℕ} {calls sets sets' : List ℕ} (callee_joined : CalleeJoined callee many calls sets sets')
     (none : (caller : ℕ) → in_set_of calls caller callee ≡ true → caller < many) where
   with_seen : (caller kind : ℕ)
       → has_kind (with_callee calls sets callee caller) kind ≡ (in_set_of sets caller kind || (in_set_of calls caller callee && in_set_of sets callee kind))
@@ -171,19 +171,19 @@ module _ {many callee : ℕ} {calls sets sets' : List ℕ} (callee-joined : Call
       by : Dec (caller < many) → (in_set_of sets caller kind ≡ true) ⊎ ((in_set_of calls caller callee ≡ true) × (in_set_of sets callee kind ≡ true))
       by (yes l) =
           ⊎_elim inl (λ p. inr ((and-eq-true_iff _ _).0 p))
-          (or_split (in_set_of sets caller kind) (cc (with_seen caller kind, callee-joined.done caller l)))
-      by (no l) = inl (cc (callee-joined.left caller (omega arith)))
+          (or_split (in_set_of sets caller kind) (cc (with_seen caller kind, callee_joined.done caller l)))
+      by (no l) = inl (cc (callee_joined.left caller (omega arith)))
 
   taken_old : (caller kind : ℕ) → in_set_of sets caller kind ≡ true → in_set_of sets' caller kind ≡ true
   taken_old caller kind e = by (dec_lt caller many)
     where
       by : Dec (caller < many) → in_set_of sets' caller kind ≡ true
-      by (yes l) = rw (callee-joined.done caller l) (with_seen caller kind ∙ or_left _ e)
-      by (no l) = rw (callee-joined.left caller (omega arith)) e
+      by (yes l) = rw (callee_joined.done caller l) (with_seen caller kind ∙ or_left _ e)
+      by (no l) = rw (callee_joined.left caller (omega arith)) e
 
   taken_new : (caller kind : ℕ) → in_set_of calls caller callee ≡ true → in_set_of sets callee kind ≡ true → in_set_of sets' caller kind ≡ true
   taken_new caller kind e f =
-      rw (callee-joined.done caller (none caller e)) (with_seen caller kind ∙ or_right (in_set_of sets caller kind) ((and-eq-true_iff _ _).1 (e, f)))
+      rw (callee_joined.done caller (none caller e)) (with_seen caller kind ∙ or_right (in_set_of sets caller kind) ((and-eq-true_iff _ _).1 (e, f)))
 
 -- ------------------------------------------------------------------ the loop
 
@@ -223,22 +223,22 @@ module _ {sets : List ℕ} {many all count : ℕ} (uniting : Uniting sets many a
   uniting_end h = let z : count ≡ many = omega (arith, uniting.within) in rw z at uniting.so_far
 
 module _ {many : ℕ} {calls₀ kinds₀ : List ℕ} (closable : Closable many calls₀ kinds₀) {callee : ℕ} {calls kinds : List ℕ}
-    (closed-both : ClosedBoth callee calls₀ kinds₀ calls kinds) where
+    (closed_both : ClosedBoth callee calls₀ kinds₀ calls kinds) where
   -- the arrays stay as long as they were
   pub both_lent : StepLent many calls kinds
   both_lent =
       record {
         lent =
             record {
-              calls_many = closed-both.calls_closed.as_many ∙ closable.lent.calls_many;
-              kinds_many = closed-both.kinds_closed.as_many ∙ closable.lent.kinds_many;
+              calls_many = closed_both.calls_closed.as_many ∙ closable.lent.calls_many;
+              kinds_many = closed_both.kinds_closed.as_many ∙ closable.lent.kinds_many;
             };
         small = closable.calls_below.small;
       }
 
   -- only nonterminals below `many` call
   callers : (caller kind : ℕ) → in_set_of calls caller kind ≡ true → caller < many
-  callers caller kind e = no_set closed-both.calls_closed closable.calls_below.none closable.calls_below.none caller kind e
+  callers caller kind e = no_set closed_both.calls_closed closable.calls_below.none closable.calls_below.none caller kind e
 
   -- one callee more
   pub both_next : {calls' kinds' : List ℕ} → CalleeTaken callee many calls kinds calls' kinds' → ClosedBoth (callee + 1) calls₀ kinds₀ calls' kinds'
@@ -248,17 +248,17 @@ module _ {many : ℕ} {calls₀ kinds₀ : List ℕ} (closable : Closable many c
       let x = t.kinds_joined in
       record {
         calls_closed =
-            closed_step calls' calls' (taken_came a none) (taken_came a none) (taken_old a none) (taken_new a none) closed-both.calls_closed
-            closed-both.calls_closed a.as_many;
+            closed_step calls' calls' (taken_came a none) (taken_came a none) (taken_old a none) (taken_new a none) closed_both.calls_closed
+            closed_both.calls_closed a.as_many;
         kinds_closed =
-            closed_step calls' kinds' (taken_came a none) (taken_came x none) (taken_old x none) (taken_new x none) closed-both.calls_closed
-            closed-both.kinds_closed x.as_many;
+            closed_step calls' kinds' (taken_came a none) (taken_came x none) (taken_old x none) (taken_new x none) closed_both.calls_closed
+            closed_both.kinds_closed x.as_many;
       }
 
   -- who is called in the closure is called at first
   called_first : (caller between : ℕ) → in_set_of calls caller between ≡ true → has_kind (union_of many calls₀) between ≡ true
   called_first =
-      closed-both.calls_closed.least (λ i j. has_kind (union_of many calls₀) j) (λ i j. has_kind (union_of many calls₀) j) at_first at_first (λ i j k p q. q)
+      closed_both.calls_closed.least (λ i j. has_kind (union_of many calls₀) j) (λ i j. has_kind (union_of many calls₀) j) at_first at_first (λ i j k p q. q)
       (λ i j k p q. q)
     where
       at_first : (caller between : ℕ) → in_set_of calls₀ caller between ≡ true → has_kind (union_of many calls₀) between ≡ true
@@ -269,7 +269,7 @@ module _ {many : ℕ} {calls₀ kinds₀ : List ℕ} (closable : Closable many c
   -- a callee that nobody calls gives nothing
   pub both_skip : {called : ℕ} {test : Bool} → called ≡ union_of many calls₀ → test ≡ has_kind called callee → test ≡ false
       → ClosedBoth (callee + 1) calls₀ kinds₀ calls kinds
-  both_skip e f z = record { calls_closed = skip closed-both.calls_closed; kinds_closed = skip closed-both.kinds_closed }
+  both_skip e f z = record { calls_closed = skip closed_both.calls_closed; kinds_closed = skip closed_both.kinds_closed }
     where
       skip : {sets₀ sets : List ℕ} → ClosedBelow callee calls₀ sets₀ calls sets → ClosedBelow (callee + 1) calls₀ sets₀ calls sets
       skip d =
@@ -286,8 +286,8 @@ module _ {many : ℕ} {calls₀ kinds₀ : List ℕ} (closable : Closable many c
   pub both_end : many ≤ callee → ClosedBoth 64 calls₀ kinds₀ calls kinds
   both_end h =
       record {
-        calls_closed = whole closed-both.calls_closed closable.calls_below.none;
-        kinds_closed = whole closed-both.kinds_closed closable.kinds_below.none;
+        calls_closed = whole closed_both.calls_closed closable.calls_below.none;
+        kinds_closed = whole closed_both.kinds_closed closable.kinds_below.none;
       }
     where
       whole : {sets₀ sets : List ℕ} → ClosedBelow callee calls₀ sets₀ calls sets → ((caller : ℕ) → many ≤ caller → get_or sets₀ caller 0 ≡ 0)

@@ -156,7 +156,7 @@ module _ (own : Item → ℕ) (nulls kind : ℕ) where
 
 -- ------------------------------------------------------------------ the rules
 
-module _ (own : Item → ℕ) (Own : Item → ℕ → Type 0) (own-exactly : (item : Item) (kind : ℕ) → (has_kind (own item) kind ≡ true) ↔ Own item kind)
+module _ (own : Item → ℕ) (Own : Item → ℕ → Type 0) (own_exactly : (item : Item) (kind : ℕ) → (has_kind (own item) kind ≡ true) ↔ Own item kind)
     (g : List Production) where
   called_sound : (kind : ℕ) (numbers : Numbers) → Each (λ n. FirstOf g Own n kind) numbers → (item : Item) (is : List Item)
       → called numbers item ≡ true → First g Own (item ∷ is) kind
@@ -169,7 +169,7 @@ module _ (own : Item → ℕ) (Own : Item → ℕ → Type 0) (own-exactly : (it
   unfolding first_in
   first_sound kind numbers hs [] e = absurd (false≢true e)
   first_sound kind numbers hs (i ∷ is) e =
-      ⊎_elim (λ a. ⊎_elim (λ o. first_own ((own-exactly i kind).0 o)) (called_sound kind numbers hs i is) (or_split (has_kind (own i) kind) a))
+      ⊎_elim (λ a. ⊎_elim (λ o. first_own ((own_exactly i kind).0 o)) (called_sound kind numbers hs i is) (or_split (has_kind (own i) kind) a))
       (λ a.
       let t = (and-eq-true_iff (is_nullable (nullables g) i) (first_in own (nullables g) kind numbers is)).0 a in
       first_past ((null_item_exactly g i).0 t.0) (first_sound kind numbers hs is t.1)) (or_split (given own kind numbers i) e)
@@ -177,7 +177,7 @@ module _ (own : Item → ℕ) (Own : Item → ℕ → Type 0) (own-exactly : (it
   first_complete : {is : List Item} {kind : ℕ} → First g Own is kind → first_in own (nullables g) kind (least (first_in own (nullables g) kind) g) is
       ≡ true
   unfolding first_in
-  first_complete (first_own {i = i} {b = b} o) = or_left _ (or_left _ ((own-exactly i b).1 o))
+  first_complete (first_own {i = i} {b = b} o) = or_left _ (or_left _ ((own_exactly i b).1 o))
   first_complete (first_call {n = n} {b = b} {ts = ts} o h) =
       or_left _
       (or_right (has_kind (own (call n ts)) b)
@@ -213,9 +213,9 @@ none_has : (kind : ℕ) → has_kind 0 kind ≡ true → ⊥
 none_has kind e = false≢true (sym (has_none kind) ∙ e)
 
 -- the set of one number has that one
-pub only_has : (own-kind kind : ℕ) → has_kind (only own-kind) kind ≡ true → (kind ≡ own-kind) × (kind < 64)
-only_has own-kind kind e =
-    let t = (and-eq-true_iff (ltb kind 64) (eqb kind own-kind)).0 (sym (has_only own-kind kind) ∙ e) in (eqb-true kind own-kind t.1, ltb-true kind 64 t.0)
+pub only_has : (own_kind kind : ℕ) → has_kind (only own_kind) kind ≡ true → (kind ≡ own_kind) × (kind < 64)
+only_has own_kind kind e =
+    let t = (and-eq-true_iff (ltb kind 64) (eqb kind own_kind)).0 (sym (has_only own_kind kind) ∙ e) in (eqb-true kind own_kind t.1, ltb-true kind 64 t.0)
 
 -- an item gives its kind to a first set
 pub reads_exactly : (item : Item) (kind : ℕ) → (has_kind (opening_of item) kind ≡ true) ↔ Reads item kind

@@ -48,8 +48,8 @@ module _ (nulls : ℕ) (kinds calls : List ℕ) (found : Gathered) where
 
   -- a call gives its nonterminal, and what this one gives
   pub item_call : {symbol : Symbol} {nonterminal : ℕ} → symbol ≡ Call nonterminal → {set more : ℕ} → set ≡ get_or kinds nonterminal 0
-      → more ≡ bit_or found.kinds set → {own with-own through called : ℕ} → own ≡ only nonterminal → with-own ≡ bit_or found.calls own
-      → through ≡ get_or calls nonterminal 0 → called ≡ bit_or with-own through → {test : Bool} → test ≡ has_kind nulls nonterminal
+      → more ≡ bit_or found.kinds set → {own with_own through called : ℕ} → own ≡ only nonterminal → with_own ≡ bit_or found.calls own
+      → through ≡ get_or calls nonterminal 0 → called ≡ bit_or with_own through → {test : Bool} → test ≡ has_kind nulls nonterminal
       → record { kinds = more; calls = called; nullable = test } ≡ with_item nulls kinds calls (with_symbol symbol) found
   item_call es e em eo ew et ec eb = rw (es, or_zero_r found.kinds, em, e, ec, ew, eo, et, eb) refl
 

@@ -48,8 +48,8 @@ pass_high place zero owners needs h = h
 pass_high place (suc turn) owners needs h = step-high (get_or owners (place turn) 0) (get_or needs (place turn) 0) (pass_high place turn owners needs h)
 
 -- a nonterminal in a set is below 64
-small_in : {reached-set : ℕ} → Nonterminals reached-set → (nonterminal : ℕ) → has_kind reached-set nonterminal ≡ true → nonterminal < 64
-small_in {reached-set} h nonterminal e = by (dec_lt nonterminal 64)
+small_in : {reached_set : ℕ} → Nonterminals reached_set → (nonterminal : ℕ) → has_kind reached_set nonterminal ≡ true → nonterminal < 64
+small_in {reached_set} h nonterminal e = by (dec_lt nonterminal 64)
   where
     by : Dec (nonterminal < 64) → nonterminal < 64
     by (yes l) = l
@@ -76,21 +76,21 @@ every_small : (nonterminal : ℕ) → has_kind every_one nonterminal ≡ true �
 every_small = small_in (record { none_above = λ n l. has_above 64 every_one n (omega arith) l })
 
 -- joining adds nothing exactly if all is in already
-joins_none : (reached-set other : ℕ) → ((nonterminal : ℕ) → has_kind other nonterminal ≡ true → has_kind reached-set nonterminal ≡ true)
-    → eqb (bit_or reached-set other) reached-set ≡ true
-joins_none reached-set other h =
-    eq-eqb (bit_or reached-set other) reached-set
-    (same_set (bit_or reached-set other) reached-set (λ n. has_join reached-set other n ∙ by (has_kind reached-set n) (has_kind other n) (h n)))
+joins_none : (reached_set other : ℕ) → ((nonterminal : ℕ) → has_kind other nonterminal ≡ true → has_kind reached_set nonterminal ≡ true)
+    → eqb (bit_or reached_set other) reached_set ≡ true
+joins_none reached_set other h =
+    eq-eqb (bit_or reached_set other) reached_set
+    (same_set (bit_or reached_set other) reached_set (λ n. has_join reached_set other n ∙ by (has_kind reached_set n) (has_kind other n) (h n)))
   where
     by : (first second : Bool) → (second ≡ true → first ≡ true) → (first || second) ≡ first
     by true second f = refl
     by false true f = sym (f refl)
     by false false f = refl
 
-joined_in : (reached-set other : ℕ) → eqb (bit_or reached-set other) reached-set ≡ true → (nonterminal : ℕ) → has_kind other nonterminal ≡ true
-    → has_kind reached-set nonterminal ≡ true
-joined_in reached-set other e nonterminal f =
-    cc (eqb-true (bit_or reached-set other) reached-set e, has_join reached-set other nonterminal, or_right (has_kind reached-set nonterminal) f)
+joined_in : (reached_set other : ℕ) → eqb (bit_or reached_set other) reached_set ≡ true → (nonterminal : ℕ) → has_kind other nonterminal ≡ true
+    → has_kind reached_set nonterminal ≡ true
+joined_in reached_set other e nonterminal f =
+    cc (eqb-true (bit_or reached_set other) reached_set e, has_join reached_set other nonterminal, or_right (has_kind reached_set nonterminal) f)
 
 -- ------------------------------------------------------------------ the items of a production
 
@@ -320,8 +320,8 @@ module _ {owners needs : List ℕ} {down : Bool} {nulls many turn set : ℕ} (pa
   passing_end h = let z : turn ≡ many = omega (arith, passing.within) in rw z at passing.done
 
 -- needs that are all nullable bring in the owner
-pub need_taken : (owner needs nulls : ℕ) {both : ℕ} → both ≡ bit_or nulls needs → both ≡ nulls → {own-set : ℕ} → own-set ≡ only owner → {joined : ℕ}
-    → joined ≡ bit_or nulls own-set → joined ≡ need_step owner needs nulls
+pub need_taken : (owner needs nulls : ℕ) {both : ℕ} → both ≡ bit_or nulls needs → both ≡ nulls → {own_set : ℕ} → own_set ≡ only owner → {joined : ℕ}
+    → joined ≡ bit_or nulls own_set → joined ≡ need_step owner needs nulls
 need_taken owner needs nulls e f eo er =
     rw (eq-eqb (bit_or nulls needs) nulls (sym e ∙ f)) (cc)
 
@@ -342,16 +342,16 @@ step_adds owner needs nulls n e = by (eqb (bit_or nulls needs) nulls)
     by true = has_join nulls (only owner) n ∙ or_left _ e
     by false = e
 
-step_more : (owner needs reached-set other : ℕ) → In reached-set other → In (need_step owner needs reached-set) (need_step owner needs other)
-step_more owner needs reached-set other h n = by (eqb (bit_or reached-set needs) reached-set) refl
+step_more : (owner needs reached_set other : ℕ) → In reached_set other → In (need_step owner needs reached_set) (need_step owner needs other)
+step_more owner needs reached_set other h n = by (eqb (bit_or reached_set needs) reached_set) refl
   where
-    by : (test : Bool) → eqb (bit_or reached-set needs) reached-set ≡ test → has_kind (joined_if test reached-set (only owner)) n ≡ true
+    by : (test : Bool) → eqb (bit_or reached_set needs) reached_set ≡ test → has_kind (joined_if test reached_set (only owner)) n ≡ true
         → has_kind (need_step owner needs other) n ≡ true
     by true e f =
-        rw (joins_none other needs (λ m g. h m (joined_in reached-set needs e m g)))
+        rw (joins_none other needs (λ m g. h m (joined_in reached_set needs e m g)))
         (has_join other (only owner) n
         ∙ ⊎_elim (λ p. or_left _ (h n p)) (λ p. or_right (has_kind other n) p)
-        (or_split (has_kind reached-set n) (sym (has_join reached-set (only owner) n) ∙ f)))
+        (or_split (has_kind reached_set n) (sym (has_join reached_set (only owner) n) ∙ f)))
     by false e f = step_adds owner needs other n (h n f)
 
 module _ (place : ℕ → ℕ) (owners needs : List ℕ) where
@@ -365,28 +365,28 @@ module _ (place : ℕ → ℕ) (owners needs : List ℕ) where
   pass_adds (suc turn) nulls n e =
       step_adds (get_or owners (place turn) 0) (get_or needs (place turn) 0) (need_pass place turn owners needs nulls) n (pass_adds turn nulls n e)
 
-  pass_more : (turn reached-set other : ℕ) → In reached-set other → In (need_pass place turn owners needs reached-set) (need_pass place turn owners needs other)
+  pass_more : (turn reached_set other : ℕ) → In reached_set other → In (need_pass place turn owners needs reached_set) (need_pass place turn owners needs other)
   unfolding need_pass
-  pass_more zero reached-set other h = h
-  pass_more (suc turn) reached-set other h = step_more (get_or owners (place turn) 0) (get_or needs (place turn) 0) _ _ (pass_more turn reached-set other h)
+  pass_more zero reached_set other h = h
+  pass_more (suc turn) reached_set other h = step_more (get_or owners (place turn) 0) (get_or needs (place turn) 0) _ _ (pass_more turn reached_set other h)
 
   -- a pass that changes nothing has no step that does
-  pass_fixes : (turn reached-set : ℕ) → need_pass place turn owners needs reached-set ≡ reached-set → (turn-before : ℕ) → turn-before < turn
-      → step_at (place turn-before) reached-set ≡ reached-set
+  pass_fixes : (turn reached_set : ℕ) → need_pass place turn owners needs reached_set ≡ reached_set → (turn_before : ℕ) → turn_before < turn
+      → step_at (place turn_before) reached_set ≡ reached_set
   unfolding need_pass
-  pass_fixes zero reached-set e turn-before l = absurd (omega arith)
-  pass_fixes (suc turn) reached-set e turn-before l =
-      let r : ℕ = need_pass place turn owners needs reached-set in
-      let back : In r reached-set = λ n h. rw e at (step_adds (get_or owners (place turn) 0) (get_or needs (place turn) 0) r n h) in
-      let same : r ≡ reached-set = both_in r reached-set back (pass_adds turn reached-set) in
-      dite (dec_lt turn-before turn) (λ h. pass_fixes turn reached-set same turn-before h)
-      (λ h. let z : turn-before ≡ turn = omega arith in rw z (ap (step_at (place turn)) (sym same) ∙ e))
+  pass_fixes zero reached_set e turn_before l = absurd (omega arith)
+  pass_fixes (suc turn) reached_set e turn_before l =
+      let r : ℕ = need_pass place turn owners needs reached_set in
+      let back : In r reached_set = λ n h. rw e at (step_adds (get_or owners (place turn) 0) (get_or needs (place turn) 0) r n h) in
+      let same : r ≡ reached_set = both_in r reached_set back (pass_adds turn reached_set) in
+      dite (dec_lt turn_before turn) (λ h. pass_fixes turn reached_set same turn_before h)
+      (λ h. let z : turn_before ≡ turn = omega arith in rw z (ap (step_at (place turn)) (sym same) ∙ e))
 
-  fixed_pass : (turn reached-set : ℕ) → ((turn-before : ℕ) → turn-before < turn → step_at (place turn-before) reached-set ≡ reached-set)
-      → need_pass place turn owners needs reached-set ≡ reached-set
+  fixed_pass : (turn reached_set : ℕ) → ((turn_before : ℕ) → turn_before < turn → step_at (place turn_before) reached_set ≡ reached_set)
+      → need_pass place turn owners needs reached_set ≡ reached_set
   unfolding need_pass
-  fixed_pass zero reached-set h = refl
-  fixed_pass (suc turn) reached-set h = ap (step_at (place turn)) (fixed_pass turn reached-set (λ i l. h i (omega arith))) ∙ h turn (omega arith)
+  fixed_pass zero reached_set h = refl
+  fixed_pass (suc turn) reached_set h = ap (step_at (place turn)) (fixed_pass turn reached_set (λ i l. h i (omega arith))) ∙ h turn (omega arith)
 
 -- the code's test
 pub place_by : (total turn : ℕ) {down downwards : Bool} → down ≡ downwards → step_place downwards total turn ≡ step_place down total turn
@@ -425,18 +425,18 @@ module _ {g : List Production} {many : ℕ} {owners needs : List ℕ} (held : Ne
   nullables_fixed = pass_fixes (λ j. j) owners needs many (nullables g) (held.same (nullables g) nullables_high ∙ nullables_settled g)
 
   -- where no step changes a set, rounds from what is in it stay in it
-  rounds_in : (closed-set : ℕ) → need_round many owners needs closed-set ≡ closed-set → (times reached : ℕ) → Nonterminals reached → In reached closed-set
-      → In (rounds times (over_all null_step g) reached) closed-set
+  rounds_in : (closed_set : ℕ) → need_round many owners needs closed_set ≡ closed_set → (times reached : ℕ) → Nonterminals reached → In reached closed_set
+      → In (rounds times (over_all null_step g) reached) closed_set
   unfolding rounds
-  rounds_in closed-set e zero reached h i = i
-  rounds_in closed-set e (suc times) reached h i =
+  rounds_in closed_set e zero reached h i = i
+  rounds_in closed_set e (suc times) reached h i =
       let ex : over_all null_step g reached ≡ need_round many owners needs reached = sym (held.same reached h) in
-      rounds_in closed-set e times (over_all null_step g reached) (rw ex (pass_high (λ j. j) many owners needs h))
-      (λ n f. rw e at (pass_more (λ j. j) owners needs many reached closed-set i n (rw ex at f)))
+      rounds_in closed_set e times (over_all null_step g reached) (rw ex (pass_high (λ j. j) many owners needs h))
+      (λ n f. rw e at (pass_more (λ j. j) owners needs many reached closed_set i n (rw ex at f)))
 
-  nullables_in : (reached-set : ℕ) → need_round many owners needs reached-set ≡ reached-set → In (nullables g) reached-set
+  nullables_in : (reached_set : ℕ) → need_round many owners needs reached_set ≡ reached_set → In (nullables g) reached_set
   unfolding nullables
-  nullables_in reached-set e = rounds_in reached-set e 64 0 none_high (λ n f. absurd (false≢true (sym (has_none n) ∙ f)))
+  nullables_in reached_set e = rounds_in reached_set e 64 0 none_high (λ n f. absurd (false≢true (sym (has_none n) ∙ f)))
 
   module _ {nulls : ℕ} (found : Found g nulls) (down : Bool) {more : ℕ} (em : more ≡ need_pass (step_place down many) many owners needs nulls) where
     -- what a pass finds is nullable

@@ -62,7 +62,7 @@ pub count : ℕ → Numbers → ℕ
 count zero s = 0
 count (suc n) s = counted (s n) (count n s)
 
-counted_le : (test : Bool) {count-below bound : ℕ} → count-below ≤ bound → counted test count-below ≤ suc bound
+counted_le : (test : Bool) {count_below bound : ℕ} → count_below ≤ bound → counted test count_below ≤ suc bound
 counted_le true h = omega arith
 counted_le false h = omega arith
 
@@ -121,13 +121,13 @@ module _ (round : Numbers → Numbers) (adds : (numbers : Numbers) → Within nu
       by number same (no l) = high numbers number (omega arith)
 
   -- after `times` rounds nothing changes, or `times` numbers have come in
-  settling : (times count-so-far : ℕ) (numbers : Numbers) → count-so-far ≤ count 64 numbers → (round (rounds times round numbers) ≡ rounds times round numbers)
-      ⊎ (times + count-so-far ≤ count 64 (rounds times round numbers))
+  settling : (times count_so_far : ℕ) (numbers : Numbers) → count_so_far ≤ count 64 numbers → (round (rounds times round numbers) ≡ rounds times round numbers)
+      ⊎ (times + count_so_far ≤ count 64 (rounds times round numbers))
   unfolding rounds
-  settling zero count-so-far numbers h = inr (omega arith)
-  settling (suc times) count-so-far numbers h =
+  settling zero count_so_far numbers h = inr (omega arith)
+  settling (suc times) count_so_far numbers h =
       ⊎_elim (λ e. inl (rw (rounds_fixed (suc times) round numbers e) e))
-      (λ l. ⊎_elim (λ e. inl e) (λ m. inr (omega arith)) (settling times (suc count-so-far) (round numbers) (omega arith))) (round_grows numbers)
+      (λ l. ⊎_elim (λ e. inl e) (λ m. inr (omega arith)) (settling times (suc count_so_far) (round numbers) (omega arith))) (round_grows numbers)
 
   -- so 64 rounds settle it
   pub settled : (numbers : Numbers) → round (rounds 64 round numbers) ≡ rounds 64 round numbers

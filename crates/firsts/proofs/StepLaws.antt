@@ -140,13 +140,13 @@ unfolding first_step
 step_below own nulls p sets h u =
     record { small = u.small; none = λ n l. get_or-set_other sets p.nonterminal n _ 0 (λ e. omega arith) ∙ u.none n l }
 
-module _ {below many : ℕ} {owners : List ℕ} (owners-below : OwnersBelow below many owners) (own : Item → ℕ) (nulls : ℕ) (bs starts : List ℕ) where
+module _ {below many : ℕ} {owners : List ℕ} (owners_below : OwnersBelow below many owners) (own : Item → ℕ) (nulls : ℕ) (bs starts : List ℕ) where
   over_below : (count from : ℕ) → from + count ≤ many → (sets : List ℕ) → UsedBelow below sets
       → UsedBelow below (over_all (first_step own nulls) (productions_at bs (places_from count owners starts from)) sets)
   unfolding over_all places_from production_at
   over_below zero from h sets u = u
   over_below (suc count) from h sets u =
-      over_below count (from + 1) (omega arith) _ (step_below own nulls _ sets (owners-below.each from (omega arith)) u)
+      over_below count (from + 1) (omega arith) _ (step_below own nulls _ sets (owners_below.each from (omega arith)) u)
 
   abbrev round : List ℕ → List ℕ
   round sets = over_all (first_step own nulls) (productions_by many bs owners starts) sets
@@ -157,7 +157,7 @@ module _ {below many : ℕ} {owners : List ℕ} (owners-below : OwnersBelow belo
   rounds_below (suc times) sets u = rounds_below times (round sets) (over_below many 0 (omega arith) sets u)
 
   empty_below : UsedBelow below (replicate 64 0)
-  empty_below = record { small = owners-below.small; none = λ n l. empty_at n }
+  empty_below = record { small = owners_below.small; none = λ n l. empty_at n }
 
   -- no round gives to a nonterminal that has no production
   pub round_below : UsedBelow below (round (replicate 64 0))

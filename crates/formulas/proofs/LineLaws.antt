@@ -11,7 +11,7 @@ use borrow.Author.Tests.{lt-ltb, le-ltb}
 use Rattle.answers.specs.declared.Answer.{Answer}
 use Rattle.answers.specs.declared.Answer.TheVariants.{Accepted, Refusing}
 use Rattle.spellings.specs.Bytes.{longest_run}
-use Rattle.spellings.proofs.BytesLaws.{by-test, run_taken, run_left, run_prefix}
+use Rattle.spellings.proofs.BytesLaws.{by_test, run_taken, run_left, run_prefix}
 use Rattle.terms.specs.Cells.{columns}
 use Rattle.terms.specs.Emit.{text_of}
 use Rattle.meaning.specs.Expand.{Expanded, expanded, expand}
@@ -91,7 +91,7 @@ lines_ended : (line bytes : List ℕ) → run bytes < length bytes
     → lines_behind line bytes ≡ (line ++ take (run bytes) bytes) ∷ lines_behind [] (drop (suc (run bytes)) bytes)
 lines_ended line [] h = absurd (omega arith)
 lines_ended line (b ∷ bytes) h =
-    by-test (is_line_byte b)
+    by_test (is_line_byte b)
     (λ e.
     let more = run_goes line b bytes e in
     rw (line_goes line b bytes e, more) (lines_ended (line ++ b ∷ []) bytes (omega (arith, more)) ∙ rw append_assoc refl))
@@ -102,7 +102,7 @@ lines_unended : (line bytes : List ℕ) → length bytes ≤ run bytes → lines
 unfolding lines_behind
 lines_unended line [] h = rw append-nil refl
 lines_unended line (b ∷ bytes) h =
-    by-test (is_line_byte b)
+    by_test (is_line_byte b)
     (λ e.
     line_goes line b bytes e ∙ lines_unended (line ++ b ∷ []) bytes (omega (arith, run_goes line b bytes e)) ∙ ap unended (append_assoc line (b ∷ []) bytes))
     (λ e. absurd (omega (arith, run_ends line b bytes e)))

@@ -207,7 +207,7 @@ pub record Walk {A : Type 0} (walk : RawFields → A) (last : A) : Type 0 where
   -- at a last field of tag 0 without a value
   pub at_none : (at to : ℕ) → walk (next at 0 [] (end to)) ≡ last
 
-module _ {A : Type 0} {walk : RawFields → A} {last : A} (given-walk : Walk walk last) (table : List ℕ) (at : ℕ) where
+module _ {A : Type 0} {walk : RawFields → A} {last : A} (given_walk : Walk walk last) (table : List ℕ) (at : ℕ) where
   nothing_there : walk (next at 0 (take (length table - length table) (drop (length table) table)) (fields_at table (length table))) ≡ last
   nothing_there =
       rw (
@@ -215,12 +215,12 @@ module _ {A : Type 0} {walk : RawFields → A} {last : A} (given-walk : Walk wal
         take-nil,
         fields_at_lem table (length table) (sym (front_nothing table (length table) (omega arith))),
       )
-      (given-walk.at_none at (length table))
+      (given_walk.at_none at (length table))
 
   walk_by : (front : Front) → walk (opened table at front)
       ≡ walk (next at (span_by table at front).tag (value_in table (span_by table at front)) (fields_at table (span_by table at front).to))
-  walk_by Nothing = given-walk.at-end at ∙ sym nothing_there
-  walk_by Short = given-walk.at_cut at ∙ sym nothing_there
+  walk_by Nothing = given_walk.at-end at ∙ sym nothing_there
+  walk_by Short = given_walk.at_cut at ∙ sym nothing_there
   walk_by (Field t n) = cc (part_within table (at + 3) n)
 
   -- From an offset on it gives what the field that is read there and those behind it give, whatever stands there.
@@ -231,7 +231,7 @@ module _ {A : Type 0} {walk : RawFields → A} {last : A} (given-walk : Walk wal
 
   -- at the end nothing more
   pub walk_end : length table ≤ at → walk (fields_at table at) ≡ last
-  walk_end h = ap walk (fields_at_lem table at (sym (front_nothing table at h))) ∙ given-walk.at-end at
+  walk_end h = ap walk (fields_at_lem table at (sym (front_nothing table at h))) ∙ given_walk.at-end at
 
 -- ------------------------------------------------------------------ the search for a spelling
 

@@ -6,7 +6,7 @@ use native.Mathlib.Omega.{arith}
 use lib.Dec.{leb, ltb}
 use lib.ListN.{length, get_or, get_or-map}
 use borrow.Author.Tests.{leb-true, ltb-true, ltb-false}
-use Rattle.spellings.proofs.BytesLaws.{by-test, every_at}
+use Rattle.spellings.proofs.BytesLaws.{by_test, every_at}
 use Rattle.spellings.specs.Bytes.{every}
 use Rattle.grammar.specs.Sorts.{Signature, gives, unit, constructor_signatures, constructor, arity}
 use Rattle.grammar.proofs.ReaderLaws.{get_d_past, arities, arity_at, arity_high}
@@ -43,7 +43,7 @@ thirds code = get_or-map (λ (s : Signature). get_or s.params 2 unit) constructo
 pub arity_small : (code : ℕ) → arity code ≤ 3
 unfolding every
 arity_small code =
-    by-test (ltb (code - 32) 8)
+    by_test (ltb (code - 32) 8)
     (λ e. rw (← (arity_at code)) (leb-true _ 3 (every_at (λ n. leb n 3) arities (code - 32) refl (ltb-true _ 8 e))))
     (λ e. omega (arith, arity_high code (ltb-false _ 8 e)))
 

@@ -21,17 +21,17 @@ need_passes test number at P e h = rw e h
 
 -- two tests at one place
 pub needs_passed :
-    (test other : Bool) (first-number number at : ℕ) (P : Unit {0} → Type 0) → Accepts (need test first-number at >> need other number at) P
+    (test other : Bool) (first_number number at : ℕ) (P : Unit {0} → Type 0) → Accepts (need test first_number at >> need other number at) P
     → (test ≡ true) × (other ≡ true) × P tt
-needs_passed true true first-number number at P h = (refl, refl, h)
-needs_passed true false first-number number at P h = absurd h
-needs_passed false other first-number number at P h = absurd h
+needs_passed true true first_number number at P h = (refl, refl, h)
+needs_passed true false first_number number at P h = absurd h
+needs_passed false other first_number number at P h = absurd h
 
 -- two demands that are met pass
-pub needs-passes :
-    (test other : Bool) (first-number number at : ℕ) (P : Unit {0} → Type 0) → test ≡ true → other ≡ true → P tt
-    → Accepts (need test first-number at >> need other number at) P
-needs-passes test other first-number number at P e f h = subst₂ (λ x y. Accepts (need x first-number at >> need y number at) P) (sym e) (sym f) h
+pub needs_passes :
+    (test other : Bool) (first_number number at : ℕ) (P : Unit {0} → Type 0) → test ≡ true → other ≡ true → P tt
+    → Accepts (need test first_number at >> need other number at) P
+needs_passes test other first_number number at P e f h = subst₂ (λ x y. Accepts (need x first_number at >> need y number at) P) (sym e) (sym f) h
 
 module _ {A B : Type 0} (P : B → Type 0) where
   -- one check after another, with the value of the first

@@ -5,7 +5,7 @@ use mathlib.Core.Bool.{true, false, true≢false}
 use mathlib.Core.List.{List, [], ◌∷◌}
 use lib.Dec.{eqb}
 use borrow.Author.Tests.{eqb-true, eqb-false, eq-eqb, ne_eqb}
-use Rattle.spellings.proofs.BytesLaws.{by-test, same_true, same_refl}
+use Rattle.spellings.proofs.BytesLaws.{by_test, same_true, same_refl}
 use Rattle.grammar.specs.Sorts.{Signature, gives}
 use Rattle.judgements.specs.CheckSorts.{is_defined, signature_of, same_signature}
 use Rattle.judgements.specs.Scopes.{Declaration, Env}
@@ -40,7 +40,7 @@ pub defined_newest : (E : Env) (nonterminal : ℕ) → is_defined E nonterminal 
 unfolding is_defined
 defined_newest [] nonterminal h = absurd (true≢false (sym h))
 defined_newest (e ∷ E) nonterminal h =
-    by-test (eqb e.nonterminal nonterminal)
+    by_test (eqb e.nonterminal nonterminal)
     (λ q. rw (signature_here e E nonterminal q) (rw (← (eqb-true _ nonterminal q)) newest_first))
     (λ q. rw (signature_later e E nonterminal q)
     (newest_later (eqb-false _ nonterminal q) (defined_newest E nonterminal (sym (defined_later e E nonterminal q) ∙ h))))
@@ -60,7 +60,7 @@ pub undefined_absent : (E : Env) (nonterminal : ℕ) → is_defined E nontermina
 unfolding is_defined
 undefined_absent [] nonterminal h = absent_empty
 undefined_absent (e ∷ E) nonterminal h =
-    by-test (eqb e.nonterminal nonterminal) (λ q. absurd (true≢false (sym (defined_here e E nonterminal q) ∙ h)))
+    by_test (eqb e.nonterminal nonterminal) (λ q. absurd (true≢false (sym (defined_here e E nonterminal q) ∙ h)))
     (λ q. absent_entry (eqb-false _ nonterminal q) (undefined_absent E nonterminal (sym (defined_later e E nonterminal q) ∙ h)))
 
 -- what is absent is not defined

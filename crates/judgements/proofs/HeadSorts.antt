@@ -31,10 +31,10 @@ module _ (E : Env) where
       pair (not (is_defined own n)) (not (is_defined E n)) (ap not (absent_undefined h)) (ap not (absent_undefined k))
 
   -- extend and update: this block does not have the number, an earlier one has it with the same signature
-  before-rule :
+  before_rule :
       (own : Env) (definition : WrittenDefinition) → is_as_before E own definition ≡ true
       → Undeclared own definition.nonterminal × Newest E definition.nonterminal definition.signature
-  before-rule own definition h =
+  before_rule own definition h =
       let n : ℕ = definition.nonterminal in
       let b = both (not (is_defined own n) && is_defined E n) (same_signature (signature_of E n) definition.signature) h in
       let c = both (not (is_defined own n)) (is_defined E n) b.0 in (
@@ -42,65 +42,65 @@ module _ (E : Env) where
         subst (Newest E n) (same_signature_lem (signature_of E n) definition.signature b.1) (defined_newest E n c.1),
       )
 
-  rule-before :
+  rule_before :
       (own : Env) (definition : WrittenDefinition) → Undeclared own definition.nonterminal → Newest E definition.nonterminal definition.signature
       → is_as_before E own definition ≡ true
-  rule-before own definition h k =
+  rule_before own definition h k =
       let n : ℕ = definition.nonterminal in
       pair (not (is_defined own n) && is_defined E n) (same_signature (signature_of E n) definition.signature)
       (pair (not (is_defined own n)) (is_defined E n) (ap not (absent_undefined h)) (newest_defined k))
       (signature_same (signature_of E n) definition.signature (newest_signature k))
 
   -- a definition passes, and its rule is left to apply
-  definition-rule :
+  definition_rule :
       (P : Unit {0} → Type 0) (mode : Mode) (own : Env) (definition : WrittenDefinition) (at : ℕ) → definition.mode ≡ mode
       → Accepts (consistent mode E own definition at) P
       → ((ds : List WrittenDefinition) (own' : Env) → Defines E (entry_of definition ∷ own) ds own' → Defines E own (definition ∷ ds) own') × P tt
-  definition-rule P add own definition at e h =
+  definition_rule P add own definition at e h =
       let n = need_passed (is_unused E own definition) 7 at P h in
       let r = new_rule own definition n.0 in
       (λ ds own' k. by_add e r.0 r.1 k, n.1)
-  definition-rule P extend own definition at e h =
+  definition_rule P extend own definition at e h =
       let n = need_passed (is_as_before E own definition) 8 at P h in
-      let r = before-rule own definition n.0 in
+      let r = before_rule own definition n.0 in
       (λ ds own' k. by_extend e r.0 r.1 k, n.1)
-  definition-rule P update own definition at e h =
+  definition_rule P update own definition at e h =
       let n = need_passed (is_as_before E own definition) 8 at P h in
-      let r = before-rule own definition n.0 in
+      let r = before_rule own definition n.0 in
       (λ ds own' k. by_update e r.0 r.1 k, n.1)
 
   -- heads that pass are derived
-  pub collect-rule :
+  pub collect_rule :
       (P : Env → Type 0) (own : Env) (at : ℕ) (ds : List WrittenDefinition) → Accepts (collect E own at ds) P
       → (own' : Env) × Defines E own ds own' × P own'
   unfolding collect
-  collect-rule P own at [] h = (own, no_definition, h)
-  collect-rule P own at (d ∷ ds) h =
-      let r = definition-rule _ d.mode own d at refl (then_passed P (consistent d.mode E own d at) _ h) in
-      let q = collect-rule P (entry_of d ∷ own) (at + definition_size d) ds r.1 in
+  collect_rule P own at [] h = (own, no_definition, h)
+  collect_rule P own at (d ∷ ds) h =
+      let r = definition_rule _ d.mode own d at refl (then_passed P (consistent d.mode E own d at) _ h) in
+      let q = collect_rule P (entry_of d ∷ own) (at + definition_size d) ds r.1 in
       (q.0, r.0 ds q.0 q.1, q.2)
 
   -- back to the definition's own mode
-  in-mode :
+  in_mode :
       (P : Unit {0} → Type 0) {mode : Mode} (own : Env) (definition : WrittenDefinition) (at : ℕ) → definition.mode ≡ mode
       → Accepts (consistent mode E own definition at) P → Accepts (consistent definition.mode E own definition at) P
-  in-mode P own definition at e h = rw (← e) at h
+  in_mode P own definition at e h = rw (← e) at h
 
   -- heads that are derived are accepted
-  pub rule-collect :
+  pub rule_collect :
       (P : Env → Type 0) {own own' : Env} (at : ℕ) {ds : List WrittenDefinition} → Defines E own ds own' → P own'
       → Accepts (collect E own at ds) P
   unfolding collect
-  rule-collect P at no_definition p = p
-  rule-collect P at (by_add {own = own} {d = d} e a b k) p =
+  rule_collect P at no_definition p = p
+  rule_collect P at (by_add {own = own} {d = d} e a b k) p =
       then_passes P (consistent d.mode E own d at) _
-      (in-mode _ own d at e
-      (need_passes (is_unused E own d) 7 at _ (rule_new own d a b) (rule-collect P (at + definition_size d) k p)))
-  rule-collect P at (by_extend {own = own} {d = d} e a b k) p =
+      (in_mode _ own d at e
+      (need_passes (is_unused E own d) 7 at _ (rule_new own d a b) (rule_collect P (at + definition_size d) k p)))
+  rule_collect P at (by_extend {own = own} {d = d} e a b k) p =
       then_passes P (consistent d.mode E own d at) _
-      (in-mode _ own d at e
-      (need_passes (is_as_before E own d) 8 at _ (rule-before own d a b) (rule-collect P (at + definition_size d) k p)))
-  rule-collect P at (by_update {own = own} {d = d} e a b k) p =
+      (in_mode _ own d at e
+      (need_passes (is_as_before E own d) 8 at _ (rule_before own d a b) (rule_collect P (at + definition_size d) k p)))
+  rule_collect P at (by_update {own = own} {d = d} e a b k) p =
       then_passes P (consistent d.mode E own d at) _
-      (in-mode _ own d at e
-      (need_passes (is_as_before E own d) 8 at _ (rule-before own d a b) (rule-collect P (at + definition_size d) k p)))
+      (in_mode _ own d at e
+      (need_passes (is_as_before E own d) 8 at _ (rule_before own d a b) (rule_collect P (at + definition_size d) k p)))

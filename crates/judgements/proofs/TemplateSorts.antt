@@ -72,48 +72,48 @@ module _ (scope : Scope) (L : List ℕ) where
     unfolding is_closed are_closed is_sorted fill
 
     -- a template that is closed and sorted has its sort by the rules
-    pub sorted-rule :
+    pub sorted_rule :
         (template : Template) → TemplateWithin template → is_closed template scope (length L) ≡ true → is_sorted template L ≡ true
         → Sorted scope.outsides L template (sort_of template L)
-    sorted-rule (variable i) w c s = by_variable (has_at L i (ltb-true i (length L) c))
-    sorted-rule (outside_var x) w c s = by_global (ltb-true x scope.outsides c)
-    sorted-rule (outside_label x) w c s = by_label (ltb-true x scope.outsides c)
-    sorted-rule (make k ts) (make_within l h e ws) c s = by_constructor l h (fill-rule ts (constructor k).params ws c s)
-    sorted-rule Table.unit w c s = by_unit
+    sorted_rule (variable i) w c s = by_variable (has_at L i (ltb-true i (length L) c))
+    sorted_rule (outside_var x) w c s = by_global (ltb-true x scope.outsides c)
+    sorted_rule (outside_label x) w c s = by_label (ltb-true x scope.outsides c)
+    sorted_rule (make k ts) (make_within l h e ws) c s = by_constructor l h (fill_rule ts (constructor k).params ws c s)
+    sorted_rule Table.unit w c s = by_unit
 
     -- templates that fill places fill them by the rules
-    pub fill-rule :
+    pub fill_rule :
         (ts : Templates) (Bs : List ℕ) → TemplatesWithin ts → are_closed ts scope (length L) ≡ true → fill ts L Bs ≡ true → Fill scope.outsides L ts Bs
-    fill-rule none [] ws c s = fill_none
-    fill-rule none (B ∷ Bs) ws c s = absurd (true≢false (sym s))
-    fill-rule (more t ts) [] ws c s = absurd (true≢false (sym s))
-    fill-rule (more t ts) (B ∷ Bs) (more_within w ws) c s =
+    fill_rule none [] ws c s = fill_none
+    fill_rule none (B ∷ Bs) ws c s = absurd (true≢false (sym s))
+    fill_rule (more t ts) [] ws c s = absurd (true≢false (sym s))
+    fill_rule (more t ts) (B ∷ Bs) (more_within w ws) c s =
         let k = both (is_closed t scope (length L)) (are_closed ts scope (length L)) c in
         let u = both (is_sorted t L && fits (sort_of t L) B) (fill ts L Bs) s in
         let v = both (is_sorted t L) (fits (sort_of t L) B) u.0 in
-        fill_more (sorted-rule t w k.0 v.0) (fits_rule (sort_of t L) B v.1) (fill-rule ts Bs ws k.1 u.1)
+        fill_more (sorted_rule t w k.0 v.0) (fits_rule (sort_of t L) B v.1) (fill_rule ts Bs ws k.1 u.1)
 
   mutual
     unfolding is_closed are_closed is_sorted fill
 
     -- a template with a sort by the rules is closed and sorted
-    pub rule-sorted :
+    pub rule_sorted :
         (template : Template) {A : ℕ} → Sorted scope.outsides L template A
         → (is_closed template scope (length L) ≡ true) × (is_sorted template L ≡ true) × (sort_of template L ≡ A)
-    rule-sorted (variable i) (by_variable h) = (lt-ltb i (length L) (has_below h), refl, has_sort h)
-    rule-sorted (outside_var x) (by_global h) = (lt-ltb x scope.outsides h, refl, refl)
-    rule-sorted (outside_label x) (by_label h) = (lt-ltb x scope.outsides h, refl, refl)
-    rule-sorted (make c ts) (by_constructor l u h) = let f = rule-fill ts h in (f.0, f.1, refl)
-    rule-sorted Table.unit by_unit = (refl, refl, refl)
+    rule_sorted (variable i) (by_variable h) = (lt-ltb i (length L) (has_below h), refl, has_sort h)
+    rule_sorted (outside_var x) (by_global h) = (lt-ltb x scope.outsides h, refl, refl)
+    rule_sorted (outside_label x) (by_label h) = (lt-ltb x scope.outsides h, refl, refl)
+    rule_sorted (make c ts) (by_constructor l u h) = let f = rule_fill ts h in (f.0, f.1, refl)
+    rule_sorted Table.unit by_unit = (refl, refl, refl)
 
     -- templates that fill places by the rules fill them
-    pub rule-fill :
+    pub rule_fill :
         (ts : Templates) {Bs : List ℕ} → Fill scope.outsides L ts Bs
         → (are_closed ts scope (length L) ≡ true) × (fill ts L Bs ≡ true)
-    rule-fill none fill_none = (refl, refl)
-    rule-fill (more t ts) (fill_more {A = A} {B = B} {Bs = Bs} h f k) =
-        let u = rule-sorted t h in
-        let v = rule-fill ts k in (
+    rule_fill none fill_none = (refl, refl)
+    rule_fill (more t ts) (fill_more {A = A} {B = B} {Bs = Bs} h f k) =
+        let u = rule_sorted t h in
+        let v = rule_fill ts k in (
           pair (is_closed t scope (length L)) (are_closed ts scope (length L)) u.0 v.0,
           pair (is_sorted t L && fits (sort_of t L) B) (fill ts L Bs)
               (pair (is_sorted t L) (fits (sort_of t L) B) u.1 (cc (u.2, rule_fits f))) v.1,

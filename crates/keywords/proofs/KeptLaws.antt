@@ -46,10 +46,10 @@ kept_less false kinds number size {kept} e = by (has_kind kinds (keyword_kind nu
 pub kept_every : (kinds number size : ℕ) {every : Bool} → every ≡ true → size ≡ kept_size every kinds number size
 kept_every kinds number size e = sym (ap (λ (b : Bool). kept_size b kinds number size) e)
 
-module _ (kinds number size : ℕ) {every : Bool} (not-every : every ≡ false) {test : Bool} (tested : test ≡ has_kind kinds (keyword_kind number)) where
+module _ (kinds number size : ℕ) {every : Bool} (not_every : every ≡ false) {test : Bool} (tested : test ≡ has_kind kinds (keyword_kind number)) where
   kept_by : {told : Bool} → test ≡ told → (elim told as (λ b. ℕ) [ true ↦ size | false ↦ 0 ]) ≡ kept_size every kinds number size
   kept_by f =
-      ap (λ (b : Bool). elim b as (λ x. ℕ) [ true ↦ size | false ↦ 0 ]) (sym f ∙ tested) ∙ sym (ap (λ (b : Bool). kept_size b kinds number size) not-every)
+      ap (λ (b : Bool). elim b as (λ x. ℕ) [ true ↦ size | false ↦ 0 ]) (sym f ∙ tested) ∙ sym (ap (λ (b : Bool). kept_size b kinds number size) not_every)
 
   -- a keyword that counts keeps all bytes
   pub kept_all : test ≡ true → size ≡ kept_size every kinds number size

@@ -6,7 +6,7 @@ use mathlib.Core.List.{List, [], ◌∷◌, map}
 use lib.Dec.{eqb}
 use borrow.Author.Tests.{eqb-true, eqb-false}
 use Rattle.spellings.specs.Bytes.{same, is_word}
-use Rattle.spellings.proofs.BytesLaws.{by-test, same_refl, differ_same}
+use Rattle.spellings.proofs.BytesLaws.{by_test, same_refl, differ_same}
 use Rattle.terms.specs.Cells.{column}
 use Rattle.terms.specs.Term.{Name, Term, Fields, size}
 use Rattle.terms.specs.Names.{Distinct}
@@ -33,7 +33,7 @@ module _ (spell : ℕ → List ℕ) (distinct : Distinct spell) where
   same_number : (label other : ℕ) → is_word (spell label) ≡ true → same (spell label) (spell other) ≡ same (single label) (single other)
   unfolding same
   same_number label other w =
-      by-test (eqb label other)
+      by_test (eqb label other)
       (λ e. rw e (ap (λ n. same (spell label) (spell n)) (sym (eqb-true label other e)) ∙ same_refl (spell label)))
       (λ e. rw e (differ_same (spell label) (spell other) (λ q. eqb-false label other e (distinct label other w q))))
 

@@ -10,7 +10,7 @@ use lib.ListN.{length, get_or, set, length-set}
 use lib.Seq.{get_or-set_same, get_or-set_other}
 use borrow.Author.Tests.{ne_eqb, eq-eqb, eqb-true, eqb-false}
 use Rattle.spellings.specs.Bytes.{same}
-use Rattle.spellings.proofs.BytesLaws.{by-test}
+use Rattle.spellings.proofs.BytesLaws.{by_test}
 use Rattle.terms.specs.Cells.{column}
 use Rattle.terms.specs.Term.{Name, Term, Fields, variable, function, apply, rcd, dot, number, nil, cons}
 use Rattle.terms.specs.Rows.{field_list_at}
@@ -47,14 +47,14 @@ StampedAt stamps stamp earlier = (l : ℕ) → l < length stamps → eqb (get_or
 among_more : (other label : ℕ) (earlier : List (List ℕ))
     → is_among (single other) (single label ∷ earlier) ≡ (eqb other label || is_among (single other) earlier)
 unfolding is_among same
-among_more other label earlier = by-test (eqb other label) (λ e. rw e refl) (λ e. rw e refl)
+among_more other label earlier = by_test (eqb other label) (λ e. rw e refl) (λ e. rw e refl)
 
 module _ (stamps : List ℕ) (label stamp : ℕ) (inside : label < length stamps) where
   -- what a room with one more stamp has at a number: the stamp, or what it had
   stamp_read : (P : ℕ → Type 0) (other : ℕ) → (other ≡ label → P stamp) → ((other ≡ label → ⊥) → P (get_or stamps other 0))
       → P (get_or (set stamps label stamp) other 0)
   stamp_read P other here kept =
-      by-test (eqb other label)
+      by_test (eqb other label)
       (λ e.
       let q = eqb-true other label e in
       rw (q, get_or-set_same stamps label stamp 0 inside) (here q))
@@ -136,12 +136,12 @@ module _ {cells : List ℕ} {bound row stamp : ℕ} {stamps : List ℕ} {count p
       pub counting_nil : (code ≡ 0x26 → ⊥) → Stamps cells bound row stamps stamp count stamps'
       counting_nil e = ended (rows.nil_row_lem single cells (bound - count) part some read e)
 
-      module _ (field : code ≡ 0x26) {label : ℕ} (label-read : label ≡ column cells part 1) where
+      module _ (field : code ≡ 0x26) {label : ℕ} (label_read : label ≡ column cells part 1) where
         abbrev Behind : Fields Name
         Behind = numbered_fields cells (bound - count - 1) (column cells part 3)
 
         ahead : Ahead ≡ cons (single label) (numbered_term cells (bound - count - 1) (column cells part 2)) Behind
-        ahead = rw label-read (rows.cons_row_lem single cells (bound - count) part some read field)
+        ahead = rw label_read (rows.cons_row_lem single cells (bound - count) part some read field)
 
         -- A field's label has a number within the room.
         pub counting_inside : label < length stamps'

@@ -11,7 +11,7 @@ use lib.ListN.{length, get_or, take, drop, set, replicate, length-set, length-re
 use lib.Seq.{get_or-set_same, get_or-set_other, drop-drop, take_all}
 use borrow.Author.Tests.{eqb-true, eqb-false}
 use Rattle.spellings.specs.Bytes.{same, one_if}
-use Rattle.spellings.proofs.BytesLaws.{by-test, differ_same}
+use Rattle.spellings.proofs.BytesLaws.{by_test, differ_same}
 use Rattle.grammar.specs.Values.{Field, field}
 use Rattle.decoding.specs.Layout.{is_repeated}
 use Rattle.grammar.specs.Limits.{most}
@@ -28,7 +28,7 @@ pub repeated_among : (tag : ℕ) (spelling : List ℕ) (before : List Field) →
 unfolding is_repeated is_among spellings_under
 repeated_among tag spelling [] = refl
 repeated_among tag spelling (f ∷ fs) =
-    by-test (eqb f.tag tag) (λ e. rw (e, spellings_under) (cc (repeated_among tag spelling fs)))
+    by_test (eqb f.tag tag) (λ e. rw (e, spellings_under) (cc (repeated_among tag spelling fs)))
     (λ e. rw (e, spellings_under) (repeated_among tag spelling fs))
 
 -- ------------------------------------------------------------------ the hash
@@ -84,8 +84,8 @@ hashing_start = record { within = omega arith; small = omega arith; rest = refl 
 rest_lent : (spelling : List ℕ) (count : ℕ) → take (length spelling - count) (drop count spelling) ≡ drop count spelling
 rest_lent spelling count = take_all (length spelling - count) (drop count spelling) (rw length-drop (omega arith))
 
-module _ {sought : List ℕ} {place hash : ℕ} (hashing : Hashing sought place hash) {packed-bytes : ℕ}
-    (Packs-bytes : Packs (take (length sought - place) (drop place sought)) packed-bytes) {mixed : ℕ} (equal : mixed ≡ bucket_mixed hash packed-bytes) where
+module _ {sought : List ℕ} {place hash : ℕ} (hashing : Hashing sought place hash) {packed_bytes : ℕ}
+    (Packs-bytes : Packs (take (length sought - place) (drop place sought)) packed_bytes) {mixed : ℕ} (equal : mixed ≡ bucket_mixed hash packed_bytes) where
   packs : mixed ≡ bucket_mixed hash (packed (drop place sought))
   packs = equal ∙ ap (bucket_mixed hash) (Packs-bytes.number ∙ ap packed (rest_lent sought place))
 
@@ -121,10 +121,10 @@ pub entry_other :
 entry_other {word = word} sought e f s d = sym (differ_same word sought (λ q. d (s ∙ e.hashed ∙ ap bucket_hash q ∙ sym f)))
 
 -- one with the same hash is compared by its bytes
-pub entry-same :
+pub entry_same :
     {table room : List ℕ} {number link : ℕ} {word lent : List ℕ} (sought : List ℕ) → SpellingHeld table room number word link → {from size : ℕ}
     → from ≡ get_or room (entry number + 2) 0 → size ≡ get_or room (entry number + 3) 0 → lent ≡ take size (drop from table) → same lent sought ≡ same word sought
-entry-same {table} sought e f s l = cc e.placed
+entry_same {table} sought e f s l = cc e.placed
 
 -- ------------------------------------------------------------------ the search
 
@@ -194,7 +194,7 @@ module _ {table room sought : List ℕ} {words : List (List ℕ)} {link : ℕ} (
   searching_end h = sym (none_among table room sought searching.left searching.leads (omega arith)) ∙ searching.rest
 
   -- at a spelling, by the code's comparison
-  module _ (below : 0 < link) {here : Bool} (tells : (word : List ℕ) (next-link : ℕ) → SpellingHeld table room link word next-link → here ≡ same word sought)
+  module _ (below : 0 < link) {here : Bool} (tells : (word : List ℕ) (next_link : ℕ) → SpellingHeld table room link word next_link → here ≡ same word sought)
     where
       next : Next table room sought searching.left link
       next = next_of table room sought searching.left searching.leads below
@@ -232,14 +232,14 @@ leads_small table room bucket (w ∷ ws) (leads_past d l) = omega (arith, leads_
 leads_small table room bucket (w ∷ ws) (leads_here e l) = omega arith
 
 -- rooms that agree on the entries of some spellings lead through them alike
-leads-kept :
+leads_kept :
     (table room room' : List ℕ) (bucket : ℕ) (ws : List (List ℕ)) {link : ℕ}
     → ((number column : ℕ) → 0 < number → number ≤ length ws → column < 4 → get_or room' (entry number + column) 0 ≡ get_or room (entry number + column) 0)
     → Bucket table room bucket ws link → Bucket table room' bucket ws link
-leads-kept table room room' bucket [] same_entries leads_none = leads_none
-leads-kept table room room' bucket (w ∷ ws) same_entries (leads_past d l) =
-    leads_past d (leads-kept table room room' bucket ws (λ n i h k. same_entries n i h (omega arith)) l)
-leads-kept table room room' bucket (w ∷ ws) same_entries (leads_here {p = p} e l) =
+leads_kept table room room' bucket [] same_entries leads_none = leads_none
+leads_kept table room room' bucket (w ∷ ws) same_entries (leads_past d l) =
+    leads_past d (leads_kept table room room' bucket ws (λ n i h k. same_entries n i h (omega arith)) l)
+leads_kept table room room' bucket (w ∷ ws) same_entries (leads_here {p = p} e l) =
     let n : ℕ = suc (length ws) in
     let at : (i : ℕ) → i < 4 → get_or room' (entry n + i) 0 ≡ get_or room (entry n + i) 0 = λ i. same_entries n i (omega arith) (omega arith) in
     leads_here {ws = ws} {p = p}
@@ -248,7 +248,7 @@ leads-kept table room room' bucket (w ∷ ws) same_entries (leads_here {p = p} e
       hashed = at 1 (omega arith) ∙ e.hashed;
       placed = cc (at 3 (omega arith), at 2 (omega arith), e.placed);
     })
-    (leads-kept table room room' bucket ws (λ n i h k. same_entries n i h (omega arith)) l)
+    (leads_kept table room room' bucket ws (λ n i h k. same_entries n i h (omega arith)) l)
 
 -- a room of zeros has no spelling
 zeros : (count place : ℕ) → get_or {A = ℕ} (replicate count 0) place 0 ≡ 0
@@ -331,11 +331,11 @@ module _ (room : List ℕ) (long : length room ≡ index_size) (number hash from
   falling_more f small =
       record {
         heads = λ j l.
-            by-test (eqb j (bucket_of hash)) (λ e. rw (eqb-true j (bucket_of hash) e) (omega (arith, at_head)))
+            by_test (eqb j (bucket_of hash)) (λ e. rw (eqb-true j (bucket_of hash) e) (omega (arith, at_head)))
             (λ e.
             omega (arith, outside j (λ q. omega arith) (λ q. omega arith) (λ q. omega arith) (λ q. omega arith) (eqb-false j (bucket_of hash) e), f.heads j l));
         links = λ m l k.
-            by-test (eqb m number) (λ e. rw (eqb-true m number e) (omega (arith, at_onward)))
+            by_test (eqb m number) (λ e. rw (eqb-true m number e) (omega (arith, at_onward)))
             (λ e.
             let d : m ≡ number → ⊥ = eqb-false m number e in
             omega
@@ -343,17 +343,17 @@ module _ (room : List ℕ) (long : length room ≡ index_size) (number hash from
       }
 
   -- the room has one spelling more
-  indexed-more :
+  indexed_more :
       {table spelling : List ℕ} {words : List (List ℕ)} → number ≡ suc (length words) → hash ≡ bucket_hash spelling → take size (drop from table) ≡ spelling
       → Indexed table room words → Indexed table (room_with room number hash from size) (spelling ∷ words)
-  indexed-more {table} {spelling} {words} count e p x =
+  indexed_more {table} {spelling} {words} count e p x =
       let room' : List ℕ = room_with room number hash from size in
       let kept : (m i : ℕ) → 0 < m → m ≤ length words → i < 4 → get_or room' (entry m + i) 0 ≡ get_or room (entry m + i) 0 =
       λ m i l k j.
       outside (entry m + i) (λ q. omega arith) (λ q. omega arith) (λ q. omega arith) (λ q. omega arith) (λ q. omega arith) in
       record {
         leads = λ j l.
-            by-test (eqb j (bucket_of hash))
+            by_test (eqb j (bucket_of hash))
             (λ q.
             let here : j ≡ bucket_of hash = eqb-true j (bucket_of hash) q in
             subst (Bucket table room' j (spelling ∷ words)) (cc at_head)
@@ -364,12 +364,12 @@ module _ (room : List ℕ) (long : length room ≡ index_size) (number hash from
               placed =
                   cc (at_size, at_place);
             })
-            (leads-kept table room room' j words kept (x.leads j l))))
+            (leads_kept table room room' j words kept (x.leads j l))))
             (λ q.
             let other : j ≡ bucket_of hash → ⊥ = eqb-false j (bucket_of hash) q in
             subst (Bucket table room' j (spelling ∷ words))
             (sym (outside j (λ q. omega arith) (λ q. omega arith) (λ q. omega arith) (λ q. omega arith) other))
-            (leads_past (λ z. other (cc)) (leads-kept table room room' j words kept (x.leads j l))));
+            (leads_past (λ z. other (cc)) (leads_kept table room room' j words kept (x.leads j l))));
       }
 
 -- what the code stores
@@ -380,7 +380,7 @@ stored_at : List ℕ → ℕ → ℕ → ℕ → ℕ → ℕ → List ℕ
 stored_at room at n h from size = set (set (set (set (set room at (get_or room (bucket_of h) 0)) (at + 1) h) (at + 2) from) (at + 3) size) (bucket_of h) n
 
 -- five stores
-pub entered-some :
+pub entered_some :
     (room : List ℕ) {spelled : Bool} (count from : ℕ) (spelling : List ℕ) {hash : ℕ} → spelled ≡ true → hash ≡ bucket_hash spelling
     → set
     (set (set (set (set room (buckets + entry_size * count) (get_or room (bucket_of hash) 0)) (buckets + entry_size * count + 1) hash)
@@ -389,7 +389,7 @@ pub entered-some :
     (bucket_of hash) (count + 1)
     ≡ entered room spelled count from spelling
 unfolding stored_at
-entered-some room count from spelling {hash} e f =
+entered_some room count from spelling {hash} e f =
     let at : buckets + entry_size * count ≡ entry (count + 1) = omega arith in
     cc
 
@@ -412,33 +412,33 @@ unfolding spellings_under
 has_none =
     record { long = length-replicate {A = ℕ} index_size 0; falling = falling_none; indexed = indexed_none; counted = refl }
 
-module _ {table : List ℕ} {tag : ℕ} {before : List Field} {count : ℕ} {room : List ℕ} (has-spellings : HasSpellings table tag before count room) where
+module _ {table : List ℕ} {tag : ℕ} {before : List Field} {count : ℕ} {room : List ℕ} (has_spellings : HasSpellings table tag before count room) where
   -- a field of the tag is entered, any other is not
-  pub has-next :
+  pub has_next :
       (found : ℕ) (spelling : List ℕ) (from : ℕ) → take (length spelling) (drop from table) ≡ spelling → (here : Bool) → eqb found tag ≡ here
       → (here ≡ true → count < most.outsides)
       → HasSpellings table tag (field found spelling ∷ before) (count + one_if here) (entered room here count from spelling)
-  has-next found spelling from p true e few =
+  has_next found spelling from p true e few =
       let n : ℕ = count + 1 in
       let h : ℕ = bucket_hash spelling in
       let words : List (List ℕ) = spellings_under tag before in
       let small : count < most.outsides = few refl in
-      let number : n ≡ suc (length words) = omega (arith, has-spellings.counted) in
+      let number : n ≡ suc (length words) = omega (arith, has_spellings.counted) in
       let head : get_or room (bucket_of h) 0 ≤ length words = leads_small table room (bucket_of h) words
-      (has-spellings.indexed.leads (bucket_of h) (omega arith)) in
+      (has_spellings.indexed.leads (bucket_of h) (omega arith)) in
       record {
-        long = with_length room has-spellings.long n h from (length spelling) (omega arith) (omega arith);
-        falling = falling_more room has-spellings.long n h from (length spelling) (omega arith) (omega arith) has-spellings.falling
-            (omega (arith, has-spellings.counted));
+        long = with_length room has_spellings.long n h from (length spelling) (omega arith) (omega arith);
+        falling = falling_more room has_spellings.long n h from (length spelling) (omega arith) (omega arith) has_spellings.falling
+            (omega (arith, has_spellings.counted));
         indexed =
             subst (Indexed table (room_with room n h from (length spelling))) (sym (spelled_here tag found spelling before e))
-            (indexed-more room has-spellings.long n h from (length spelling) (omega arith) (omega arith) number refl p has-spellings.indexed);
-        counted = ap length (spelled_here tag found spelling before e) ∙ omega (arith, has-spellings.counted);
+            (indexed_more room has_spellings.long n h from (length spelling) (omega arith) (omega arith) number refl p has_spellings.indexed);
+        counted = ap length (spelled_here tag found spelling before e) ∙ omega (arith, has_spellings.counted);
       }
-  has-next found spelling from p false e few =
+  has_next found spelling from p false e few =
       record {
-        long = has-spellings.long;
-        falling = has-spellings.falling;
-        indexed = subst (Indexed table room) (sym (spelled_other tag found spelling before e)) has-spellings.indexed;
-        counted = ap length (spelled_other tag found spelling before e) ∙ omega (arith, has-spellings.counted);
+        long = has_spellings.long;
+        falling = has_spellings.falling;
+        indexed = subst (Indexed table room) (sym (spelled_other tag found spelling before e)) has_spellings.indexed;
+        counted = ap length (spelled_other tag found spelling before e) ∙ omega (arith, has_spellings.counted);
       }

@@ -26,11 +26,11 @@ use Rattle.layout.specs.Before.{earlier, fields_before, checking}
 
 -- ------------------------------------------------------------------ the fields before an offset
 
-earlier_by : (to at tag : ℕ) (value : List ℕ) (fs : RawFields) (before : List encode.Field) (before-it : Bool) → ltb at to ≡ before-it
+earlier_by : (to at tag : ℕ) (value : List ℕ) (fs : RawFields) (before : List encode.Field) (before_it : Bool) → ltb at to ≡ before_it
     → earlier to (next at tag value fs) before
-    ≡ elim before-it as (λ x. List encode.Field) [ true ↦ earlier to fs (field tag value ∷ before) | false ↦ before ]
+    ≡ elim before_it as (λ x. List encode.Field) [ true ↦ earlier to fs (field tag value ∷ before) | false ↦ before ]
 unfolding earlier
-earlier_by to at tag value fs before before-it e =
+earlier_by to at tag value fs before before_it e =
     cc
 
 -- what is left at the end of a list of fields

@@ -23,7 +23,7 @@ use Rattle.layout.specs.Index.{entered, HasSpellings, Remembered}
 use Rattle.fields.proofs.Laws.{first_fault, field_by}
 use Rattle.decoding.proofs.Rooms.{room_of}
 use Rattle.layout.proofs.LawsFields.{Turn, none_before, before_next, checked_ok, lent_is}
-use Rattle.layout.proofs.IndexLaws.{has_none, has-next}
+use Rattle.layout.proofs.IndexLaws.{has_none, has_next}
 
 -- a field that passes has room, and what has been read is one field further
 first_ok :
@@ -36,10 +36,10 @@ first_ok true true true false whole at progress next e = let z : ◌≡◌ {A = 
 first_ok true true true true false at progress next e = let z : ◌≡◌ {A = ℕ} 0 1 = cc in absurd (omega arith)
 first_ok true true true true true at progress next e = (refl, cc)
 
-field-ok :
+field_ok :
     (before : List values.Field) (at tag : ℕ) (bytes : List ℕ) (progress next : Progress) → check_field before at tag bytes progress ≡ ok next
     → (has_room tag progress ≡ true) × (next ≡ passed tag progress)
-field-ok before at tag bytes progress next e =
+field_ok before at tag bytes progress next e =
     first_ok (is_known tag bytes) (follows tag progress.last) (is_spelled tag bytes before) (has_room tag progress) (is_whole tag bytes) at
     (passed tag progress) next
     (sym (field_by before at tag bytes progress _ _ _ _ _ refl refl refl refl refl) ∙ e)
@@ -49,10 +49,10 @@ below : (count limit : ℕ) (here : Bool) → (not here || ltb count limit) ≡ 
 below count limit true e h k = omega (arith, ltb-true count limit e)
 below count limit false e h k = absurd (let z : ◌≡◌ {A = ℕ} 0 1 = cc in omega arith)
 
-has-moved :
+has_moved :
     {table : List ℕ} {tag : ℕ} {fields fields' : List values.Field} {count count' : ℕ} {room room' : List ℕ} → fields ≡ fields' → count ≡ count' → room ≡ room'
     → HasSpellings table tag fields count room → HasSpellings table tag fields' count' room'
-has-moved {table} {tag} {fields} {fields'} {count} {count'} {room} e f g h =
+has_moved {table} {tag} {fields} {fields'} {count} {count'} {room} e f g h =
     subst (HasSpellings table tag fields' count') g (rw (← f) (rw (← e) h))
 
 -- no field yet
@@ -60,8 +60,8 @@ pub remembered_start : {table : List ℕ} {progress : Progress} → progress ≡
     → Remembered table 0 progress (replicate index_size 0) (replicate index_size 0)
 remembered_start {table} e =
     record {
-      keywords = has-moved (sym (none_before table)) (cc) refl has_none;
-      outsides = has-moved (sym (none_before table)) (cc) refl has_none;
+      keywords = has_moved (sym (none_before table)) (cc) refl has_none;
+      outsides = has_moved (sym (none_before table)) (cc) refl has_none;
     }
 
 module _ {table : List ℕ} {at : ℕ} {progress : Progress} {keywords outsides : List ℕ} (turn : Turn table at progress)
@@ -74,7 +74,7 @@ module _ {table : List ℕ} {at : ℕ} {progress : Progress} {keywords outsides 
   lent = take (at + 3 + size - (at + 3)) (drop (at + 3) table)
 
   passes : (has_room tag progress ≡ true) × (next ≡ passed tag progress)
-  passes = field-ok (fields_before table at) at tag lent progress next (checked_ok _ next agrees)
+  passes = field_ok (fields_before table at) at tag lent progress next (checked_ok _ next agrees)
 
   -- the value is found again by its place and length
   again : take (length value) (drop (at + 3) table) ≡ value
@@ -91,19 +91,19 @@ module _ {table : List ℕ} {at : ℕ} {progress : Progress} {keywords outsides 
   outside_room h = below progress.outsides most.outsides (eqb tag 2) (room_of tag progress passes.0).outsides (omega arith) h
 
   -- one field more
-  pub remembered-next :
+  pub remembered_next :
       {keywords' outsides' : List ℕ} → keywords' ≡ entered keywords (eqb tag 1) progress.keywords (at + 3) lent
       → outsides' ≡ entered outsides (eqb tag 2) progress.outsides (at + 3) lent
       → Remembered table (at + 3 + size) next keywords' outsides'
   unfolding passed
-  remembered-next {keywords'} {outsides'} p q =
+  remembered_next {keywords'} {outsides'} p q =
       let same : lent ≡ value = lent_is table (at + 3) size in
       let fields : field tag value ∷ fields_before table at ≡ fields_before table (at + 3 + size) = sym (before_next turn equal) in
       record {
         keywords =
-            has-moved fields (cc passes.1) (sym (p ∙ ap (entered keywords (eqb tag 1) progress.keywords (at + 3)) same))
-            (has-next remembered.keywords tag value (at + 3) again (eqb tag 1) refl keyword_room);
+            has_moved fields (cc passes.1) (sym (p ∙ ap (entered keywords (eqb tag 1) progress.keywords (at + 3)) same))
+            (has_next remembered.keywords tag value (at + 3) again (eqb tag 1) refl keyword_room);
         outsides =
-            has-moved fields (cc passes.1) (sym (q ∙ ap (entered outsides (eqb tag 2) progress.outsides (at + 3)) same))
-            (has-next remembered.outsides tag value (at + 3) again (eqb tag 2) refl outside_room);
+            has_moved fields (cc passes.1) (sym (q ∙ ap (entered outsides (eqb tag 2) progress.outsides (at + 3)) same))
+            (has_next remembered.outsides tag value (at + 3) again (eqb tag 2) refl outside_room);
       }

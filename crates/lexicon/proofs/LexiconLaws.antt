@@ -8,7 +8,7 @@ use lib.ListN.{length, get_or, set, take, drop, replicate, length-set, length-ap
 use lib.Seq.{sets, length-sets, take-nil, drop-cons, get_or-set_same, get_or-set_other}
 use borrow.Author.Tests.{eq-eqb, ne_eqb}
 use Rattle.spellings.specs.Bytes.{same}
-use Rattle.spellings.proofs.BytesLaws.{by-test, same_true, same_false, equal_same, differ_same}
+use Rattle.spellings.proofs.BytesLaws.{by_test, same_true, same_false, equal_same, differ_same}
 use Rattle.grammar.specs.declared.Front.{Front}
 use Rattle.grammar.specs.declared.Front.TheVariants.{Nothing, Short, Field}
 use Rattle.grammar.specs.Table.{Lexicon}
@@ -304,7 +304,7 @@ module _ {table room₀ : List ℕ} {count : ℕ} {room : List ℕ} {number : �
           long₀ = marking.long₀;
           symbols =
               λ b l.
-              by-test (same spelling (b ∷ []))
+              by_test (same spelling (b ∷ []))
               (λ t.
               let i : spelling ≡ b ∷ [] = same_true spelling (b ∷ []) t in
               marked.this b l i ∙ sym (rw from_here (kind_here (number - 1) spelling (drop number (words_in table room₀ count)) (b ∷ []) i)))
@@ -338,7 +338,7 @@ blank =
       unlinked = zeros tree_size;
     }
 
-module _ (kinds : ℕ) {table room₀ links₀ : List ℕ} (given-blank : Blank room₀ links₀) (short : length table < 2 ^ 32) where
+module _ (kinds : ℕ) {table room₀ links₀ : List ℕ} (given_blank : Blank room₀ links₀) (short : length table < 2 ^ 32) where
   -- blank rooms have room for all keywords
   pub first_enters : Enters table room₀ links₀ 0 most.keywords
   unfolding words_from
@@ -346,15 +346,15 @@ module _ (kinds : ℕ) {table room₀ links₀ : List ℕ} (given-blank : Blank 
       record {
         short = short;
         enough = omega arith;
-        spelled = record { long = given-blank.long; wide = given-blank.wide; tree = tree_none tree_mask links₀ given-blank.unlinked };
+        spelled = record { long = given_blank.long; wide = given_blank.wide; tree = tree_none tree_mask links₀ given_blank.unlinked };
       }
 
   module _ {room₁ links₁ : List ℕ} {number : ℕ}
-      (spellings-entered₁ : SpellingsEntered table room₀ room₁ links₁ number
+      (spellings_entered₁ : SpellingsEntered table room₀ room₁ links₁ number
       (words_in table room₀ 0 ++ kept_if false kinds 0 (take most.keywords (leading 1 (fields_at table 0))))) where
     keywords_listed : words_in table room₁ number ≡ (lexicon_by kinds [] table).keywords
     unfolding words_from
-    keywords_listed = spellings-entered₁.listed ∙ ap (spellings_kept kinds 0) (sym (keywords_at table))
+    keywords_listed = spellings_entered₁.listed ∙ ap (spellings_kept kinds 0) (sym (keywords_at table))
 
     keywords_few : length (lexicon_by kinds [] table).keywords ≤ most.keywords
     keywords_few = omega (arith, kept_many kinds 0 (lexicon_of table).keywords, few_keywords table)
@@ -368,7 +368,7 @@ module _ (kinds : ℕ) {table room₀ links₀ : List ℕ} (given-blank : Blank 
 
     -- after the keywords are entered no symbol has a kind yet
     pub still_unmarked : Unmarked room₁
-    still_unmarked i l = spellings-entered₁.behind (symbols_at + i) (omega arith) ∙ given-blank.unmarked i l
+    still_unmarked i l = spellings_entered₁.behind (symbols_at + i) (omega arith) ∙ given_blank.unmarked i l
 
     module _ {room₂ : List ℕ} (marked : Symbols (words_in table room₁ number) 0 room₂ × SamePlaces room₁ room₂) where
       same_keywords : words_in table room₂ number ≡ words_in table room₁ number
@@ -377,7 +377,7 @@ module _ (kinds : ℕ) {table room₀ links₀ : List ℕ} (given-blank : Blank 
       -- behind the keywords there is room for all outside names
       pub second_enters : Enters table room₂ links₁ number most.outsides
       second_enters =
-          let p = spellings-entered₁.spelled in
+          let p = spellings_entered₁.spelled in
           record {
             short = short;
             enough = omega (arith, few_marks);
@@ -385,14 +385,14 @@ module _ (kinds : ℕ) {table room₀ links₀ : List ℕ} (given-blank : Blank 
           }
 
       module _ (names : ℕ) (equal : fields_at table names ≡ after_leading 1 (fields_at table 0)) {room₃ links₃ : List ℕ} {total : ℕ}
-          (spellings-entered₂ : SpellingsEntered table room₂ room₃ links₃ total
+          (spellings_entered₂ : SpellingsEntered table room₂ room₃ links₃ total
           (words_in table room₂ number ++ kept_if true 0 0 (take most.outsides (leading 2 (fields_at table names)))))
         where
           room₄ : List ℕ
           room₄ = set (set room₃ keyword_count_at number) spelling_count_at total
 
           long₃ : length room₃ ≡ lexicon_size
-          long₃ = spellings-entered₂.spelled.long
+          long₃ = spellings_entered₂.spelled.long
 
           before₄ : (place : ℕ) → place < keyword_count_at → get_or room₄ place 0 ≡ get_or room₃ place 0
           unfolding room₄
@@ -413,14 +413,14 @@ module _ (kinds : ℕ) {table room₀ links₀ : List ℕ} (given-blank : Blank 
 
           listed₃ : words_in table room₃ total ≡ (lexicon_by kinds [] table).keywords ++ (lexicon_by kinds [] table).outsides
           listed₃ =
-              cc (spellings-entered₂.listed, same_keywords, keywords_listed, outsides_at table names equal)
+              cc (spellings_entered₂.listed, same_keywords, keywords_listed, outsides_at table names equal)
 
           listed₄ : words_in table room₄ total ≡ words_in table room₃ total
-          listed₄ = words_alike total table room₃ room₄ 0 (λ j l. before₄ j (omega (arith, spellings-entered₂.few)))
+          listed₄ = words_alike total table room₃ room₄ 0 (λ j l. before₄ j (omega (arith, spellings_entered₂.few)))
 
           symbols₄ : (byte : ℕ) → byte < symbol_end → get_or room₄ (symbols_at + byte) 0 ≡ kind_from 0 (lexicon_by kinds [] table).keywords (byte ∷ [])
           symbols₄ byte l =
-              cc (before₄ (symbols_at + byte) (omega arith), spellings-entered₂.behind (symbols_at + byte) (omega arith), marked.0 byte l, keywords_listed)
+              cc (before₄ (symbols_at + byte) (omega arith), spellings_entered₂.behind (symbols_at + byte) (omega arith), marked.0 byte l, keywords_listed)
 
           lexical₄ : Lexical (lexicon_by kinds [] table) table room₄ links₃
           unfolding room₄
@@ -428,7 +428,7 @@ module _ (kinds : ℕ) {table room₀ links₀ : List ℕ} (given-blank : Blank 
               let lex : Lexicon = lexicon_by kinds [] table in
               record {
                 long = length-set (set room₃ keyword_count_at number) spelling_count_at total ∙ length-set room₃ keyword_count_at number ∙ long₃;
-                wide = spellings-entered₂.spelled.wide;
+                wide = spellings_entered₂.spelled.wide;
                 few_keywords = keywords_few;
                 few_outsides = few_outsides table;
                 keywords = keyword_count ∙ keywords_counted;
@@ -436,7 +436,7 @@ module _ (kinds : ℕ) {table room₀ links₀ : List ℕ} (given-blank : Blank 
                     spelling_count ∙ sym (words_length total table room₃ 0) ∙ ap length listed₃ ∙ length-append lex.keywords lex.outsides;
                 spelled = ap (words_in table room₄) spelling_count ∙ listed₄ ∙ listed₃;
                 symbols = symbols₄;
-                tree = rw listed₃ at spellings-entered₂.spelled.tree;
+                tree = rw listed₃ at spellings_entered₂.spelled.tree;
               }
 
           -- with both counts stored, the rooms hold the table's lexicon

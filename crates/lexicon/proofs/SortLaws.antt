@@ -7,7 +7,7 @@ use lib.Dec.{ltb}
 use lib.ListN.{length, get_or, set, drop, length-set, length-drop}
 use lib.Seq.{get_or-set_same, get_or-set_other, get_or-take, get_or-drop, length-take-le, ext_get_or}
 use borrow.Author.Tests.{ltb-true, ltb-false}
-use Rattle.spellings.proofs.BytesLaws.{by-test}
+use Rattle.spellings.proofs.BytesLaws.{by_test}
 use Rattle.grammar.specs.Table.{Lexicon}
 use Rattle.grammar.specs.Variables.{most_variables}
 use Rattle.lexicon.specs.LexiconRoom.{symbols_at, keyword_count_at, spelling_count_at, variable_count_at, variables_at, lexicon_size}
@@ -50,7 +50,7 @@ entering_next {sorts} {room₀} {room} {count} entering more byte inside =
       before =
           λ index l. get_or-set_other room (variables_at + count) index (get_or sorts count 0) 0 (λ e. omega (arith, e)) ∙ entering.before index l;
       each = λ number l.
-          by-test (ltb number count)
+          by_test (ltb number count)
           (λ t.
           let below : number < count = ltb-true number count t in
           get_or-set_other room (variables_at + count) (variables_at + number) (get_or sorts count 0) 0 (λ e. omega (arith, e))
@@ -59,7 +59,7 @@ entering_next {sorts} {room₀} {room} {count} entering more byte inside =
           let last : number ≡ count = omega (arith, ltb-false number count t) in
           rw last (get_or-set_same room (variables_at + count) (get_or sorts count 0) 0 inside));
       small = λ number l.
-          by-test (ltb number count) (λ t. entering.small number (ltb-true number count t))
+          by_test (ltb number count) (λ t. entering.small number (ltb-true number count t))
           (λ t.
           let last : number ≡ count = omega (arith, ltb-false number count t) in
           rw last byte);

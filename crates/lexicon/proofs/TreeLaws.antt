@@ -11,7 +11,7 @@ use lib.ListN.{length, get_or, set, drop, replicate, length-set, length-append, 
 use lib.Seq.{get_or-set_same, get_or-set_other, get_or_at}
 use borrow.Author.Tests.{eqb-true, eqb-false, ltb-true, ltb-false}
 use Rattle.spellings.specs.Bytes.{same, index_of}
-use Rattle.spellings.proofs.BytesLaws.{by-test, same_true, same_false, index_le, index_self, index_found, index_front, index_rest}
+use Rattle.spellings.proofs.BytesLaws.{by_test, same_true, same_false, index_le, index_self, index_found, index_front, index_rest}
 use Rattle.lexicon.specs.Trees.{hash_of, bytes_of, behind_hash, Window, Refilled, Seeks}
 use Rattle.lexicon.specs.Trees.{root_of, turns_of, branch_of, Leads, there, further, Linked, SearchTree, Planted, Extends, FreeFor, FoundAt}
 use Rattle.lexicon.specs.Trees.{Searched, Linkable, links_with}
@@ -35,19 +35,19 @@ pub record Walking (mask : ℕ) (words : List (List ℕ)) (links sought : List �
   pub back : (links' : List ℕ) (number : ℕ) → Extends links links' → Leads links' mask slot turns number
       → Leads links' mask (root_of mask sought) (turns_of sought) number
 
-module _ {mask : ℕ} {words : List (List ℕ)} {links : List ℕ} (search-tree : SearchTree mask words links) (sought : List ℕ) where
+module _ {mask : ℕ} {words : List (List ℕ)} {links : List ℕ} (search_tree : SearchTree mask words links) (sought : List ℕ) where
   walking_start : Walking mask words links sought (root_of mask sought) (turns_of sought)
   walking_start =
-      record { below = omega (arith, and_le_r (hash_of sought) mask); ahead = search-tree.leads sought; back = λ links' i x l. l }
+      record { below = omega (arith, and_le_r (hash_of sought) mask); ahead = search_tree.leads sought; back = λ links' i x l. l }
 
   module _ (slot : ℕ) {found : ℕ} (equal : get_or links slot 0 ≡ suc found) where
     met_at : same (get_or words found []) sought ≡ true → FoundAt words sought found
     met_at f =
-        let n : Linked mask words slot found = search-tree.linked slot found equal in
+        let n : Linked mask words slot found = search_tree.linked slot found equal in
         record { index = cc (n.first, same_true (get_or words found []) sought f); inside = n.small }
 
     branch_behind : (turns : ℕ) → slot < branch_of mask found turns
-    branch_behind turns = omega (arith, (search-tree.linked slot found equal).behind)
+    branch_behind turns = omega (arith, (search_tree.linked slot found equal).behind)
 
   module _ {slot turns : ℕ} (walking : Walking mask words links sought slot turns) where
     module _ {found : ℕ} (equal : get_or links slot 0 ≡ suc found) where
@@ -60,7 +60,7 @@ module _ {mask : ℕ} {words : List (List ℕ)} {links : List ℕ} (search-tree 
 
       walking_next : same (get_or words found []) sought ≡ false → Walking mask words links sought (branch_of mask found turns) (turns / 2)
       walking_next f =
-          let n : Linked mask words slot found = search-tree.linked slot found equal in
+          let n : Linked mask words slot found = search_tree.linked slot found equal in
           record {
             below = omega (arith, n.small);
             ahead =
@@ -74,7 +74,7 @@ module _ {mask : ℕ} {words : List (List ℕ)} {links : List ℕ} (search-tree 
     walking_end : get_or links slot 0 ≡ 0 → FreeFor mask words links sought slot
     walking_end e =
         record {
-          none = by-test (ltb (index_of sought words) (length words)) found
+          none = by_test (ltb (index_of sought words) (length words)) found
               (λ f. omega (arith, ltb-false (index_of sought words) (length words) f, index_le sought words));
           empty = e;
           below = walking.below;
@@ -106,7 +106,7 @@ pub tree_none : (mask : ℕ) (links : List ℕ) → ((number : ℕ) → get_or l
 tree_none mask links z =
     record { leads = λ s h. absurd (omega (arith, h)); linked = λ slot j e. absurd (omega (arith, sym (z slot) ∙ e)) }
 
-module _ {mask : ℕ} {words : List (List ℕ)} {links : List ℕ} (search-tree : SearchTree mask words links) (sought : List ℕ) where
+module _ {mask : ℕ} {words : List (List ℕ)} {links : List ℕ} (search_tree : SearchTree mask words links) (sought : List ℕ) where
   longer : length (words ++ (sought ∷ [])) ≡ length words + 1
   longer = length-append words (sought ∷ [])
 
@@ -121,16 +121,16 @@ module _ {mask : ℕ} {words : List (List ℕ)} {links : List ℕ} (search-tree 
         behind = n.behind;
       }
 
-  module _ (links' : List ℕ) (given-extends : Extends links links')
+  module _ (links' : List ℕ) (given_extends : Extends links links')
       (new : index_of sought words ≡ length words → Leads links' mask (root_of mask sought) (turns_of sought) (length words)) where
     leads_more : (word : List ℕ) → index_of word (words ++ (sought ∷ [])) < length (words ++ (sought ∷ []))
         → Leads links' mask (root_of mask word) (turns_of word) (index_of word (words ++ (sought ∷ [])))
-    leads_more word h = by-test (ltb (index_of word words) (length words)) old other
+    leads_more word h = by_test (ltb (index_of word words) (length words)) old other
       where
         old : ltb (index_of word words) (length words) ≡ true → Leads links' mask (root_of mask word) (turns_of word) (index_of word (words ++ (sought ∷ [])))
         old e =
             let l : index_of word words < length words = ltb-true (index_of word words) (length words) e in
-            rw (index_front word words (sought ∷ []) l) (leads_extended given-extends (search-tree.leads word l))
+            rw (index_front word words (sought ∷ []) l) (leads_extended given_extends (search_tree.leads word l))
 
         other : ltb (index_of word words) (length words) ≡ false
             → Leads links' mask (root_of mask word) (turns_of word) (index_of word (words ++ (sought ∷ [])))
@@ -148,11 +148,11 @@ module _ {mask : ℕ} {words : List (List ℕ)} {links : List ℕ} (search-tree 
   tree_again h =
       record {
         leads = leads_more links (λ slot j e. e) (λ z. absurd (omega (arith, z)));
-        linked = λ slot j e. linked_more slot j (search-tree.linked slot j e);
+        linked = λ slot j e. linked_more slot j (search_tree.linked slot j e);
       }
 
   -- one that is new is linked where a search for it ends
-  module _ {slot : ℕ} (free-for : FreeFor mask words links sought slot) (inside : slot < length links) where
+  module _ {slot : ℕ} (free_for : FreeFor mask words links sought slot) (inside : slot < length links) where
     links₁ : List ℕ
     links₁ = set links slot (length words + 1)
 
@@ -166,12 +166,12 @@ module _ {mask : ℕ} {words : List (List ℕ)} {links : List ℕ} (search-tree 
 
     extends : Extends links links₁
     extends i j e =
-        let differs : i ≡ slot → ⊥ = λ z. omega (arith, sym free-for.empty ∙ ap (λ (n : ℕ). get_or links n 0) (sym z) ∙ e) in
+        let differs : i ≡ slot → ⊥ = λ z. omega (arith, sym free_for.empty ∙ ap (λ (n : ℕ). get_or links n 0) (sym z) ∙ e) in
         set_other i differs ∙ e
 
     linked_new : (place number : ℕ) → get_or links₁ place 0 ≡ suc number → Linked mask (words ++ (sought ∷ [])) place number
     linked_new place number e =
-        by-test (eqb place slot)
+        by_test (eqb place slot)
         (λ t.
         let z : place ≡ slot = eqb-true place slot t in
         let n : number ≡ length words = omega (arith, sym e ∙ ap (λ (n : ℕ). get_or links₁ n 0) z ∙ set_there) in
@@ -179,16 +179,16 @@ module _ {mask : ℕ} {words : List (List ℕ)} {links : List ℕ} (search-tree 
         record {
           small = omega (arith, longer);
           first =
-              rw (g) refl ∙ index_rest sought words (sought ∷ []) free-for.none
+              rw (g) refl ∙ index_rest sought words (sought ∷ []) free_for.none
               ∙ omega (arith, index_self sought, n);
-          behind = omega (arith, free-for.below);
+          behind = omega (arith, free_for.below);
         })
-        (λ t. linked_more place number (search-tree.linked place number (sym (set_other place (eqb-false place slot t)) ∙ e)))
+        (λ t. linked_more place number (search_tree.linked place number (sym (set_other place (eqb-false place slot t)) ∙ e)))
 
     tree_new : SearchTree mask (words ++ (sought ∷ [])) links₁
     tree_new =
         record {
-          leads = leads_more links₁ extends (λ z. free-for.back links₁ (length words) extends set_there);
+          leads = leads_more links₁ extends (λ z. free_for.back links₁ (length words) extends set_there);
           linked = linked_new;
         }
 
@@ -244,13 +244,13 @@ following_next : {mask : ℕ} {words : List (List ℕ)} {links sought : List ℕ
     → {found : ℕ} → get_or links slot 0 ≡ suc found
     → same (get_or words found []) sought ≡ false
     → Following mask words links sought more (branch_of mask found turns) (turns / 2)
-following_next {mask} {sought = sought} {turns = turns} search-tree f l {found} e d =
+following_next {mask} {sought = sought} {turns = turns} search_tree f l {found} e d =
     let turn : f.path % 2 ≡ turns % 2 = window_turn f.window l in
     let next : branch_of mask found f.path ≡ branch_of mask found turns = ap (λ (b : ℕ). mask + 1 + found * 2 + b) turn in
     record {
       path = f.path / 2;
       window = window_next f.window l;
-      walking = rw next at (walking_next search-tree sought f.walking e d);
+      walking = rw next at (walking_next search_tree sought f.walking e d);
     }
 
 -- ------------------------------------------------------------------ the search as the code has it

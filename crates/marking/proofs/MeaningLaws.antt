@@ -9,7 +9,7 @@ use native.Mathlib.Decide.{dec_lt}
 use lib.Dec.{eqb}
 use lib.ListN.{length, set, length-set}
 use borrow.Author.Tests.{eqb-true, eqb-false}
-use Rattle.spellings.proofs.BytesLaws.{by-test}
+use Rattle.spellings.proofs.BytesLaws.{by_test}
 use Rattle.kinds.proofs.KindsLaws.{has_none, has_join}
 use Rattle.grammar.proofs.ReaderLaws.{get_d_past}
 use Rattle.terms.specs.Cells.{column, columns, most_cells}
@@ -161,25 +161,25 @@ module _ (spell : ℕ → List ℕ) (apart : Distinct spell) (cells : List ℕ) 
     unfolding marks holds
     row_means known =
         let code : ℕ = column cells row 0 in
-        by-test (eqb code 0x20) (λ e. variable_means (eqb-true code 0x20 e) known)
-        (λ v. by-test (eqb code 0x21) (λ e. function_means (eqb-true code 0x21 e) known)
-        (λ f. by-test (eqb code 0x22) (λ e. apply_means (eqb-true code 0x22 e) known)
-        (λ a. by-test (eqb code 0x23) (λ e. rcd_means (eqb-true code 0x23 e) known)
-        (λ r. by-test (eqb code 0x24) (λ e. dot_means (eqb-true code 0x24 e) known)
+        by_test (eqb code 0x20) (λ e. variable_means (eqb-true code 0x20 e) known)
+        (λ v. by_test (eqb code 0x21) (λ e. function_means (eqb-true code 0x21 e) known)
+        (λ f. by_test (eqb code 0x22) (λ e. apply_means (eqb-true code 0x22 e) known)
+        (λ a. by_test (eqb code 0x23) (λ e. rcd_means (eqb-true code 0x23 e) known)
+        (λ r. by_test (eqb code 0x24) (λ e. dot_means (eqb-true code 0x24 e) known)
         (λ d.
-        let no-v = eqb-false code 0x20 v in
-        let no-f = eqb-false code 0x21 f in
-        let no-a = eqb-false code 0x22 a in
-        let no-r = eqb-false code 0x23 r in
-        let no-d = eqb-false code 0x24 d in
-        rw (num_marked read place current (((((tt, no-v), no-f), no-a), no-r), no-d))
-        (rows.number_row spell cells depth row some refl (λ t. Means spell bare (marks around place t) (λ s. holds s t)) (λ n. bare_means) no-v no-f no-a
-        no-r no-d))))))
+        let no_v = eqb-false code 0x20 v in
+        let no_f = eqb-false code 0x21 f in
+        let no_a = eqb-false code 0x22 a in
+        let no_r = eqb-false code 0x23 r in
+        let no_d = eqb-false code 0x24 d in
+        rw (num_marked read place current (((((tt, no_v), no_f), no_a), no_r), no_d))
+        (rows.number_row spell cells depth row some refl (λ t. Means spell bare (marks around place t) (λ s. holds s t)) (λ n. bare_means) no_v no_f no_a
+        no_r no_d))))))
 
     fields_row_mean : FieldListMeans depth row place around current
     unfolding WellNamedFields marks_fields holds_fields
     fields_row_mean known =
-        by-test (eqb (column cells row 0) 0x26)
+        by_test (eqb (column cells row 0) 0x26)
         (λ test.
         let e = eqb-true (column cells row 0) 0x26 test in
         let q : ℕ = column cells row 2 in

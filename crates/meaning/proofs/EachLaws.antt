@@ -43,8 +43,8 @@ module _ (cells text : List ℕ) where
   refused_keeps : {x : Expanded} → length x.cells ≡ length cells → x.text ≡ text → written x.answer ≡ 0 → Keeps cells text x
   refused_keeps many same none = record { as_many_cells = many; as_long = rw same; fits = omega arith; text_behind = rw same }
 
-  finish_keeps : {write : Term Name → List ℕ} {made : ℕ} {core-term : Term Name} {cells' : List ℕ} {x : Expanded} → length cells' ≡ length cells
-      → Finish write made core-term cells' text x
+  finish_keeps : {write : Term Name → List ℕ} {made : ℕ} {core_term : Term Name} {cells' : List ℕ} {x : Expanded} → length cells' ≡ length cells
+      → Finish write made core_term cells' text x
       → Keeps cells text x
   finish_keeps many (is_refused j) = refused_keeps many refl refl
   finish_keeps many (too_long p b) = refused_keeps many refl refl

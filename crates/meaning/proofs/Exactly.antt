@@ -56,8 +56,8 @@ module _ {write : Term Name → List ℕ} {made : ℕ} {meant : Term Name} {cell
   long_answer (too_long q b) p l = refl
   long_answer (prints q b) p l = absurd (omega arith)
 
-  text_printed : {expanded : Expanded} {cells-made constructors text_size_lem : ℕ} → Finish write made meant cells text expanded
-      → expanded.answer ≡ Accepted cells-made constructors text_size_lem
+  text_printed : {expanded : Expanded} {cells_made constructors text_size_lem : ℕ} → Finish write made meant cells text expanded
+      → expanded.answer ≡ Accepted cells_made constructors text_size_lem
       → expanded.text ≡ write meant ++ drop (length (write meant)) text
   text_printed (is_refused j) e = never (sym e)
   text_printed (too_long p b) e = never (sym e)
@@ -93,12 +93,12 @@ module _ (write : Term Name → List ℕ) (table : Table) (passing : Passing tab
 
   -- ------------------------------------------------------------------ every cause, and acceptance
 
-  cause_last : {meant : Term Name} {cells' : List ℕ} {expanded : Expanded} (means-within : MeansWithin syntax formula cells meant)
-      → Finish write (cells_of means-within) meant cells' text expanded → (cause : Refusal)
+  cause_last : {meant : Term Name} {cells' : List ℕ} {expanded : Expanded} (means_within : MeansWithin syntax formula cells meant)
+      → Finish write (cells_of means_within) meant cells' text expanded → (cause : Refusal)
       → expanded.answer ≡ Refusing cause → Cause write syntax formula cells text cause
-  cause_last means-within (is_refused j) cause e = subst (Cause write syntax formula cells text) (same_refusal e) (is_judged means-within j)
-  cause_last means-within (too_long p b) cause e = subst (Cause write syntax formula cells text) (same_refusal e) (text_too_long means-within p (omega arith))
-  cause_last means-within (prints p b) cause e = never e
+  cause_last means_within (is_refused j) cause e = subst (Cause write syntax formula cells text) (same_refusal e) (is_judged means_within j)
+  cause_last means_within (too_long p b) cause e = subst (Cause write syntax formula cells text) (same_refusal e) (text_too_long means_within p (omega arith))
+  cause_last means_within (prints p b) cause e = never e
 
   cause_of : {expanded : Expanded} → Stage table passing formula cells write text expanded → (cause : Refusal) → expanded.answer ≡ Refusing cause
       → Cause write syntax formula cells text cause
@@ -117,19 +117,19 @@ module _ (write : Term Name → List ℕ) (table : Table) (passing : Passing tab
   refused_exactly cause = (cause_of (stages table passing formula cells write text) cause, answer_of)
 
   accepts_last : {meant : Term Name} {cells' : List ℕ} {expanded : Expanded} {made constructors text_size_lem : ℕ}
-      (means-within : MeansWithin syntax formula cells meant) → Finish write (cells_of means-within) meant cells' text expanded
+      (means_within : MeansWithin syntax formula cells meant) → Finish write (cells_of means_within) meant cells' text expanded
       → expanded.answer ≡ Accepted made constructors text_size_lem → Accepts write syntax formula cells text meant made constructors text_size_lem
-  accepts_last means-within (is_refused j) e = never (sym e)
-  accepts_last means-within (too_long p b) e = never (sym e)
-  accepts_last means-within (prints p b) e =
-      record { means = means-within; passes = p; fits = b; cells_are = (cc); size_is = (cc); length_is = (cc) }
+  accepts_last means_within (is_refused j) e = never (sym e)
+  accepts_last means_within (too_long p b) e = never (sym e)
+  accepts_last means_within (prints p b) e =
+      record { means = means_within; passes = p; fits = b; cells_are = (cc); size_is = (cc); length_is = (cc) }
 
   accepts_of : {expanded : Expanded} {made constructors text_size_lem : ℕ} → Stage table passing formula cells write text expanded
       → expanded.answer ≡ Accepted made constructors text_size_lem
       → (meant : Term Name) × Accepts write syntax formula cells text meant made constructors text_size_lem
   accepts_of (in_scan u) e = never (sym e)
   accepts_of (in_parse S h k) e = never (sym e)
-  accepts_of (at_last {core-term = u} E R f) e = (u, accepts_last E f e)
+  accepts_of (at_last {core_term = u} E R f) e = (u, accepts_last E f e)
 
   -- A formula is accepted exactly if a term of it is, with these values.
   pub accepted_exactly : (made constructors text_size_lem : ℕ) → (X.answer ≡ Accepted made constructors text_size_lem)
@@ -163,21 +163,21 @@ module _ (write : Term Name → List ℕ) (table : Table) (passing : Passing tab
   finish_cells (prints p b) = refl
 
   finish_count : {made : ℕ} {meant : Term Name} {cells' : List ℕ} {expanded : Expanded} → Finish write made meant cells' text expanded
-      → (cells-made constructors text_size_lem : ℕ) → expanded.answer ≡ Accepted cells-made constructors text_size_lem → cells-made ≡ made
-  finish_count (is_refused j) cells-made constructors text_size_lem e = never (sym e)
-  finish_count (too_long p b) cells-made constructors text_size_lem e = never (sym e)
-  finish_count (prints p b) cells-made constructors text_size_lem e = cc
+      → (cells_made constructors text_size_lem : ℕ) → expanded.answer ≡ Accepted cells_made constructors text_size_lem → cells_made ≡ made
+  finish_count (is_refused j) cells_made constructors text_size_lem e = never (sym e)
+  finish_count (too_long p b) cells_made constructors text_size_lem e = never (sym e)
+  finish_count (prints p b) cells_made constructors text_size_lem e = cc
 
   -- the cells of an acceptance show its term
-  cells_of_lem : {expanded : Expanded} → Stage table passing formula cells write text expanded → (cells-made constructors text_size_lem : ℕ)
-      → expanded.answer ≡ Accepted cells-made constructors text_size_lem → {meant : Term Name} (means : Means syntax formula meant)
-      → ((row : ℕ) × (row < cells-made) × (term_at cells-made (spell_of syntax means.words) (take (cells-made * columns) expanded.cells) row ≡ meant))
-      × ((other : ℕ) → other < cells-made → IsCode (column expanded.cells other 0))
-  cells_of_lem (in_scan u) cells-made constructors text_size_lem q means = never (sym q)
-  cells_of_lem (in_parse S h k) cells-made constructors text_size_lem q means = never (sym q)
-  cells_of_lem (at_last {row = v} {state = s} E R f) cells-made constructors text_size_lem q means =
+  cells_of_lem : {expanded : Expanded} → Stage table passing formula cells write text expanded → (cells_made constructors text_size_lem : ℕ)
+      → expanded.answer ≡ Accepted cells_made constructors text_size_lem → {meant : Term Name} (means : Means syntax formula meant)
+      → ((row : ℕ) × (row < cells_made) × (term_at cells_made (spell_of syntax means.words) (take (cells_made * columns) expanded.cells) row ≡ meant))
+      × ((other : ℕ) → other < cells_made → IsCode (column expanded.cells other 0))
+  cells_of_lem (in_scan u) cells_made constructors text_size_lem q means = never (sym q)
+  cells_of_lem (in_parse S h k) cells_made constructors text_size_lem q means = never (sym q)
+  cells_of_lem (at_last {row = v} {state = s} E R f) cells_made constructors text_size_lem q means =
       let words = same_words table passing formula means.scans E.means.scans in
-      let made : cells-made ≡ s.made = finish_count f cells-made constructors text_size_lem q ∙ sym R.made_is in
+      let made : cells_made ≡ s.made = finish_count f cells_made constructors text_size_lem q ∙ sym R.made_is in
       rw (words, made, finish_cells f) ((v, R.below, R.shown_by_made ∙ means_one table passing formula E.means means), R.coded)
 
   -- A row of the cells made by an acceptance shows the term, and each of them has the code of a constructor.
@@ -209,10 +209,10 @@ module _ (write : Term Name → List ℕ) (table : Table) (passing : Passing tab
   ran ts e = rw e at (run_leaves (rows_lent (length cells)) (input_of (grammar_of table) ts cells) refl table.root cells)
 
   -- Where a term is derived within the limits, the numbers behind the cells that it costs are as lent.
-  pub cells_behind : {meant : Term Name} (means-within : MeansWithin syntax formula cells meant) → Left (cells_of means-within) cells X.cells
-  cells_behind means-within =
-      let q = meant_reached table passing formula cells write text means-within in
-      let behind = (ran means-within.means.tokens q.3.runs).2 in
+  pub cells_behind : {meant : Term Name} (means_within : MeansWithin syntax formula cells meant) → Left (cells_of means_within) cells X.cells
+  cells_behind means_within =
+      let q = meant_reached table passing formula cells write text means_within in
+      let behind = (ran means_within.means.tokens q.3.runs).2 in
       rw (finish_cells q.4, ← q.3.made_is) behind
 
   -- Where the rules stop with 17 to 21, the numbers behind the cells made by then are as lent.

@@ -63,15 +63,15 @@ module _ (table : Table) (passing : Passing table) (formula cells text : List �
   abbrev EndsAs : Expanded → Type 0
   EndsAs x = Ends syntax formula cells text x.answer x.text
 
-  ends_last : {meant : Term Name} {cells' : List ℕ} {given-expanded : Expanded} (means-within : MeansWithin syntax formula cells meant)
-      → Finish text_of (cells_of means-within) meant cells' text given-expanded → EndsAs given-expanded
-  ends_last means-within (is_refused j) = refuses (Meaning.is_judged means-within j)
-  ends_last means-within (too_long p b) = refuses (Meaning.text_too_long means-within p b)
-  ends_last means-within (prints p b) =
-      Hygiene.prints (record { means = means-within; passes = p; fits = b; cells_are = refl; size_is = refl; length_is = refl })
-      (hygienic means-within.means (none_places p.occur p.none_loose))
+  ends_last : {meant : Term Name} {cells' : List ℕ} {given_expanded : Expanded} (means_within : MeansWithin syntax formula cells meant)
+      → Finish text_of (cells_of means_within) meant cells' text given_expanded → EndsAs given_expanded
+  ends_last means_within (is_refused j) = refuses (Meaning.is_judged means_within j)
+  ends_last means_within (too_long p b) = refuses (Meaning.text_too_long means_within p b)
+  ends_last means_within (prints p b) =
+      Hygiene.prints (record { means = means_within; passes = p; fits = b; cells_are = refl; size_is = refl; length_is = refl })
+      (hygienic means_within.means (none_places p.occur p.none_loose))
 
-  ends_stage : {given-expanded : Expanded} → Stage table passing formula cells text_of text given-expanded → EndsAs given-expanded
+  ends_stage : {given_expanded : Expanded} → Stage table passing formula cells text_of text given_expanded → EndsAs given_expanded
   ends_stage (in_scan u) = refuses (Meaning.unscanned u)
   ends_stage (in_parse S e h) = refuses (Meaning.stopped S h)
   ends_stage (at_last E R f) = ends_last E f

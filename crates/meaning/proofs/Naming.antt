@@ -5,7 +5,7 @@ use mathlib.Core.Bool.{Bool, true, false, true≢false, false≢true, or-true}
 use mathlib.Core.List.{List, [], ◌∷◌, map}
 use native.Mathlib.Omega.{arith}
 use Rattle.spellings.specs.Bytes.{one_if}
-use Rattle.spellings.proofs.BytesLaws.{by-test, same_true, same_refl}
+use Rattle.spellings.proofs.BytesLaws.{by_test, same_true, same_refl}
 use Rattle.decoding.specs.Within.{each_none, each_more}
 use Rattle.decoding.proofs.Spelled.{each_split}
 use Rattle.decoding.proofs.Values.{by_either}
@@ -66,8 +66,8 @@ mutual
   rule_holds_fields {spelling} (in_later {l} {t} {f} h) = rw (rule_holds_fields h) (or-true (holds spelling t))
 
 -- a binder is shown as the rules say, by whether it is renamed
-binder_named : {G : List Given} {spell : ℕ → List ℕ} {binder : Name} → BinderPlace G spell binder → (renamed-now : Bool) (counter : ℕ) (body : Term Name)
-    → is_renamed binder body ≡ renamed-now → BinderShown counter binder body (binder_shown renamed-now counter binder) (one_if renamed-now + counter)
+binder_named : {G : List Given} {spell : ℕ → List ℕ} {binder : Name} → BinderPlace G spell binder → (renamed_now : Bool) (counter : ℕ) (body : Term Name)
+    → is_renamed binder body ≡ renamed_now → BinderShown counter binder body (binder_shown renamed_now counter binder) (one_if renamed_now + counter)
 unfolding is_renamed binder_shown new_name
 binder_named (binder_binder {t} g) true counter body e =
     let next : 1 + counter ≡ suc counter = omega arith in rw next (word_renamed (holds_rule _ body e))
@@ -90,7 +90,7 @@ variable_named [] place (fresh n) nowhere h = absurd (h a_loose)
 variable_named [] place (outside s) nowhere h = free_outside
 variable_named (e ∷ es) place name (this_one c) h = rw ((origin_calls name e.origin).1 c, shown_as) (as_binder c)
 variable_named (e ∷ es) place name (origins.further_out n i) h =
-    by-test (belongs name e.origin) (λ t. absurd (n ((origin_calls name e.origin).0 t)))
+    by_test (belongs name e.origin) (λ t. absurd (n ((origin_calls name e.origin).0 t)))
     (λ t. rw (t, shown_as) (further_out n (variable_named es place name i h)))
 
 -- ------------------------------------------------------------------ terms
@@ -143,7 +143,7 @@ variable_only : {around : List Shown} {name : Name} {x : List ℕ} → VariableS
 unfolding shown_as
 variable_only (as_binder {b} {around} {v} c) = rw ((origin_calls v b.name).1 c, shown_as) refl
 variable_only (further_out {b} {around} {v} n h) =
-    by-test (belongs v b.name) (λ t. absurd (n ((origin_calls v b.name).0 t))) (λ t. rw (t, shown_as) (variable_only h))
+    by_test (belongs v b.name) (λ t. absurd (n ((origin_calls v b.name).0 t))) (λ t. rw (t, shown_as) (variable_only h))
 variable_only free_word = refl
 variable_only free_outside = refl
 
@@ -153,7 +153,7 @@ unfolding is_renamed binder_shown new_name
 binder_only fresh_renamed = (refl, omega arith)
 binder_only (word_renamed h) = rw (rule_holds h) (refl, omega arith)
 binder_only (word_kept {s} {body} n) =
-    by-test (holds s body) (λ t. absurd (n (holds_rule s body t))) (λ t. rw t (refl, omega arith))
+    by_test (holds s body) (λ t. absurd (n (holds_rule s body t))) (λ t. rw t (refl, omega arith))
 
 mutual
   unfolding renamed renamed_fields renames renames_fields

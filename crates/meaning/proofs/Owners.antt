@@ -3,7 +3,7 @@ use Prim.Native.Nat.{ℕ, suc, ◌+◌}
 use mathlib.Core.Path.{◌≡◌, refl, sym, ap, subst, ◌∙◌}
 use mathlib.Core.Bool.{Bool, true, false, true≢false}
 use mathlib.Core.List.{List, [], ◌∷◌, ◌++◌}
-use Rattle.spellings.proofs.BytesLaws.{by-test}
+use Rattle.spellings.proofs.BytesLaws.{by_test}
 use Rattle.decoding.specs.Within.{Each, each_none, each_more}
 use Rattle.decoding.proofs.Spelled.{each_split}
 use Rattle.terms.specs.Term.{Name, word, fresh, outside, Term, Fields, variable, function, apply, rcd, dot, number, nil, cons, size}
@@ -107,7 +107,7 @@ pub loose_says : (os : List Occurrence) → Says os (loose_places os)
 unfolding loose_places
 loose_says [] = each_none
 loose_says (o ∷ os) =
-    by-test (is_loose o.name o.owner)
+    by_test (is_loose o.name o.owner)
     (λ e. subst (Says (o ∷ os)) (sym (loose_here o os e)) (this_first (loose_rule o.place o.name o.owner e)))
     (λ e. subst (Says (o ∷ os)) (sym (loose_further o os e)) (says_later o os (loose_places os) (not_loose o e) (loose_says os)))
 

@@ -72,37 +72,37 @@ module _ (write : Term Name → List ℕ) (bs : List ℕ) (passes : Passes bs) w
 -- ------------------------------------------------------------------ the last step
 
 -- How the last step ends: refused by what is judged of the term, or by 24, else with what is written.
-pub data Finish (write : Term Name → List ℕ) (made : ℕ) (core-term : Term Name) (cells text : List ℕ) : Expanded → Type 0 where
-  is_refused : {cause : Refusal} → Judges made core-term cause → Finish write made core-term cells text (refused cause cells text)
-  too_long : PassesTests core-term → length text < length (write core-term)
-      → Finish write made core-term cells text (refused (refusal 24 (length (write core-term)) 0 0) cells text)
-  prints : PassesTests core-term → length (write core-term) ≤ length text
-      → Finish write made core-term cells text
+pub data Finish (write : Term Name → List ℕ) (made : ℕ) (core_term : Term Name) (cells text : List ℕ) : Expanded → Type 0 where
+  is_refused : {cause : Refusal} → Judges made core_term cause → Finish write made core_term cells text (refused cause cells text)
+  too_long : PassesTests core_term → length text < length (write core_term)
+      → Finish write made core_term cells text (refused (refusal 24 (length (write core_term)) 0 0) cells text)
+  prints : PassesTests core_term → length (write core_term) ≤ length text
+      → Finish write made core_term cells text
       (record {
-        answer = Accepted made (size core-term) (length (write core-term));
+        answer = Accepted made (size core_term) (length (write core_term));
         cells = cells;
-        text = write core-term ++ drop (length (write core-term)) text;
+        text = write core_term ++ drop (length (write core_term)) text;
       })
 
-module _ (write : Term Name → List ℕ) (made : ℕ) (core-term : Term Name) (cells text : List ℕ) where
+module _ (write : Term Name → List ℕ) (made : ℕ) (core_term : Term Name) (cells text : List ℕ) where
   -- 24 or what is written, of a term that passes
-  by_room : PassesTests core-term → Finish write made core-term cells text (with_cells cells (emitted write made core-term text))
-  by_room p = rw (emitted_fitted write made core-term text (passes_ok made core-term p)) (by (dec_le (length (write core-term)) (length text)))
+  by_room : PassesTests core_term → Finish write made core_term cells text (with_cells cells (emitted write made core_term text))
+  by_room p = rw (emitted_fitted write made core_term text (passes_ok made core_term p)) (by (dec_le (length (write core_term)) (length text)))
     where
-      by : Dec (length (write core-term) ≤ length text)
-          → Finish write made core-term cells text (with_cells cells (fitted made (size core-term) (write core-term) text))
-      by (yes h) = rw (fitted_whole made (size core-term) (write core-term) text h) (prints p h)
+      by : Dec (length (write core_term) ≤ length text)
+          → Finish write made core_term cells text (with_cells cells (fitted made (size core_term) (write core_term) text))
+      by (yes h) = rw (fitted_whole made (size core_term) (write core_term) text h) (prints p h)
       by (no n) =
-          let h : length text < length (write core-term) = omega arith in
-          rw (fitted_long made (size core-term) (write core-term) text h) (too_long p h)
+          let h : length text < length (write core_term) = omega arith in
+          rw (fitted_long made (size core_term) (write core_term) text h) (too_long p h)
 
   -- The last step ends so.
-  pub finishes : Finish write made core-term cells text (with_cells cells (emitted write made core-term text))
-  finishes = by (judgement made core-term)
+  pub finishes : Finish write made core_term cells text (with_cells cells (emitted write made core_term text))
+  finishes = by (judgement made core_term)
     where
-      by : {answer : Checked (Unit {0})} → Judgement made core-term answer
-          → Finish write made core-term cells text (with_cells cells (emitted write made core-term text))
-      by (refuses j) = rw (emitted_refused write made core-term text (judges_bad made core-term j)) (is_refused j)
+      by : {answer : Checked (Unit {0})} → Judgement made core_term answer
+          → Finish write made core_term cells text (with_cells cells (emitted write made core_term text))
+      by (refuses j) = rw (emitted_refused write made core_term text (judges_bad made core_term j)) (is_refused j)
       by (passes p) = by_room p
 
 -- ------------------------------------------------------------------ the tokens
@@ -189,22 +189,22 @@ module _ (table : Table) (passing : Passing table) (formula : List ℕ) where
     outsides_as_listed index l = rw (lt-ltb index 64 (omega (arith, few)), spelled) refl
 
     -- What a derivation was given is a token of the formula or one of the table's outside names.
-    pub supplied : {core-term : Term Name} (parses : Parses (grammar_of table) (spell_of syntax ws) table.root ts core-term)
+    pub supplied : {core_term : Term Name} (parses : Parses (grammar_of table) (spell_of syntax ws) table.root ts core_term)
         → Each (Supplied ts (length table.outsides)) (given_in parses.derived)
     unfolding lexemes
     supplied parses = expansion.derived_is_supplied table passing lexemes parses
 
     -- All names of a derived term are words.
-    pub worded : {core-term : Term Name} → Parses (grammar_of table) (spell_of syntax ws) table.root ts core-term → is_worded core-term ≡ true
+    pub worded : {core_term : Term Name} → Parses (grammar_of table) (spell_of syntax ws) table.root ts core_term → is_worded core_term ≡ true
     unfolding lexemes
     worded P =
         expansion.derived_is_worded table passing lexemes (λ w a k. ap is_word (words_as_written w a k) ∙ (spelled_at w a k).is_word)
         (λ n l. ap is_word (outsides_as_listed n l) ∙ each_get_d (names_within passing.within passing.meets).outsides n [] l) P
 
   -- A formula has one term at most.
-  pub means_one : {core-term other : Term Name} → Means syntax formula core-term → Means syntax formula other → core-term ≡ other
+  pub means_one : {core_term other : Term Name} → Means syntax formula core_term → Means syntax formula other → core_term ≡ other
   unfolding lexemes
-  means_one {core-term} {other} M N =
+  means_one {core_term} {other} M N =
       expansion.derived_once table passing (lexemes N.scans)
       (rw (same-tokens M.scans N.scans, same_words M.scans N.scans) at M.parsed) N.parsed
 
@@ -236,37 +236,37 @@ module _ (table : Table) (passing : Passing table) (formula : List ℕ) where
     stops_leave S h = expansion.refused_leaves table passing (lexemes S) (rows_lent (length cells)) cells room h
 
     -- The run of a term's tokens ends: in a value, with so many rows, of which one shows the term.
-    pub record Reached {core-term : Term Name} (means-within : MeansWithin syntax formula cells core-term) (row : ℕ) (state : State) (cells' : List ℕ) : Type 0
+    pub record Reached {core_term : Term Name} (means_within : MeansWithin syntax formula cells core_term) (row : ℕ) (state : State) (cells' : List ℕ) : Type 0
       where
         -- the run's result
-        pub runs : RunsTo means-within.means.tokens (done row state cells')
+        pub runs : RunsTo means_within.means.tokens (done row state cells')
         -- the rows made are what the term costs
-        pub made_is : state.made ≡ cells_of means-within
+        pub made_is : state.made ≡ cells_of means_within
         -- the root's row shows the term
-        pub shows : term_at state.made (spell_of syntax means-within.means.words) cells' row ≡ core-term
+        pub shows : term_at state.made (spell_of syntax means_within.means.words) cells' row ≡ core_term
         -- is one of those made,
         pub below : row < state.made
         -- and needs no rows but those made,
-        pub shown_by_made : term_at state.made (spell_of syntax means-within.means.words) (take (state.made * columns) cells') row ≡ core-term
+        pub shown_by_made : term_at state.made (spell_of syntax means_within.means.words) (take (state.made * columns) cells') row ≡ core_term
         -- each of which has the code of a constructor
         pub coded : (other : ℕ) → other < state.made → IsCode (column cells' other 0)
 
     -- A term within the limits is run to its end.
-    pub run_to_end : {core-term : Term Name} (means-within : MeansWithin syntax formula cells core-term)
-        → (row : ℕ) × (state : State) × (cells' : List ℕ) × Reached means-within row state cells'
+    pub run_to_end : {core_term : Term Name} (means_within : MeansWithin syntax formula cells core_term)
+        → (row : ℕ) × (state : State) × (cells' : List ℕ) × Reached means_within row state cells'
     unfolding lexemes
-    run_to_end {core-term} means-within =
-        let R = lexemes means-within.means.scans in
-        let a = (expansion.accepted_exactly table passing R (rows_lent (length cells)) cells room core-term).1
-        (means-within.means.parsed, means-within.affords) in
-        let c = expansion.accepted_as_derived table passing R (rows_lent (length cells)) cells room means-within.means.parsed a.0 a.1 a.2 a.3 in
+    run_to_end {core_term} means_within =
+        let R = lexemes means_within.means.scans in
+        let a = (expansion.accepted_exactly table passing R (rows_lent (length cells)) cells room core_term).1
+        (means_within.means.parsed, means_within.affords) in
+        let c = expansion.accepted_as_derived table passing R (rows_lent (length cells)) cells room means_within.means.parsed a.0 a.1 a.2 a.3 in
         let l = expansion.accepted_leaves table passing R (rows_lent (length cells)) cells room a.3 in
         (a.0, a.1, a.2, record { runs = a.3; made_is = c.1; shows = a.4; below = l.below; shown_by_made = l.same ∙ a.4; coded = l.coded })
 
     -- What is run to its end means a term within the limits.
     pub meant : {ts : List Token} {ws : List (List ℕ)} → Scans syntax formula ts ws → (row : ℕ) (state : State) (cells' : List ℕ)
         → RunsTo ts (done row state cells')
-        → (means-within : MeansWithin syntax formula cells (term_at state.made (spell_of syntax ws) cells' row)) × Reached means-within row state cells'
+        → (means_within : MeansWithin syntax formula cells (term_at state.made (spell_of syntax ws) cells' row)) × Reached means_within row state cells'
     unfolding lexemes
     meant {ts} {ws} S row state cells' e =
         let R = lexemes S in
@@ -285,9 +285,9 @@ module _ (table : Table) (passing : Passing table) (formula : List ℕ) where
         in_scan : {cause : Refusal} → Unscans lex formula cause → Stage (refused cause cells text)
         in_parse : {cause : Refusal} {made : ℕ} {ts : List Token} {ws : List (List ℕ)} {cells' : List ℕ} → Scans syntax formula ts ws
             → RunsTo ts (halt cause cells') → Stopped ts ws cause made → Stage (refused cause cells' text)
-        at_last : {core-term : Term Name} {row : ℕ} {state : State} {cells' : List ℕ} {expanded : Expanded}
-            (means-within : MeansWithin syntax formula cells core-term) → Reached means-within row state cells'
-            → Finish write (cells_of means-within) core-term cells' text expanded → Stage expanded
+        at_last : {core_term : Term Name} {row : ℕ} {state : State} {cells' : List ℕ} {expanded : Expanded}
+            (means_within : MeansWithin syntax formula cells core_term) → Reached means_within row state cells'
+            → Finish write (cells_of means_within) core_term cells' text expanded → Stage expanded
 
       by_run : {ts : List Token} {ws : List (List ℕ)} → Scans syntax formula ts ws → (result : Result ℕ) → RunsTo ts result
           → Stage (finished write (spell_of syntax ws) text result)
@@ -298,7 +298,7 @@ module _ (table : Table) (passing : Passing table) (formula : List ℕ) where
           at_last {expanded = with_cells cells' (emitted write s.made u text)} m.0 m.1
           (rw (← m.1.made_is) (finishes write s.made u cells' text))
 
-      by_scan : (given-scanned : Scanned) → (scan lex formula).answer ≡ given-scanned → Stage (scanned write syntax (scan lex formula) given-scanned cells text)
+      by_scan : (given_scanned : Scanned) → (scan lex formula).answer ≡ given_scanned → Stage (scanned write syntax (scan lex formula) given_scanned cells text)
       by_scan (Unscanned r) e = in_scan ((unscans_exactly r).0 e)
       by_scan (Tokens n m) e = by_run (scans_of e) (run (input_of (grammar_of table) (scan lex formula).tokens cells) table.root cells) refl
 
@@ -325,17 +325,17 @@ module _ (table : Table) (passing : Passing table) (formula : List ℕ) where
       stopped_ends {cause} S h = let q = stops_leave S h in (q.0, run_ends S (halt cause q.0) q.1, q.2)
 
       -- Where a term is derived within the limits, the run reaches it, and the last step is made.
-      pub meant_reached : {core-term : Term Name} (means-within : MeansWithin syntax formula cells core-term)
-          → (row : ℕ) × (state : State) × (cells' : List ℕ) × Reached means-within row state cells' × Finish write (cells_of means-within) core-term cells' text
+      pub meant_reached : {core_term : Term Name} (means_within : MeansWithin syntax formula cells core_term)
+          → (row : ℕ) × (state : State) × (cells' : List ℕ) × Reached means_within row state cells' × Finish write (cells_of means_within) core_term cells' text
           (expand_table write syntax formula cells text)
-      meant_reached {core-term} means-within =
-          let q = run_to_end means-within in
-          let e : expand_table write syntax formula cells text ≡ with_cells q.2 (emitted write (cells_of means-within) core-term text)
-          = run_ends means-within.means.scans (done q.0 q.1 q.2) q.3.runs
+      meant_reached {core_term} means_within =
+          let q = run_to_end means_within in
+          let e : expand_table write syntax formula cells text ≡ with_cells q.2 (emitted write (cells_of means_within) core_term text)
+          = run_ends means_within.means.scans (done q.0 q.1 q.2) q.3.runs
           ∙ rw (q.3.shows, q.3.made_is) in
-          (q.0, q.1, q.2, q.3, rw e (finishes write (cells_of means-within) core-term q.2 text))
+          (q.0, q.1, q.2, q.3, rw e (finishes write (cells_of means_within) core_term q.2 text))
 
       -- The expansion of a term within the limits ends in the last step.
-      pub meant_ends : {core-term : Term Name} (means-within : MeansWithin syntax formula cells core-term)
-          → (cells' : List ℕ) × Finish write (cells_of means-within) core-term cells' text (expand_table write syntax formula cells text)
-      meant_ends means-within = let q = meant_reached means-within in (q.2, q.4)
+      pub meant_ends : {core_term : Term Name} (means_within : MeansWithin syntax formula cells core_term)
+          → (cells' : List ℕ) × Finish write (cells_of means_within) core_term cells' text (expand_table write syntax formula cells text)
+      meant_ends means_within = let q = meant_reached means_within in (q.2, q.4)

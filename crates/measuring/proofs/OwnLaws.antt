@@ -12,7 +12,7 @@ use borrow.Author.Tests.{eqb-true, eqb-false}
 use mir.Syntax.{w32, w64}
 use mir.Val as val
 use Rattle.spellings.specs.Bytes.{decimal, longest_word}
-use Rattle.spellings.proofs.BytesLaws.{by-test}
+use Rattle.spellings.proofs.BytesLaws.{by_test}
 use Rattle.spellings.proofs.DecimalLaws.{decimal_bound}
 use Rattle.terms.specs.Cells.{column, columns, name_base, most_cells}
 use Rattle.terms.specs.Term.{Name, Term, Fields, variable, function, apply, rcd, dot, number, nil, cons, size}
@@ -44,10 +44,10 @@ pub written_short : (spell : ℕ → List ℕ) → ((spelled : ℕ) → length (
     → length (written (name_of spell value)) ≤ longest_word
 unfolding new_name
 written_short spell short value =
-    by-test (eqb (value / name_base) 1)
+    by_test (eqb (value / name_base) 1)
     (λ e. rw (as_word spell value (eqb-true (value / name_base) 1 e)) (short (value % name_base)))
     (λ e.
-    by-test (eqb (value / name_base) 2)
+    by_test (eqb (value / name_base) 2)
     (λ f. rw (as_fresh spell value (eqb-true (value / name_base) 2 f)) (omega (arith, decimal_bound 0 0 (omega arith))))
     (λ f. rw (as_outside spell value (eqb-false (value / name_base) 1 e) (eqb-false (value / name_base) 2 f)) (short (value % name_base))))
 
@@ -173,7 +173,7 @@ module _ {pool cells room weights : List ℕ} {row : ℕ} (weighing : Weighing p
         within = omega (arith, weighing.long);
         each =
             λ q h.
-            by-test (eqb q row)
+            by_test (eqb q row)
             (λ k. let same : q ≡ row = eqb-true q row k in
             rw (same, get_or-set_same weights row own 0 l) e)
             (λ k. let other : q ≡ row → ⊥ = eqb-false q row k in

@@ -8,7 +8,7 @@ use native.Mathlib.Omega.{arith}
 use lib.Dec.{eqb, leb}
 use lib.ListN.{length, get_or, drop}
 use borrow.Author.Tests.{ne_eqb, eqb-true, leb-false}
-use Rattle.spellings.proofs.BytesLaws.{by-test}
+use Rattle.spellings.proofs.BytesLaws.{by_test}
 use Rattle.answers.specs.Checked.{ok, need}
 use Rattle.grammar.specs.Values.{Field, field}
 use Rattle.grammar.specs.Fields.{RawFields, end, cut, next, fields_of}
@@ -38,7 +38,7 @@ not_last last at (inr e) h = subst⁻¹ Accepts (rw e at h) tt
 result_tag : (tag last : ℕ) → InBody last → follows tag last ≡ true → eqb tag 6 ≡ false → eqb tag 7 ≡ true
 unfolding follows
 result_tag tag last body h e =
-    by-test (eqb tag 7) (λ f. f) (λ f. absurd (true≢false (sym h ∙ none last body f)))
+    by_test (eqb tag 7) (λ f. f) (λ f. absurd (true≢false (sym h ∙ none last body f)))
   where
     none : (before : ℕ) → InBody before → eqb tag 7 ≡ false → follows tag before ≡ false
     none before (inl b) f = rw (b, e, f, follows) (simp (and-false) refl)
@@ -48,7 +48,7 @@ result_tag tag last body h e =
 item_long : (value : List ℕ) → is_item value ≡ true → leb 2 (length value) ≡ true
 unfolding is_item
 item_long value h =
-    by-test (leb 2 (length value)) (λ e. e) (λ e. absurd (true≢false (sym h ∙ short e)))
+    by_test (leb 2 (length value)) (λ e. e) (λ e. absurd (true≢false (sym h ∙ short e)))
   where
     short : leb 2 (length value) ≡ false → is_item value ≡ false
     short e = rw (ne_eqb (length value) 2 (λ n. omega (arith, leb-false 2 (length value) e)), e, is_item) (simp (and-false) refl)
@@ -66,7 +66,7 @@ complete_fields (end at) before progress body h w = absurd (not_last progress.la
 complete_fields (cut at) before progress body h w = absurd (subst⁻¹ Accepts h tt)
 complete_fields (next at tag v fs) before progress body h w =
     let passes = accepted at tag v fs before progress h in
-    by-test (eqb tag 6)
+    by_test (eqb tag 6)
     (λ e.
     let six = eqb-true tag 6 e in
     let whole = (and-eq-true_iff (is_templates (templates_of (drop 2 v))) (whole_body fs)).0 (rw (e, whole_body) at w) in
@@ -89,8 +89,8 @@ begun_by bs (cut at) stand before progress h nonterminal ps each = each
 begun_by bs (next at tag v fs) stand before progress h nonterminal ps each =
     let passes = accepted at tag v fs before progress h in
     let rest = begun_by bs fs stand.2 (field tag v ∷ before) (passed tag progress) passes.1 in
-    by-test (eqb tag 4) (λ e. rw (e, places_by) (rest (get_or v 0 0) _ (each_kept (mode_of (get_or v 1 0)) (get_or v 0 0) ps each)))
-    (λ e. by-test (eqb tag 5)
+    by_test (eqb tag 4) (λ e. rw (e, places_by) (rest (get_or v 0 0) _ (each_kept (mode_of (get_or v 1 0)) (get_or v 0 0) ps each)))
+    (λ e. by_test (eqb tag 5)
     (λ f. rw (e, f, places_by)
     (rest nonterminal _
     (each_snoc each

@@ -97,8 +97,8 @@ module _ {bs : List ℕ} (bytes : Bytes bs) where
     -- ------------------------------------------------------------------ the scan
 
     module _ {room : List ℕ} (holds : HoldsGrammar bs room) {kinds : ℕ} (reached : kinds ≡ kinds_in room) (formula tokens words : List ℕ) where
-      in_lexicon : {given-filled : Filled} → given-filled ≡ scan_into (lexicon_by kinds [] bs) formula tokens words
-          → given-filled ≡ scan_into lex formula tokens words
+      in_lexicon : {given_filled : Filled} → given_filled ≡ scan_into (lexicon_by kinds [] bs) formula tokens words
+          → given_filled ≡ scan_into lex formula tokens words
       in_lexicon e = rw (reached, lexicon_passed holds) at e
 
       module _ {scanned : Scanned} {tokens' words' : List ℕ} (fills : filled scanned tokens' words' ≡ scan_into (lexicon_by kinds [] bs) formula tokens words)

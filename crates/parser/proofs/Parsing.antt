@@ -15,8 +15,8 @@ use Rattle.parser.specs.declared.Parsed.{Parsed}
 use Rattle.parser.specs.Parse.{parsed_into, halted_parse, parse_filled, parse_into}
 
 module _ (syntax : Syntax) (formula tokens words cells : List ℕ) where
-  into_filled : {given-filled : Filled} → given-filled ≡ scan_into syntax.lexicon formula tokens words
-      → parse_into syntax formula tokens words cells ≡ parse_filled syntax (scan syntax.lexicon formula) given-filled cells
+  into_filled : {given_filled : Filled} → given_filled ≡ scan_into syntax.lexicon formula tokens words
+      → parse_into syntax formula tokens words cells ≡ parse_filled syntax (scan syntax.lexicon formula) given_filled cells
   unfolding parse_into
   into_filled e = rw (← e)
 

@@ -11,7 +11,7 @@ use lib.ListN.{length, get_or, replicate, length-replicate, get_or-replicate, ge
 use lib.Pow.{pow_mono}
 use lib.Seq.{set_out, get_or-set_same, get_or-set_other}
 use borrow.Author.Tests.{leb-true}
-use Rattle.spellings.proofs.BytesLaws.{by-test}
+use Rattle.spellings.proofs.BytesLaws.{by_test}
 use Rattle.kinds.specs.Kinds.{only}
 use Rattle.kinds.proofs.KindsLaws.{only_kind}
 use Rattle.grammar.specs.SortTests.{is_sort, is_ide_sort}
@@ -65,7 +65,7 @@ module _ (nulls : ℕ) where
     unfolding gather
     gather_fits [] found f = f
     gather_fits (i ∷ is) found f =
-        by-test (is_nullable nulls i) (λ t. rw (t, gather) (gather_fits is _ (joined_fits i found f))) (λ t. rw (t, gather) (joined_fits i found f))
+        by_test (is_nullable nulls i) (λ t. rw (t, gather) (gather_fits is _ (joined_fits i found f))) (λ t. rw (t, gather) (joined_fits i found f))
 
     step_fits : (p : Production) → AllFit (first_step pattern_of nulls p sets)
     unfolding first_step

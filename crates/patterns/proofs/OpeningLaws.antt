@@ -44,8 +44,8 @@ module _ (nulls : ℕ) (sets : List ℕ) (found : Opening) where
 
   -- a terminal gives its kind, and itself as a place
   pub item_read : {symbol : Symbol} {read : Terminal} → symbol ≡ Read read → {kind set more : ℕ} → kind ≡ kind_of (terminal_in read) → set ≡ only kind
-      → more ≡ bit_or found.kinds set → {own with-own : ℕ} → own ≡ place_of (terminal (terminal_in read)) → with-own ≡ bit_or found.places own
-      → record { kinds = more; places = with-own; nullable = false } ≡ with_item nulls sets (with_symbol symbol) found
+      → more ≡ bit_or found.kinds set → {own with_own : ℕ} → own ≡ place_of (terminal (terminal_in read)) → with_own ≡ bit_or found.places own
+      → record { kinds = more; places = with_own; nullable = false } ≡ with_item nulls sets (with_symbol symbol) found
   item_read {read = read} es ek e em eo ew =
       rw (
         es,

@@ -162,17 +162,17 @@ module _ {bs : List ℕ} {nulls : ℕ} {sets : List ℕ} {start found at : ℕ} 
 -- ------------------------------------------------------------------ productions
 
 -- A set that is replaced,
-pub join_inside : (sets : List ℕ) (owner found : ℕ) → owner < length sets → {joined-set : ℕ} → joined-set ≡ bit_or (get_or sets owner 0) found
-    → Grown (set sets owner (bit_or (get_or sets owner 0) found)) sets (set sets owner joined-set) (not (eqb joined-set (get_or sets owner 0)))
-join_inside sets owner found l {joined-set} e =
+pub join_inside : (sets : List ℕ) (owner found : ℕ) → owner < length sets → {joined_set : ℕ} → joined_set ≡ bit_or (get_or sets owner 0) found
+    → Grown (set sets owner (bit_or (get_or sets owner 0) found)) sets (set sets owner joined_set) (not (eqb joined_set (get_or sets owner 0)))
+join_inside sets owner found l {joined_set} e =
     record { sets_are = ap (set sets owner) e; kept = λ same. ap (set sets owner) (not_grown same) ∙ set_back sets owner l }
   where
     not-false : (test : Bool) → not test ≡ false → test ≡ true
     not-false true e = refl
     not-false false e = absurd (true≢false e)
 
-    not_grown : not (eqb joined-set (get_or sets owner 0)) ≡ false → joined-set ≡ get_or sets owner 0
-    not_grown t = eqb-true joined-set (get_or sets owner 0) (not-false (eqb joined-set (get_or sets owner 0)) t)
+    not_grown : not (eqb joined_set (get_or sets owner 0)) ≡ false → joined_set ≡ get_or sets owner 0
+    not_grown t = eqb-true joined_set (get_or sets owner 0) (not-false (eqb joined_set (get_or sets owner 0)) t)
 
     set_back : (sets : List ℕ) (owner : ℕ) → owner < length sets → set sets owner (get_or sets owner 0) ≡ sets
     set_back [] owner l = absurd (omega arith)

@@ -8,7 +8,7 @@ use native.Mathlib.Decide.{ℕ_discrete}
 use native.Mathlib.Omega.{arith}
 use lib.Bits.{bit_or}
 use lib.ListN.{length, get_or, drop, length-map}
-use Rattle.spellings.proofs.BytesLaws.{by-test}
+use Rattle.spellings.proofs.BytesLaws.{by_test}
 use Rattle.kinds.specs.Kinds.{has_kind, only}
 use Rattle.kinds.proofs.KindsLaws.{has_none, has_join, has_own}
 use Rattle.grammar.specs.Lookup.{fields_at}
@@ -42,7 +42,7 @@ sets_size nulls g e = sym (ap length e ∙ length-sets pattern_of nulls g)
 -- ------------------------------------------------------------------ the nullable nonterminals that the room has
 
 -- A nonterminal is joined where its production is nullable,
-pub owner_joined : (nulls owner : ℕ) {nullable : Bool} → nullable ≡ true → {own-set : ℕ} → own-set ≡ only owner → {more : ℕ} → more ≡ bit_or nulls own-set
+pub owner_joined : (nulls owner : ℕ) {nullable : Bool} → nullable ≡ true → {own_set : ℕ} → own_set ≡ only owner → {more : ℕ} → more ≡ bit_or nulls own_set
     → more ≡ joined_if nullable nulls (only owner)
 owner_joined nulls owner t e em = rw (t, em, e) refl
 
@@ -93,7 +93,7 @@ module _ (owners room : List ℕ) (nonterminal : ℕ) where
   unfolding nulls_in
   nulls_have zero h = absurd (false≢true (sym (has_none nonterminal) ∙ h))
   nulls_have (suc many) h =
-      by-test (nullable_in room many)
+      by_test (nullable_in room many)
       (λ t. ⊎_elim (λ k. further (nulls_have many k)) (own t)
       (or_split _ (sym (has_join (nulls_in many owners room) (only (get_or owners many 0)) nonterminal) ∙ (rw (t, nulls_in) at h))))
       (λ t. further (nulls_have many (rw (t, nulls_in) at h)))

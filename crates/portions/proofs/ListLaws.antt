@@ -131,16 +131,16 @@ module _ {written wanted : ℕ} {cells : List ℕ} {depth row at : ℕ} (m : Ter
       -- the first can be written,
       pub app_first : TermFits written wanted cells (depth - 1) first at
       app_first =
-          let first-entries = entries_at written wanted cells (depth - 1) first in
-          let last-entries = entries_at written wanted cells (depth - 1) last in
-          record { counts = m.counts; room = first_room at first-entries last-entries app_entries m.room }
+          let first_entries = entries_at written wanted cells (depth - 1) first in
+          let last_entries = entries_at written wanted cells (depth - 1) last in
+          record { counts = m.counts; room = first_room at first_entries last_entries app_entries m.room }
 
       -- then the second, from where the first ends, or before,
       pub app_last : {place : ℕ} → place ≤ at + length (entries_at written wanted cells (depth - 1) first) → TermFits written wanted cells (depth - 1) last place
       app_last l =
-          let first-entries = entries_at written wanted cells (depth - 1) first in
-          let last-entries = entries_at written wanted cells (depth - 1) last in
-          record { counts = m.counts; room = second_room at first-entries last-entries app_entries m.room l }
+          let first_entries = entries_at written wanted cells (depth - 1) first in
+          let last_entries = entries_at written wanted cells (depth - 1) last in
+          record { counts = m.counts; room = second_room at first_entries last_entries app_entries m.room l }
 
       -- and both, the second from where the first ends, are the application's
       pub app_wrote : {list list' list'' : List ℕ} {middle r : ℕ}
@@ -239,17 +239,17 @@ module _ {written wanted : ℕ} {cells : List ℕ} {depth row at : ℕ} (m : Fie
       -- the first can be written,
       pub cons_term : TermFits written wanted cells (depth - 1) part at
       cons_term =
-          let first-entries = entries_at written wanted cells (depth - 1) part in
-          let last-entries = field_entries_at written wanted cells (depth - 1) others in
-          record { counts = m.counts; room = first_room at first-entries last-entries cons_entries m.room }
+          let first_entries = entries_at written wanted cells (depth - 1) part in
+          let last_entries = field_entries_at written wanted cells (depth - 1) others in
+          record { counts = m.counts; room = first_room at first_entries last_entries cons_entries m.room }
 
       -- then the others, from where these end, or before,
       pub cons_rest : {place : ℕ} → place ≤ at + length (entries_at written wanted cells (depth - 1) part)
           → FieldsFit written wanted cells (depth - 1) others place
       cons_rest l =
-          let first-entries = entries_at written wanted cells (depth - 1) part in
-          let last-entries = field_entries_at written wanted cells (depth - 1) others in
-          record { counts = m.counts; room = second_room at first-entries last-entries cons_entries m.room l }
+          let first_entries = entries_at written wanted cells (depth - 1) part in
+          let last_entries = field_entries_at written wanted cells (depth - 1) others in
+          record { counts = m.counts; room = second_room at first_entries last_entries cons_entries m.room l }
 
       -- and all, the others from where these end, are the field's
       pub cons_wrote : {list list' list'' : List ℕ} {middle r : ℕ}

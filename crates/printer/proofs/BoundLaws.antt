@@ -77,7 +77,7 @@ module _ (spell : ℕ → List ℕ) (cells numbers : List ℕ) (short : (number 
         place
         (is_cons (constructor_of (column cells row 0)))
 
-module _ {pool cells numbers : List ℕ} {made root : ℕ} (printable-by : PrintableBy pool cells made root numbers)
+module _ {pool cells numbers : List ℕ} {made root : ℕ} (printable_by : PrintableBy pool cells made root numbers)
     (wide : (place : ℕ) → get_or cells place 0 < 4294967296) (few : (place : ℕ) → get_or numbers place 0 < 65536) where
   -- the text of a term has at most 46 bytes for each number
   text_short : term_length pool cells numbers made root 0 ≤ length numbers * 46
@@ -86,18 +86,18 @@ module _ {pool cells numbers : List ℕ} {made root : ℕ} (printable-by : Print
       omega (
         arith,
         size_spell made no_spell (spell_in pool) cells root,
-        short_text (spell_in pool) cells numbers (spelling_short pool printable-by.short) few wide made root 0,
-        printable-by.marked,
+        short_text (spell_in pool) cells numbers (spelling_short pool printable_by.short) few wide made root 0,
+        printable_by.marked,
       )
 
   -- the text of a term that is not too large can be measured
   pub measurable : TextMeasurable pool cells numbers made root
   measurable =
       record {
-        weighable = record { short = printable-by.short; wide = wide };
-        room = omega (arith, text_short, printable-by.small);
-        inside = printable-by.marked;
-        few = printable-by.small;
+        weighable = record { short = printable_by.short; wide = wide };
+        room = omega (arith, text_short, printable_by.small);
+        inside = printable_by.marked;
+        few = printable_by.small;
       }
 
   fits_by : {text : List ℕ} → term_length pool cells numbers made root 0 ≤ length text → PartFits pool cells numbers (term_part made root) 0 text
@@ -105,8 +105,8 @@ module _ {pool cells numbers : List ℕ} {made root : ℕ} (printable-by : Print
   fits_by l =
       record {
         room = record { room = omega (arith, text_length (labelled numbers 0 (term_at made (spell_in pool) cells root))) };
-        inside = omega (arith, printable-by.marked);
-        few = printable-by.small;
+        inside = omega (arith, printable_by.marked);
+        few = printable_by.small;
       }
 
   -- it fits where 46 bytes a constructor are lent

@@ -41,9 +41,9 @@ module _ {table formula words : List ℕ} {count : ℕ} {cells : List ℕ} {made
         words_fit = printable.words_fit;
       }
 
-  module _ {pool : List ℕ} (is-filled : pool ≡ filled table formula words count (replicate size 0)) where
+  module _ {pool : List ℕ} (is_filled : pool ≡ filled table formula words count (replicate size 0)) where
     pooled : Pooled pool (spelled_by table formula words count)
-    pooled = pooled_filled (pooled_none size) fillable is-filled
+    pooled = pooled_filled (pooled_none size) fillable is_filled
 
     -- and then has all that printing asks of it
     pub printable_filled : PrintableBy pool cells made root numbers

@@ -281,9 +281,9 @@ kept_other (suc (suc (suc m))) nonterminal places e = refl
 
 module _ (head owners starts : List ℕ) {count mode : ℕ} (em : mode ≡ get_or head 1 0) where
   -- an update drops the places of its nonterminal
-  pub redefine_update : mode ≡ 2 → {nonterminal : ℕ} → nonterminal ≡ get_or head 0 0 → {kept-count : ℕ} {owners' starts' : List ℕ}
-      → LaidIndex (places_without nonterminal (places_in count owners starts)) count kept-count owners starts owners' starts'
-      → LaidIndex (places_kept (mode_of (get_or head 1 0)) (get_or head 0 0) (places_in count owners starts)) count kept-count owners starts owners' starts'
+  pub redefine_update : mode ≡ 2 → {nonterminal : ℕ} → nonterminal ≡ get_or head 0 0 → {kept_count : ℕ} {owners' starts' : List ℕ}
+      → LaidIndex (places_without nonterminal (places_in count owners starts)) count kept_count owners starts owners' starts'
+      → LaidIndex (places_kept (mode_of (get_or head 1 0)) (get_or head 0 0) (places_in count owners starts)) count kept_count owners starts owners' starts'
   redefine_update t en f =
       record {
         entries =
@@ -453,9 +453,9 @@ module _ {bs owners₀ starts₀ : List ℕ} {at nonterminal count : ℕ} {owner
 
     module _ {owners' starts' : List ℕ} (owners_many : length owners' ≡ 256) (starts_many : length starts' ≡ 256) where
       -- behind the head of a definition
-      pub building_head : field.tag ≡ 4 → {many : ℕ} → many ≡ get_or (value_in bs field) 0 0 → {kept-count : ℕ}
-          → LaidIndex (places_kept (mode_of (get_or (value_in bs field) 1 0)) (get_or (value_in bs field) 0 0) places) count kept-count owners starts owners' starts'
-          → Building bs owners₀ starts₀ field.to many kept-count owners' starts'
+      pub building_head : field.tag ≡ 4 → {many : ℕ} → many ≡ get_or (value_in bs field) 0 0 → {kept_count : ℕ}
+          → LaidIndex (places_kept (mode_of (get_or (value_in bs field) 1 0)) (get_or (value_in bs field) 0 0) places) count kept_count owners starts owners' starts'
+          → Building bs owners₀ starts₀ field.to many kept_count owners' starts'
       unfolding value behind
       building_head t em f =
           let low = building_few in

@@ -7,7 +7,7 @@ use native.Mathlib.Omega.{arith}
 use lib.Dec.{eqb, ltb}
 use lib.ListN.{length, get_or, take, get_or-eq_default}
 use borrow.Author.Tests.{ne_eqb, ltb-true, ltb-false}
-use Rattle.spellings.proofs.BytesLaws.{by-test}
+use Rattle.spellings.proofs.BytesLaws.{by_test}
 use Rattle.grammar.specs.Written.{no_result, WrittenDefinition, Written}
 use Rattle.grammar.specs.Templated.{template_of, with_template, with_templates, templated}
 use Rattle.grammar.specs.Encode.{field_bytes, table_fields, encode}
@@ -130,7 +130,7 @@ unfolding items_of result_of normalized_by decode_fields productions_of defined_
 agrees (end at) = record { items = refl; result = refl; normal = λ n g. sym (append-nil g) }
 agrees (cut at) = record { items = refl; result = refl; normal = λ n g. sym (append-nil g) }
 agrees (next at tag v fs) =
-    by-test (ltb 8 tag) (λ e. step_unknown tag (ltb-true 8 tag e) at v fs (decode_fields fs) (agrees fs))
+    by_test (ltb 8 tag) (λ e. step_unknown tag (ltb-true 8 tag e) at v fs (decode_fields fs) (agrees fs))
     (λ e. step_known tag (ltb-false 8 tag e) at v fs (decode_fields fs) (agrees fs))
 
 -- The normalized grammar of a table's templates is what the fields of its encoding give in order.

@@ -9,7 +9,7 @@ use lib.Dec.{eqb, leb}
 use lib.ListN.{length, get_or, take, drop, length-append, length-take, length-drop, drop_of_length-le}
 use borrow.Author.Tests.{ne_eqb, eqb-true, ltb-true}
 use Rattle.spellings.specs.Bytes.{every}
-use Rattle.spellings.proofs.BytesLaws.{by-test}
+use Rattle.spellings.proofs.BytesLaws.{by_test}
 use Rattle.answers.specs.Checked.{ok}
 use Rattle.grammar.specs.Limits.{most}
 use Rattle.grammar.specs.Values.{Field, field}
@@ -71,7 +71,7 @@ without_at : (bs : List ℕ) (nonterminal : ℕ) (ps : List Place) → productio
 unfolding places_without without production_at
 without_at bs nonterminal [] = refl
 without_at bs nonterminal (p ∷ ps) =
-    by-test (eqb p.nonterminal nonterminal) (λ e. rw (e, places_without, without) (without_at bs nonterminal ps))
+    by_test (eqb p.nonterminal nonterminal) (λ e. rw (e, places_without, without) (without_at bs nonterminal ps))
     (λ e. rw (e, places_without, without) (ap (◌∷◌ (production_at bs p.nonterminal p.start)) (without_at bs nonterminal ps)))
 
 kept_at : (bs : List ℕ) (mode : Mode) (nonterminal : ℕ) (ps : List Place)
@@ -90,11 +90,11 @@ unfolding places_by normalized_by production_at
 normal_at bs (end at) s nonterminal ps = refl
 normal_at bs (cut at) s nonterminal ps = refl
 normal_at bs (next at tag v fs) s nonterminal ps =
-    by-test (eqb tag 4)
+    by_test (eqb tag 4)
     (λ e. rw (e, places_by, normalized_by)
     (normal_at bs fs s.2 (get_or v 0 0) (places_kept (mode_of (get_or v 1 0)) (get_or v 0 0) ps)
     ∙ ap (normalized_by fs (get_or v 0 0)) (kept_at bs (mode_of (get_or v 1 0)) (get_or v 0 0) ps)))
-    (λ e. by-test (eqb tag 5)
+    (λ e. by_test (eqb tag 5)
     (λ f. rw (e, f, places_by, normalized_by)
     (normal_at bs fs s.2 nonterminal (ps ++ (record { nonterminal = nonterminal; start = at + 3 + length v } ∷ []))
     ∙ ap (normalized_by fs nonterminal)
@@ -112,7 +112,7 @@ without_fewer : (nonterminal : ℕ) (ps : List Place) → length (places_without
 unfolding places_without
 without_fewer nonterminal [] = omega arith
 without_fewer nonterminal (p ∷ ps) =
-    by-test (eqb p.nonterminal nonterminal) (λ e. rw (e, places_without) (omega (arith, without_fewer nonterminal ps)))
+    by_test (eqb p.nonterminal nonterminal) (λ e. rw (e, places_without) (omega (arith, without_fewer nonterminal ps)))
     (λ e. rw (e, places_without) (omega (arith, without_fewer nonterminal ps)))
 
 kept_fewer : (mode : Mode) (nonterminal : ℕ) (ps : List Place) → length (places_kept mode nonterminal ps) ≤ length ps
@@ -125,14 +125,14 @@ unfolding places_by alternative_fields
 places_fewer (end at) nonterminal ps = omega arith
 places_fewer (cut at) nonterminal ps = omega arith
 places_fewer (next at tag v fs) nonterminal ps =
-    by-test (eqb tag 4)
+    by_test (eqb tag 4)
     (λ e. rw (e, places_by, alternative_fields, ne_eqb tag 5 (λ q. omega (arith, eqb-true tag 4 e)))
     (omega (
       arith,
       places_fewer fs (get_or v 0 0) (places_kept (mode_of (get_or v 1 0)) (get_or v 0 0) ps),
       kept_fewer (mode_of (get_or v 1 0)) (get_or v 0 0) ps,
     )))
-    (λ e. by-test (eqb tag 5)
+    (λ e. by_test (eqb tag 5)
     (λ f. rw (e, f, places_by, alternative_fields)
     (omega (
       arith,
@@ -174,7 +174,7 @@ known_head value = simp or-false
 item_templates : (value : List ℕ) → is_known 6 value ≡ true → is_whole 6 value ≡ true → is_templates (templates_of (drop 2 value)) ≡ true
 unfolding is_whole templates_of
 item_templates value known whole =
-    by-test (eqb (get_or value 0 0) 4) (λ e. sym (and-true _) ∙ rw e at whole)
+    by_test (eqb (get_or value 0 0) 4) (λ e. sym (and-true _) ∙ rw e at whole)
     (λ e. rw (drop_of_length-le value {i = 2} (omega (arith, eqb-true (length value) 2 (two_bytes value (sym (known_item value) ∙ known) e)))) refl)
 
 -- the fields of a table whose layout is right have whole templates
@@ -184,12 +184,12 @@ whole_fields (end at) before progress h = refl
 whole_fields (cut at) before progress h = refl
 whole_fields (next at tag v fs) before progress h =
     let passes = accepted at tag v fs before progress h in
-    by-test (eqb tag 6)
+    by_test (eqb tag 6)
     (λ e. let t = eqb-true tag 6 e in
     rw (e, whole_body)
     (rw (item_templates v (rw t at passes.0.known) (rw t at passes.0.whole))
     (whole_fields fs (field tag v ∷ before) (passed tag progress) passes.1)))
-    (λ e. by-test (eqb tag 7)
+    (λ e. by_test (eqb tag 7)
     (λ f. rw (e, f, whole_body) (rw (eqb-true tag 7 f) at passes.0.whole))
     (λ f. rw (e, f, whole_body) refl))
 
@@ -211,7 +211,7 @@ each_without : {P : Place → Type 0} (nonterminal : ℕ) (ps : List Place) → 
 unfolding places_without
 each_without nonterminal [] h = each_none
 each_without nonterminal (p ∷ ps) (each_more h hs) =
-    by-test (eqb p.nonterminal nonterminal) (λ e. rw (e, places_without) (each_without nonterminal ps hs))
+    by_test (eqb p.nonterminal nonterminal) (λ e. rw (e, places_without) (each_without nonterminal ps hs))
     (λ e. rw (e, places_without) (each_more h (each_without nonterminal ps hs)))
 
 -- What holds of each place holds of those that are kept.
@@ -233,10 +233,10 @@ whole_by bs (cut at) stand before progress h nonterminal small ps each = each
 whole_by bs (next at tag v fs) stand before progress h nonterminal small ps each =
     let passes = accepted at tag v fs before progress h in
     let rest = whole_by bs fs stand.2 (field tag v ∷ before) (passed tag progress) passes.1 in
-    by-test (eqb tag 4)
+    by_test (eqb tag 4)
     (λ e. rw (e, places_by)
     (rest (get_or v 0 0) (head_small v (rw (eqb-true tag 4 e) at passes.0.known)) _ (each_kept (mode_of (get_or v 1 0)) (get_or v 0 0) ps each)))
-    (λ e. by-test (eqb tag 5)
+    (λ e. by_test (eqb tag 5)
     (λ f. rw (e, f, places_by)
     (rest nonterminal small _
     (each_snoc each

@@ -7,7 +7,7 @@ use native.Mathlib.Decide.{ℕ_discrete}
 use native.Mathlib.Omega.{arith}
 use lib.ListN.{length, get_or, drop, length-set, length-map}
 use lib.Seq.{get_or-set_same, get_or-set_other}
-use Rattle.spellings.proofs.BytesLaws.{by-test}
+use Rattle.spellings.proofs.BytesLaws.{by_test}
 use Rattle.grammar.specs.Limits.{most}
 use Rattle.productions.specs.Room.{Entry, no_entry, HoldsEntries, place_from, is_of, is_nullable_of, places_number, link_number, room_of, patterned, Patterned}
 use Rattle.productions.specs.Room.{sets_at, places_at, productions_at, links_at, room_size, patterns_base}
@@ -77,7 +77,7 @@ module _ {A : Type 0} (plain : A → Entry) (none : (x : A) → (plain x).patter
   place_same test same [] place = refl
   place_same test same (x ∷ xs) place =
       let rest = place_same test same xs (place + 1) in
-      by-test (test (plain x)) (λ t. rw (same x, t, place_from) refl) (λ t. rw (same x, t, place_from) rest)
+      by_test (test (plain x)) (λ t. rw (same x, t, place_from) refl) (λ t. rw (same x, t, place_from) rest)
 
   places_same : (xs : List A) (nonterminal : ℕ) → places_number (map with_patterns xs) nonterminal ≡ places_number (map plain xs) nonterminal
   places_same xs nonterminal =

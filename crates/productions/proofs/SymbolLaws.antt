@@ -74,11 +74,11 @@ place_kind e = rw e refl
 -- ------------------------------------------------------------------ what stands at an offset
 
 -- an item with this symbol stands at an offset, and another offset is behind it
-pub record ItemAt (bs : List ℕ) (at : ℕ) (kind-read : Symbol) (after : ℕ) : Type 0 where
+pub record ItemAt (bs : List ℕ) (at : ℕ) (kind_read : Symbol) (after : ℕ) : Type 0 where
   -- the item
   pub item : Item
-  -- its symbol is `kind-read`
-  pub symbol : kind-read ≡ symbol_of item
+  -- its symbol is `kind_read`
+  pub symbol : kind_read ≡ symbol_of item
   -- it is the first of the items at the offset, and the others are those behind it
   pub items : items_of (fields_at bs at) ≡ item ∷ items_of (fields_at bs after)
   -- the offset behind it is higher
@@ -113,7 +113,7 @@ module _ (bs : List ℕ) (at : ℕ) where
   stepped_by field e false f = walk_field items_walk bs at e ∙ rw (f, items_of) refl
 
   -- and so does the step of the code
-  pub stepped : {symbol-step : SymbolStep} → symbol-step ≡ symbol_step bs (field_at bs at) → Stepped bs at symbol-step
+  pub stepped : {symbol_step_lem : SymbolStep} → symbol_step_lem ≡ symbol_step bs (field_at bs at) → Stepped bs at symbol_step_lem
   stepped e = rw e (stepped_by (field_at bs at) refl _ refl)
 
   -- behind an item less is left

@@ -41,12 +41,12 @@ module _ (tokens : List ℕ) (head : TextHead) (others : ℕ) (cells : List ℕ)
   abbrev strict : Result ℕ
   strict = strict_run S head cells (tokens_lent tokens)
 
-  module _ {number : Bool} (tested-number : number ≡ has_number (tokens_lent tokens)) where
+  module _ {number : Bool} (tested_number : number ≡ has_number (tokens_lent tokens)) where
     -- A text with a number is refused with 26.
     pub attempt_number : number ≡ true → Attempts tokens head others cells (Answered (Refused 26)) cells S
     attempt_number e =
         record {
-          attempts = λ used at other. ap (λ t. check_by used at other t (reading_of head.sort strict)) (sym e ∙ tested-number);
+          attempts = λ used at other. ap (λ t. check_by used at other t (reading_of head.sort strict)) (sym e ∙ tested_number);
           leaves = λ x made q. let z : ◌≡◌ {A = ℕ} 0 1 = cc in absurd (omega arith);
         }
 
@@ -61,7 +61,7 @@ module _ (tokens : List ℕ) (head : TextHead) (others : ℕ) (cells : List ℕ)
           → check_by used at other false (reading_of head.sort (ran outcome' cells'))
           ≡ check_by used at other (has_number (tokens_lent tokens)) (reading_of head.sort strict)
       by_run {outcome'} e used at other =
-          ap (λ t. check_by used at other t (reading_of head.sort (ran outcome' cells'))) (sym none ∙ tested-number)
+          ap (λ t. check_by used at other t (reading_of head.sort (ran outcome' cells'))) (sym none ∙ tested_number)
           ∙ ap (λ q. check_by used at other (has_number (tokens_lent tokens)) (reading_of head.sort q)) (strict_is e)
 
       -- A run that halts reads nothing.

@@ -10,7 +10,7 @@ use lib.Dec.{eqb}
 use lib.ListN.{length, get_or, set, replicate, length-set, length-replicate, get_or-replicate}
 use lib.Seq.{get_or-set_same, get_or-set_other, ext_get_or}
 use borrow.Author.Tests.{eq-eqb, ne_eqb}
-use Rattle.spellings.proofs.BytesLaws.{by-test}
+use Rattle.spellings.proofs.BytesLaws.{by_test}
 use Rattle.kinds.specs.Kinds.{word_kind, number_kind}
 use Rattle.kinds.specs.TextKinds.{outside_kind}
 use Rattle.tokens.specs.declared.Token.{Token}
@@ -106,7 +106,7 @@ outside_other : (t : Token) → (t.kind ≡ word_kind → ⊥) → as_outside t 
 outside_other t h = rw (ne_eqb t.kind word_kind h, as_outside) refl
 
 outside_value_lem : (t : Token) → (as_outside t).value ≡ t.value
-outside_value_lem t = by-test (eqb t.kind word_kind) (λ e. rw (e, as_outside) refl) (λ e. rw (e, as_outside) refl)
+outside_value_lem t = by_test (eqb t.kind word_kind) (λ e. rw (e, as_outside) refl) (λ e. rw (e, as_outside) refl)
 
 -- rows that are equal one by one
 tokens_made : (count at : ℕ) (tokens₀ tokens : List ℕ)

@@ -33,16 +33,16 @@ owner_number_lem : (done : List ℕ) (mark owner : ℕ) → (mark ≡ 0 → ⊥)
 owner_number_lem done zero owner d e = absurd (d refl)
 owner_number_lem done (suc k) owner d e = let z : k ≡ owner = omega arith in cc
 
-module _ (room : List ℕ) (place next mark : ℕ) (no-new : mark ≡ new → ⊥) (no-loose : mark ≡ no_owner → ⊥) where
+module _ (room : List ℕ) (place next mark : ℕ) (no_new : mark ≡ new → ⊥) (no_loose : mark ≡ no_owner → ⊥) where
   -- a place with the mark 0 has 0
   pub zero_at : mark ≡ 0 → 0 ≡ number_at (take place room) next mark
-  zero_at e = sym (owner_at (take place room) next mark no-new no-loose ∙ ap (owner_number (take place room)) e)
+  zero_at e = sym (owner_at (take place room) next mark no_new no_loose ∙ ap (owner_number (take place room)) e)
 
   -- a variable whose binder stands before it has its binder's number
   pub found_at : (mark ≡ 0 → ⊥) → {marked : ℕ} → marked ≡ mark → marked - 1 < place → get_or room (marked - 1) 0 ≡ number_at (take place room) next mark
   found_at d {marked} e l =
       let z : marked - 1 ≡ mark - 1 = omega arith in
-      sym (owner_at (take place room) next mark no-new no-loose ∙ owner_number_lem (take place room) mark (marked - 1) d z ∙ get_or-take place room (marked - 1) 0 l)
+      sym (owner_at (take place room) next mark no_new no_loose ∙ owner_number_lem (take place room) mark (marked - 1) d z ∙ get_or-take place room (marked - 1) 0 l)
 
   -- one whose binder's place is not before it would have 0
   pub far_at : (mark ≡ 0 → ⊥) → {marked : ℕ} → marked ≡ mark → place ≤ marked - 1 → place ≤ length room → 0 ≡ number_at (take place room) next mark
@@ -50,7 +50,7 @@ module _ (room : List ℕ) (place next mark : ℕ) (no-new : mark ≡ new → �
       let z : marked - 1 ≡ mark - 1 = omega arith in
       let past : length (take place room) ≤ marked - 1 = omega (arith, length-take-le place room n) in
       sym
-      (owner_at (take place room) next mark no-new no-loose ∙ owner_number_lem (take place room) mark (marked - 1) d z ∙ get_d_past (take place room)
+      (owner_at (take place room) next mark no_new no_loose ∙ owner_number_lem (take place room) mark (marked - 1) d z ∙ get_d_past (take place room)
       (marked - 1) 0 past)
 
 -- ------------------------------------------------------------------ the loop

@@ -8,7 +8,7 @@ use native.Mathlib.Omega.{arith}
 use lib.Dec.{eqb}
 use lib.ListN.{length}
 use borrow.Author.Tests.{ne_eqb}
-use Rattle.spellings.proofs.BytesLaws.{by-test}
+use Rattle.spellings.proofs.BytesLaws.{by_test}
 use Rattle.terms.specs.Term.{Name, word, fresh, outside, Term, Fields, variable, function, apply, rcd, dot, number, nil, cons, size, size_fields, largest_term}
 use Rattle.terms.specs.Rename.{belongs, is_renamed}
 use Rattle.terms.specs.Loose.{walk}
@@ -17,7 +17,7 @@ use Rattle.terms.specs.Occurrences.{owner_of, occurrence, occurrences, occurrenc
 use Rattle.scopes.specs.Marks.{no_owner, owner_code, mark_of, binder_mark}
 use Rattle.marking.specs.Marks.{marks, marks_fields}
 use Rattle.resolver.specs.Numbers.{loose_in}
-use Rattle.terms.proofs.Loose.{walk-stops, loose_append, loose_here, loose_further}
+use Rattle.terms.proofs.Loose.{walk_stops, loose_append, loose_here, loose_further}
 use Rattle.marking.proofs.MarkLaws.{length_marks}
 
 loose_there : (place mark : ℕ) (ms : List ℕ) → eqb mark no_owner ≡ true → loose_in place (mark ∷ ms) ≡ place ∷ loose_in (suc place) ms
@@ -33,7 +33,7 @@ unfolding loose_in
 loose_both place [] ns = cc (add-zero place)
 loose_both place (m ∷ ms) ns =
     let z : suc place + length ms ≡ place + length (m ∷ ms) = omega arith in
-    by-test (eqb m no_owner)
+    by_test (eqb m no_owner)
     (λ e. cc (loose_there place m (ms ++ ns) e, loose_both (suc place) ms ns, loose_there place m ms e))
     (λ e. cc (loose_not place m (ms ++ ns) e, loose_both (suc place) ms ns, loose_not place m ms e))
 
@@ -54,14 +54,14 @@ Near around = (v : Name) → owner_code (owner_of around v) ≤ largest_term
 
 near_more : (around : List Binder) (name : Name) (place : ℕ) → Near around → place < largest_term → Near (record { name = name; place = place } ∷ around)
 unfolding owner_of
-near_more around name place h l v = by-test (belongs v name) (λ e. rw (e, owner_of) (omega arith)) (λ e. rw (e, owner_of) (h v))
+near_more around name place h l v = by_test (belongs v name) (λ e. rw (e, owner_of) (omega arith)) (λ e. rw (e, owner_of) (h v))
 
 loose_variable : (around : List Binder) (place : ℕ) (name : Name) → Near around
     → loose_in place (mark_of name (owner_code (owner_of around name)) ∷ []) ≡ loose_places (occurrence around place name ∷ [])
 unfolding loose_in loose_places
 loose_variable around place name h =
     let m = mark_of name (owner_code (owner_of around name)) in
-    by-test (is_loose name (owner_of around name))
+    by_test (is_loose name (owner_of around name))
     (λ e. loose_there place m [] (mark_loose name (owner_of around name) (h name) ∙ e) ∙ sym (loose_here (occurrence around place name) [] e))
     (λ e. loose_not place m [] (mark_loose name (owner_of around name) (h name) ∙ e) ∙ sym (loose_further (occurrence around place name) [] e))
 
@@ -102,4 +102,4 @@ mutual
 pub walk_by_marks : (t : Term Name) → size t ≤ largest_term → walk [] 0 t ≡ stops_at_first (loose_in 0 (marks [] 0 t)) (size t)
 unfolding owner_of
 walk_by_marks t l =
-    cc (walk-stops [] 0 (size t) t (omega arith), loose_marks [] 0 t (λ v. omega arith) (omega arith))
+    cc (walk_stops [] 0 (size t) t (omega arith), loose_marks [] 0 t (λ v. omega arith) (omega arith))

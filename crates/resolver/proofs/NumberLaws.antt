@@ -8,7 +8,7 @@ use lib.ListN.{length, get_or, length-append, get_or-append}
 use lib.Seq.{get_or_at}
 use borrow.Author.Tests.{ne_eqb}
 use Rattle.spellings.specs.Bytes.{one_if}
-use Rattle.spellings.proofs.BytesLaws.{by-test, same_true}
+use Rattle.spellings.proofs.BytesLaws.{by_test, same_true}
 use Rattle.terms.specs.Term.{Name, word, fresh, outside, Term, Fields, variable, function, apply, rcd, dot, number, nil, cons, size, size_fields, largest_term}
 use Rattle.terms.specs.Rename.{belongs, is_renamed, renames, renames_fields, written, Printed, shown_as, binder_shown, renamed, renamed_fields, rename}
 use Rattle.terms.specs.Binding.{unbound, Binder}
@@ -55,7 +55,7 @@ shown_by : (done : List ℕ) (around : List Binder) (shown : List Printed) → P
 unfolding shown_as owner_of
 shown_by done [] [] paired_none name = refl
 shown_by done (_ ∷ around) (_ ∷ shown) (paired_more {binder = b} {place = q} l h) name =
-    by-test (belongs name b)
+    by_test (belongs name b)
     (λ e. rw (e, shown_as, owner_of) (shown-same (get_or done q 0) name b e))
     (λ e. rw (e, shown_as, owner_of) (shown_by done around shown h name))
 
@@ -64,7 +64,7 @@ owner_below : {done : List ℕ} {around : List Binder} {shown : List Printed} �
 unfolding owner_of
 owner_below paired_none name = omega arith
 owner_below {done} (paired_more {binder = b} {place = q} {around = around} l h) name =
-    by-test (belongs name b)
+    by_test (belongs name b)
     (λ e. rw (e, owner_of) (omega arith))
     (λ e. rw (e, owner_of) (owner_below h name))
 
@@ -104,22 +104,22 @@ variable_shown done around shown h l counter (fresh n) =
 variable_shown done around shown h l counter (outside s) =
     sym (cc (shown_by done around shown h (outside s), outside_unbound s around))
 
-mark_next : (counter : ℕ) (name : Name) (owner-mark : ℕ) → owner-mark ≤ largest_term → next_number counter (mark_of name owner-mark) ≡ counter
+mark_next : (counter : ℕ) (name : Name) (owner_mark : ℕ) → owner_mark ≤ largest_term → next_number counter (mark_of name owner_mark) ≡ counter
 unfolding next_number
-mark_next counter (word s) owner-mark l = next_small counter owner-mark (λ e. omega arith)
+mark_next counter (word s) owner_mark l = next_small counter owner_mark (λ e. omega arith)
 mark_next counter (fresh n) zero l = refl
 mark_next counter (fresh n) (suc q) l = next_small counter (suc q) (λ e. omega arith)
-mark_next counter (outside s) owner-mark l = refl
+mark_next counter (outside s) owner_mark l = refl
 
 -- ------------------------------------------------------------------ a binder
 
-binder_number : (done : List ℕ) (counter : ℕ) (binder : Name) (is-new : Bool) → name_shown (number_at done (suc counter) (binder_mark is-new)) binder
-    ≡ binder_shown is-new (suc counter) binder
+binder_number : (done : List ℕ) (counter : ℕ) (binder : Name) (is_new : Bool) → name_shown (number_at done (suc counter) (binder_mark is_new)) binder
+    ≡ binder_shown is_new (suc counter) binder
 unfolding number_at binder_mark binder_shown
 binder_number done counter binder true = refl
 binder_number done counter binder false = refl
 
-binder_next : (counter : ℕ) (is-new : Bool) → next_number (suc counter) (binder_mark is-new) ≡ suc (one_if is-new + counter)
+binder_next : (counter : ℕ) (is_new : Bool) → next_number (suc counter) (binder_mark is_new) ≡ suc (one_if is_new + counter)
 unfolding next_number binder_mark
 binder_next counter true = ap suc (omega arith)
 binder_next counter false = ap suc (omega arith)
@@ -303,13 +303,13 @@ module _ (around : List Binder) (shown : List Printed) (done : List ℕ) (counte
       }
 
 -- a binder's entry, with the name that its number gives
-paired_binder : (around : List Binder) (shown : List Printed) (done : List ℕ) (counter place : ℕ) (binder : Name) (is-new : Bool) → Paired done around shown
-    → length done ≡ place → Paired (done ++ number_at done (suc counter) (binder_mark is-new) ∷ []) (record { name = binder; place = place } ∷ around)
-    (record { origin = binder; shown = binder_shown is-new (suc counter) binder } ∷ shown)
-paired_binder around shown done counter place binder is-new h e =
-    let n = number_at done (suc counter) (binder_mark is-new) in
-    let same : name_shown (get_or (done ++ n ∷ []) place 0) binder ≡ binder_shown is-new (suc counter) binder = cc
-    (get_or_at done n [] 0 place e, binder_number done counter binder is-new) in
+paired_binder : (around : List Binder) (shown : List Printed) (done : List ℕ) (counter place : ℕ) (binder : Name) (is_new : Bool) → Paired done around shown
+    → length done ≡ place → Paired (done ++ number_at done (suc counter) (binder_mark is_new) ∷ []) (record { name = binder; place = place } ∷ around)
+    (record { origin = binder; shown = binder_shown is_new (suc counter) binder } ∷ shown)
+paired_binder around shown done counter place binder is_new h e =
+    let n = number_at done (suc counter) (binder_mark is_new) in
+    let same : name_shown (get_or (done ++ n ∷ []) place 0) binder ≡ binder_shown is_new (suc counter) binder = cc
+    (get_or_at done n [] 0 place e, binder_number done counter binder is_new) in
     rw (← same) (paired_more {binder = binder} {place = place} (omega (arith, snoc_length done n place e)) (paired_later (n ∷ []) h))
 
 mutual

@@ -9,7 +9,7 @@ use native.Mathlib.Decide.{dec_lt}
 use lib.Dec.{eqb}
 use lib.ListN.{length, get_or}
 use borrow.Author.Tests.{eq-eqb, ne_eqb, eqb-true, eqb-false}
-use Rattle.spellings.proofs.BytesLaws.{by-test}
+use Rattle.spellings.proofs.BytesLaws.{by_test}
 use Rattle.grammar.proofs.ReaderLaws.{get_d_past}
 use Rattle.terms.specs.Cells.{column, name_base, columns}
 use Rattle.rows.specs.Sizes.{WholeRows}
@@ -145,17 +145,17 @@ module _ {cells : List ℕ} (whole : WholeRows cells) (quiet : is_quiet cells �
         let z : suc depth - 1 ≡ depth = omega arith in
         let code : ℕ = column cells row 0 in
         let read : RowRead cells (suc depth) row code = record { some = λ e. omega (arith, e); at = refl } in
-        by-test (eqb code 0x20)
+        by_test (eqb code 0x20)
         (λ e.
         let is = eqb-true code 0x20 e in
         rw (var_marked read place current is refl) (zeros_one _ (variable_zero row is)))
-        (λ v. by-test (eqb code 0x22)
+        (λ v. by_test (eqb code 0x22)
         (λ e.
         rw (app_marked read place current (eqb-true code 0x22 e) refl refl refl refl, z)
         (zeros_more (zeros_both (quiet_term depth (column cells row 1) (place + 1)) (quiet_term depth (column cells row 2) _))))
-        (λ a. by-test (eqb code 0x23)
+        (λ a. by_test (eqb code 0x23)
         (λ e. rw (rcd_marked read place current (eqb-true code 0x23 e) refl, z) (zeros_more (quiet_fields depth (column cells row 1) (place + 1))))
-        (λ r. by-test (eqb code 0x24)
+        (λ r. by_test (eqb code 0x24)
         (λ e. rw (dot_marked read place current (eqb-true code 0x24 e) refl, z) (zeros_more (quiet_term depth (column cells row 1) (place + 1))))
         (λ d.
         rw (num_marked read place current
@@ -167,7 +167,7 @@ module _ {cells : List ℕ} (whole : WholeRows cells) (quiet : is_quiet cells �
     quiet_fields (suc depth) row place =
         let z : suc depth - 1 ≡ depth = omega arith in
         let read : RowRead cells (suc depth) row (column cells row 0) = record { some = λ e. omega (arith, e); at = refl } in
-        by-test (eqb (column cells row 0) 0x26)
+        by_test (eqb (column cells row 0) 0x26)
         (λ e.
         rw (cons_marked read place current (eqb-true (column cells row 0) 0x26 e) refl refl refl refl, z)
         (zeros_more (zeros_both (quiet_term depth (column cells row 2) (place + 1)) (quiet_fields depth (column cells row 3) _))))

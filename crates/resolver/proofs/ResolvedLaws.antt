@@ -123,6 +123,6 @@ quiet_resolves {cells} {room} {made} {root} pre quiet =
     let slots : ℕ = length cells / columns in
     let none = zeros slots in
     let enough : slots ≤ length (replicate {A = ℕ} slots 0) = omega (arith, length-replicate {A = ℕ} slots 0) in
-    let all-zero = quiet_term pre.whole quiet (replicate slots 0) none made root 0 in
-    let same = zeros_same all-zero room (root_length pre (replicate slots 0)) pre.blank in
-    root_resolves pre (replicate slots 0) enough none (zeros_numbers all-zero same)
+    let all_zero = quiet_term pre.whole quiet (replicate slots 0) none made root 0 in
+    let same = zeros_same all_zero room (root_length pre (replicate slots 0)) pre.blank in
+    root_resolves pre (replicate slots 0) enough none (zeros_numbers all_zero same)

@@ -8,13 +8,13 @@ use lib.Dec.{ltb}
 use lib.ListN.{length, get_or, set, take, drop, replicate, length-replicate, get_or-replicate}
 use lib.Seq.{sets, sets-eq, set_comm, take_at}
 use borrow.Author.Tests.{ltb-true, ltb-false}
-use Rattle.spellings.proofs.BytesLaws.{by-test}
+use Rattle.spellings.proofs.BytesLaws.{by_test}
 use Rattle.grammar.proofs.ReaderLaws.{get_d_past}
 
 -- a room of zeros reads as 0 everywhere
 pub zeros : (count place : ℕ) → get_or {A = ℕ} (replicate count 0) place 0 ≡ 0
 zeros count place =
-    by-test (ltb place count) (λ e. get_or-replicate {A = ℕ} count place 0 0 (ltb-true place count e))
+    by_test (ltb place count) (λ e. get_or-replicate {A = ℕ} count place 0 0 (ltb-true place count e))
     (λ e. get_d_past {A = ℕ} (replicate count 0) place 0 (omega (arith, ltb-false place count e, length-replicate {A = ℕ} count 0)))
 
 -- two runs of stores, one behind the other, are one

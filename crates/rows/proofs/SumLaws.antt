@@ -9,7 +9,7 @@ use lib.Dec.{eqb, ltb}
 use lib.ListN.{length, get_or, set, length-set}
 use lib.Seq.{get_or-set_same, get_or-set_other}
 use borrow.Author.Tests.{eqb-true, eqb-false, ne_eqb, ltb-true, not-true}
-use Rattle.spellings.proofs.BytesLaws.{by-test}
+use Rattle.spellings.proofs.BytesLaws.{by_test}
 use Rattle.grammar.proofs.ReaderLaws.{get_d_past}
 use Rattle.terms.specs.Cells.{column}
 use Rattle.terms.specs.Term.{Name, Term, Fields}
@@ -111,13 +111,13 @@ unfolding are_ordered
 ordered_at cells zero e row l = absurd (omega arith)
 ordered_at cells (suc rows) e row l =
     let both = (and-eq-true_iff (are_ordered cells rows) (are_before cells rows (parts_at cells rows))).0 e in
-    by-test (eqb row rows) (λ t. rw (eqb-true row rows t) both.1)
+    by_test (eqb row rows) (λ t. rw (eqb-true row rows t) both.1)
     (λ t. ordered_at cells rows both.0 row (omega (arith, eqb-false row rows t)))
 
 -- one row that has not puts the rows out of order
 pub unordered_at : (cells : List ℕ) (rows row : ℕ) → row < rows → are_before cells row (parts_at cells row) ≡ false → are_ordered cells rows ≡ false
 unordered_at cells rows row l e =
-    by-test (are_ordered cells rows) (λ t. absurd (true≢false (sym (ordered_at cells rows t row l) ∙ e))) (λ t. t)
+    by_test (are_ordered cells rows) (λ t. absurd (true≢false (sym (ordered_at cells rows t row l) ∙ e))) (λ t. t)
 
 -- ------------------------------------------------------------------ a pass
 
@@ -201,7 +201,7 @@ module _ {cells : List ℕ} {cap : ℕ} {weights sums : List ℕ} {row : ℕ} (p
         ordered = rw (add-one, passed.ordered, before) refl;
         each =
             λ q depth h d.
-            by-test (eqb q row)
+            by_test (eqb q row)
             (λ k. let same : q ≡ row = eqb-true q row k in
             rw (same, get_or-set_same sums row sum 0 l) (summed ∙ row_summed before depth (omega arith)))
             (λ k. let other : q ≡ row → ⊥ = eqb-false q row k in
@@ -229,10 +229,10 @@ module _ {cells : List ℕ} {cap : ℕ} {weights sums : List ℕ} {row : ℕ} (p
 -- ------------------------------------------------------------------ the sum at a row
 
 module _ {cells : List ℕ} {cap : ℕ} {weights sums : List ℕ} {ordered before : Bool} (summed : SumsRows cells cap weights sums ordered) (root : ℕ)
-    (is-before : before ≡ is_term_before cells (length weights) root)
+    (is_before : before ≡ is_term_before cells (length weights) root)
   where
     both_true : (ordered && before) ≡ true → (ordered ≡ true) × (is_term_before cells (length weights) root ≡ true)
-    both_true e = let both = (and-eq-true_iff ordered before).0 e in (both.0, sym is-before ∙ both.1)
+    both_true e = let both = (and-eq-true_iff ordered before).0 e in (both.0, sym is_before ∙ both.1)
 
     -- it is one of those summed
     pub total_inside : (ordered && before) ≡ true → root < length sums
@@ -247,7 +247,7 @@ module _ {cells : List ℕ} {cap : ℕ} {weights sums : List ℕ} {ordered befor
 
     -- rows out of order, or no row of a term
     pub total_unknown : (ordered && before) ≡ false → Unordered ≡ total_of cells cap weights root
-    total_unknown e = rw (← summed.told, ← is-before, e) refl
+    total_unknown e = rw (← summed.told, ← is_before, e) refl
 
 -- ------------------------------------------------------------------ what a measure adds up to
 
@@ -280,7 +280,7 @@ module _ {weights cells : List ℕ} {rows : ℕ} {terms fields : ℕ → ℕ →
 pub total_adds : {weights cells : List ℕ} {terms fields : ℕ → ℕ → ℕ} (cap root : ℕ) {sum : ℕ} → Adds weights cells (length weights) terms fields
     → Of sum ≡ total_of cells cap weights root → sum ≡ min cap (terms (length weights) root)
 total_adds {weights} {cells} cap root {sum} adds e =
-    by-test (are_ordered cells (length weights) && is_term_before cells (length weights) root)
+    by_test (are_ordered cells (length weights) && is_term_before cells (length weights) root)
     (λ t.
     let both = (and-eq-true_iff (are_ordered cells (length weights)) (is_term_before cells (length weights) root)).0 t in
     let is = term_before cells (length weights) root both.1 in
@@ -293,16 +293,16 @@ total_adds {weights} {cells} cap root {sum} adds e =
     absurd (omega arith))
 
 -- Measures of the terms and the field lists at rows add up if they do constructor by constructor.
-pub adds_by : {weights cells : List ℕ} {rows : ℕ} (spell : ℕ → List ℕ) (measure : Term Name → ℕ) (measureFields : Fields Name → ℕ)
+pub adds_by : {weights cells : List ℕ} {rows : ℕ} (spell : ℕ → List ℕ) (measure : Term Name → ℕ) (measure_fields : Fields Name → ℕ)
     → ((row : ℕ) → row < rows → (c : Constructor) → row_is cells row ≡ c → is_fields c ≡ false → (terms : ℕ → Term Name) (fields : ℕ → Fields Name)
     → measure (term_by c spell cells row terms fields)
-    ≡ get_or weights row 0 + sum_of (parts_of c cells row) (λ q. measure (terms q)) (λ q. measureFields (fields q)))
+    ≡ get_or weights row 0 + sum_of (parts_of c cells row) (λ q. measure (terms q)) (λ q. measure_fields (fields q)))
     → ((row : ℕ) → row < rows → (c : Constructor) → row_is cells row ≡ c → is_fields c ≡ true → (terms : ℕ → Term Name) (fields : ℕ → Fields Name)
-    → measureFields (fields_by (is_cons c) spell cells row terms fields)
-    ≡ get_or weights row 0 + sum_of (parts_of c cells row) (λ q. measure (terms q)) (λ q. measureFields (fields q)))
-    → Adds weights cells rows (λ depth row. measure (term_at depth spell cells row)) (λ depth row. measureFields (field_list_at depth spell cells row))
+    → measure_fields (fields_by (is_cons c) spell cells row terms fields)
+    ≡ get_or weights row 0 + sum_of (parts_of c cells row) (λ q. measure (terms q)) (λ q. measure_fields (fields q)))
+    → Adds weights cells rows (λ depth row. measure (term_at depth spell cells row)) (λ depth row. measure_fields (field_list_at depth spell cells row))
 unfolding term_at field_list_at
-adds_by {weights} {cells} spell measure measureFields by_term by_list =
+adds_by {weights} {cells} spell measure measure_fields by_term by_list =
     record {
       term = λ depth row l k. by_term row l (row_is cells row) refl k (λ q. term_at depth spell cells q) (λ q. field_list_at depth spell cells q);
       list = λ depth row l k. by_list row l (row_is cells row) refl k (λ q. term_at depth spell cells q) (λ q. field_list_at depth spell cells q);

@@ -8,7 +8,7 @@ use lib.ListN.{length, get_or, length-append, get_or-eq_default}
 use lib.Seq.{sets, length-sets}
 use borrow.Author.Tests.{ltb-true, ltb-false}
 use Rattle.spellings.specs.Bytes.{largest}
-use Rattle.spellings.proofs.BytesLaws.{by-test}
+use Rattle.spellings.proofs.BytesLaws.{by_test}
 use Rattle.kinds.specs.Kinds.{word_kind}
 use Rattle.answers.specs.declared.Refusal.{Refusal}
 use Rattle.grammar.specs.Table.{Lexicon}
@@ -153,7 +153,7 @@ module _ (lex : Lexicon) (few : length lex.outsides ≤ 64) (named : length lex.
   pub word_numbers_small : (place : ℕ) → (get_or (scan lex formula).tokens place end_token).kind ≡ word_kind
       → (get_or (scan lex formula).tokens place end_token).value < most.outsides + most_tokens
   word_numbers_small place k =
-      by-test (ltb place (length (scan lex formula).tokens))
+      by_test (ltb place (length (scan lex formula).tokens))
       (λ e.
       let s = every_at _ (scan lex formula).tokens place end_token (scan_spelled lex few formula) (ltb-true place _ e) k in
       omega (arith, s.known, scan_sized.words, scan_sized.tokens))

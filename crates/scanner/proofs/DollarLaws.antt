@@ -11,7 +11,7 @@ use borrow.Author.Tests.{eq-eqb, ne_eqb, lt-ltb, leb-false}
 use Rattle.spellings.specs.Bytes.{is_digit, is_symbol, longest_run, largest, value_of, is_number}
 use Rattle.spellings.specs.Numbers.{number_of}
 use Rattle.spellings.specs.declared.Number.TheVariants.{Value, TooLarge}
-use Rattle.spellings.proofs.BytesLaws.{by-test, run_prefix, run_length}
+use Rattle.spellings.proofs.BytesLaws.{by_test, run_prefix, run_length}
 use Rattle.grammar.specs.Table.{Lexicon}
 use Rattle.grammar.specs.Variables.{most_variables}
 use Rattle.kinds.specs.TextKinds.{variable_kind}
@@ -74,12 +74,12 @@ module _ (count : ℕ) (rest : List ℕ) where
 -- a number that is not too large is the value of its digits
 value_told : (digits : List ℕ) {value : ℕ} → Value value ≡ number_of digits → value ≡ value_of digits
 value_told digits {value} e =
-    by-test (is_number digits) (λ t. let z : number_of digits ≡ Value (value_of digits) = rw (t, number_of) refl in cc)
+    by_test (is_number digits) (λ t. let z : number_of digits ≡ Value (value_of digits) = rw (t, number_of) refl in cc)
     (λ t. let z : number_of digits ≡ TooLarge = rw (t, number_of) refl in let q : ◌≡◌ {A = ℕ} 0 1 = cc in absurd (omega arith))
 
 large_told : (digits : List ℕ) → TooLarge ≡ number_of digits → largest < value_of digits
 large_told digits e =
-    by-test (is_number digits)
+    by_test (is_number digits)
     (λ t. let z : number_of digits ≡ Value (value_of digits) = rw (t, number_of) refl in let q : ◌≡◌ {A = ℕ} 0 1 = cc in absurd (omega arith))
     (λ t. leb-false (value_of digits) largest t)
 
@@ -135,7 +135,7 @@ module _ (count : ℕ) (rest : List ℕ) where
 
   named_by : {number size : ℕ} → Named number size ≡ variable_of count rest → NamedBy count rest number size
   named_by {number} {size} found =
-      by-test (is_variable count rest)
+      by_test (is_variable count rest)
       (λ e.
       let z = named_found e in
       let n : number ≡ value_of (dollar_digits rest) = cc in
@@ -145,7 +145,7 @@ module _ (count : ℕ) (rest : List ℕ) where
 
   unnamed_by : Unnamed ≡ variable_of count rest → is_variable count rest ≡ false
   unnamed_by found =
-      by-test (is_variable count rest) (λ e. let z = named_found e in let q : ◌≡◌ {A = ℕ} 0 1 = cc in absurd (omega arith)) (λ e. e)
+      by_test (is_variable count rest) (λ e. let z = named_found e in let q : ◌≡◌ {A = ℕ} 0 1 = cc in absurd (omega arith)) (λ e. e)
 
   -- ------------------------------------------------------------------ every `$` of a text
 
@@ -157,7 +157,7 @@ module _ (count : ℕ) (rest : List ℕ) where
   pub variable_named : {number size : ℕ} → Named number size ≡ variable_of count rest → true ≡ is_named count rest
   variable_named found =
       let v : is_variable count rest ≡ true = front_variable (named_by found).front in
-      by-test (is_dollar rest) (λ e. rw (e, v, is_named) refl) (λ e. rw (e, is_named) refl)
+      by_test (is_dollar rest) (λ e. rw (e, v, is_named) refl) (λ e. rw (e, is_named) refl)
 
   -- any other `$` before a digit may not
   pub dollar_unnamed : true ≡ is_dollar rest → Unnamed ≡ variable_of count rest → false ≡ is_named count rest

@@ -10,7 +10,7 @@ use lib.ListN.{length, get_or, set, take, drop, length-drop, length-append}
 use lib.Seq.{sets, length-take-le}
 use borrow.Author.Tests.{eq-eqb, ne_eqb, ltb-true, ltb-false}
 use Rattle.spellings.specs.Bytes.{is_letter, is_digit, is_word_byte, is_separator, is_symbol, longest_run, index_of}
-use Rattle.spellings.proofs.BytesLaws.{by-test, index_le, index_front, index_rest, run_prefix, run_length}
+use Rattle.spellings.proofs.BytesLaws.{by_test, index_le, index_front, index_rest, run_prefix, run_length}
 use Rattle.grammar.specs.Table.{Lexicon}
 use Rattle.grammar.proofs.LookupLaws.{few_keywords, few_outsides}
 use Rattle.kinds.specs.Kinds.{word_kind, number_kind, keyword_kind, no_kind}
@@ -55,14 +55,14 @@ use Rattle.tokens.proofs.StandLaws.{word_taken, one_byte, stands_steps}
 module _ (spelling : List ℕ) (vs us : List (List ℕ)) where
   split_front : index_of spelling (vs ++ us) < length vs → index_of spelling vs ≡ index_of spelling (vs ++ us)
   split_front h =
-      by-test (ltb (index_of spelling vs) (length vs)) (λ e. sym (index_front spelling vs us (ltb-true (index_of spelling vs) (length vs) e)))
+      by_test (ltb (index_of spelling vs) (length vs)) (λ e. sym (index_front spelling vs us (ltb-true (index_of spelling vs) (length vs) e)))
       (λ e.
       let z : index_of spelling vs ≡ length vs = omega (arith, ltb-false (index_of spelling vs) (length vs) e, index_le spelling vs) in
       absurd (omega (arith, index_rest spelling vs us z)))
 
   split_back : length vs ≤ index_of spelling (vs ++ us) → index_of spelling vs ≡ length vs
   split_back h =
-      by-test (ltb (index_of spelling vs) (length vs))
+      by_test (ltb (index_of spelling vs) (length vs))
       (λ e.
       let l : index_of spelling vs < length vs = ltb-true (index_of spelling vs) (length vs) e in
       absurd (omega (arith, index_front spelling vs us l)))
@@ -134,54 +134,54 @@ module _ {mask : ℕ} {met : List (List ℕ)} {links spelling : List ℕ} {at si
 -- ------------------------------------------------------------------ a step
 
 -- a token that is no new word
-module _ (met-count : ℕ) (read-token : Token) where
-  no_word_new : (read-token.kind ≡ word_kind → ⊥) → is_new met-count read-token ≡ false
-  no_word_new d = rw (ne_eqb read-token.kind word_kind d) refl
+module _ (met_count : ℕ) (read_token : Token) where
+  no_word_new : (read_token.kind ≡ word_kind → ⊥) → is_new met_count read_token ≡ false
+  no_word_new d = rw (ne_eqb read_token.kind word_kind d) refl
 
-  known_new : read-token.kind ≡ word_kind → (read-token.value ≡ most.outsides + met-count → ⊥) → is_new met-count read-token ≡ false
-  known_new k d = rw (eq-eqb read-token.kind word_kind k, ne_eqb read-token.value (most.outsides + met-count) d) refl
+  known_new : read_token.kind ≡ word_kind → (read_token.value ≡ most.outsides + met_count → ⊥) → is_new met_count read_token ≡ false
+  known_new k d = rw (eq-eqb read_token.kind word_kind k, ne_eqb read_token.value (most.outsides + met_count) d) refl
 
-  next_new : read-token.kind ≡ word_kind → read-token.value ≡ most.outsides + met-count → is_new met-count read-token ≡ true
-  next_new k d = rw (eq-eqb read-token.kind word_kind k, eq-eqb read-token.value (most.outsides + met-count) d) refl
+  next_new : read_token.kind ≡ word_kind → read_token.value ≡ most.outsides + met_count → is_new met_count read_token ≡ true
+  next_new k d = rw (eq-eqb read_token.kind word_kind k, eq-eqb read_token.value (most.outsides + met_count) d) refl
 
 module _ {lex : Lexicon} (few : length lex.outsides ≤ most.outsides) {mask : ℕ} {met : List (List ℕ)} {links : List ℕ} {at : ℕ} {rest : List ℕ}
     (below : 0 < length rest) where
-  stepped_old : {read-token : Token} {met' : List (List ℕ)} → Stands lex at rest met read-token met' → is_new (length met) read-token ≡ false
-      → Stepped lex mask met links at rest (made (Emit read-token) (Node 0))
-  stepped_old {read-token} st old =
+  stepped_old : {read_token : Token} {met' : List (List ℕ)} → Stands lex at rest met read_token met' → is_new (length met) read_token ≡ false
+      → Stepped lex mask met links at rest (made (Emit read_token) (Node 0))
+  stepped_old {read_token} st old =
       record {
         step_is = (stands_steps few below st).emits;
-        agrees = λ u e. let z : read-token ≡ u = cc in rw (z) at old;
+        agrees = λ u e. let z : read_token ≡ u = cc in rw (z) at old;
         free = λ u e. tt;
       }
 
-  module _ {spelling : List ℕ} (word-front : WordFront rest spelling) where
+  module _ {spelling : List ℕ} (word_front : WordFront rest spelling) where
     keyword_step : {number : ℕ} → FirstAt spelling lex.keywords number
         → Stepped lex mask met links at rest (made (Emit (token (keyword_kind number) at (length spelling) 0)) (Node 0))
     keyword_step {number} f =
-        stepped_old (rule.a_keyword word-front f) (no_word_new (length met) (token (keyword_kind number) at (length spelling) 0) (λ e. omega (arith, e)))
+        stepped_old (rule.a_keyword word_front f) (no_word_new (length met) (token (keyword_kind number) at (length spelling) 0) (λ e. omega (arith, e)))
 
     outside_step : {number : ℕ} → NotIn spelling lex.keywords → FirstAt spelling lex.outsides number
         → Stepped lex mask met links at rest (made (Emit (token word_kind at (length spelling) number)) (Node 0))
     outside_step {number} n f =
-        stepped_old (rule.an_outside_name word-front n f)
+        stepped_old (rule.an_outside_name word_front n f)
         (known_new (length met) (token word_kind at (length spelling) number) refl (λ e. omega (arith, e, f.there)))
 
     own_step : {result : Made} → NotIn spelling lex.keywords → NotIn spelling lex.outsides → OwnWord mask met links at (length spelling) spelling result
         → Stepped lex mask met links at rest result
     own_step n o (met_before {k = k} f) =
-        stepped_old (rule.a_word_again word-front n o f)
+        stepped_old (rule.a_word_again word_front n o f)
         (known_new (length met) (token word_kind at (length spelling) (most.outsides + k)) refl (λ e. omega (arith, e, f.there)))
     own_step n o (first_met {slot = slot} f) =
         let t : Token = token word_kind at (length spelling) (most.outsides + length met) in
         record {
-          step_is = (stands_steps few below (rule.a_new_word word-front n o (index_is_none spelling met f.none))).emits;
+          step_is = (stands_steps few below (rule.a_new_word word_front n o (index_is_none spelling met f.none))).emits;
           agrees =
               λ u e. let z : t ≡ u = cc in rw (← z) (next_new (length met) t refl refl);
           free =
               λ u e.
               let z : t ≡ u = cc in
-              rw (← z) (rw (word_taken word-front) f);
+              rw (← z) (rw (word_taken word_front) f);
         }
 
   -- what is no word
@@ -325,28 +325,28 @@ pub word_here : {formula : List ℕ} {at size hash : ℕ} {spelling : List ℕ} 
     → WordHere formula at size hash spelling
 word_here h l d k r = record { inside = h; letter = l; hashed = d; short = k; read = r }
 
-module _ {formula : List ℕ} {at size hash : ℕ} {spelling : List ℕ} (given-word-here : WordHere formula at size hash spelling) where
+module _ {formula : List ℕ} {at size hash : ℕ} {spelling : List ℕ} (given_word_here : WordHere formula at size hash spelling) where
   here_run : spelling ≡ longest_run is_word_byte (drop at formula)
   here_run =
-      cc (given-word-here.read, given-word-here.hashed.sized, run_prefix is_word_byte (drop at formula))
+      cc (given_word_here.read, given_word_here.hashed.sized, run_prefix is_word_byte (drop at formula))
 
   -- the hash is that of its bytes
   pub here_hash : hash ≡ hash_of spelling
-  here_hash = given-word-here.hashed.hashed ∙ ap hash_of (sym here_run)
+  here_hash = given_word_here.hashed.hashed ∙ ap hash_of (sym here_run)
 
   here_long : length spelling ≡ size
-  here_long = ap length here_run ∙ sym given-word-here.hashed.sized
+  here_long = ap length here_run ∙ sym given_word_here.hashed.sized
 
   here_front : WordFront (drop at formula) spelling
   here_front =
       record {
-        begins = ap is_letter (front_byte formula at) ∙ given-word-here.letter;
+        begins = ap is_letter (front_byte formula at) ∙ given_word_here.letter;
         whole = here_run;
-        short = omega (arith, here_long, given-word-here.short);
+        short = omega (arith, here_long, given_word_here.short);
       }
 
   here_some : 0 < length (drop at formula)
-  here_some = omega (arith, given-word-here.inside, length-drop at formula)
+  here_some = omega (arith, given_word_here.inside, length-drop at formula)
 
   module _ {lex : Lexicon} (few : length lex.outsides ≤ most.outsides) {mask : ℕ} {met : List (List ℕ)} {links : List ℕ} {name : WordClass} {result : Made}
       (named : Named lex spelling name) where
@@ -372,7 +372,7 @@ module _ {formula : List ℕ} {at size hash : ℕ} {spelling : List ℕ} (given-
     other_made e o = by_name (subst (Named lex spelling) e named)
       where
         own : OwnWord mask met links at (length spelling) spelling result
-        own = rw (here_long, given-word-here.read) o
+        own = rw (here_long, given_word_here.read) o
 
         by_name : Named lex spelling Other → Stepped lex mask met links at (drop at formula) result
         by_name (neither n q) = own_step few here_some here_front n q own
@@ -482,19 +482,19 @@ module _ {lex : Lexicon} {table room tree : List ℕ} (lexical : Lexical lex tab
 
 -- ------------------------------------------------------------------ stores
 
-module _ (words links : List ℕ) (count : ℕ) (read-token : Token) (spot : Spot) (agrees : Agrees count read-token spot) where
+module _ (words links : List ℕ) (count : ℕ) (read_token : Token) (spot : Spot) (agrees : Agrees count read_token spot) where
   -- after a token that is no new word, counts, places and links are as they were
   pub node_stored : {index : ℕ} → spot ≡ Node index
-      → (count ≡ count_with count read-token) × (words ≡ sets words (count * 2) (place_then count read-token [])) × (links ≡ links_with links spot count)
+      → (count ≡ count_with count read_token) × (words ≡ sets words (count * 2) (place_then count read_token [])) × (links ≡ links_with links spot count)
   node_stored e =
-      let old : is_new count read-token ≡ false = subst (Agrees count read-token) e agrees in
-      (count_old words count read-token old, place_old words count read-token old, sym (cc))
+      let old : is_new count read_token ≡ false = subst (Agrees count read_token) e agrees in
+      (count_old words count read_token old, place_old words count read_token old, sym (cc))
 
   -- after a new word one more is counted, its place is stored and its link is set
   pub free_stored : {slot : ℕ} → spot ≡ Free slot
-      → (count + 1 ≡ count_with count read-token)
-      × (set (set words (count * 2) read-token.at) (count * 2 + 1) read-token.size ≡ sets words (count * 2) (place_then count read-token []))
+      → (count + 1 ≡ count_with count read_token)
+      × (set (set words (count * 2) read_token.at) (count * 2 + 1) read_token.size ≡ sets words (count * 2) (place_then count read_token []))
       × (set links slot (count + 1) ≡ links_with links spot count)
   free_stored e =
-      let new : is_new count read-token ≡ true = subst (Agrees count read-token) e agrees in
-      (count_new words count read-token new, place_new words count read-token new, free_set links e count)
+      let new : is_new count read_token ≡ true = subst (Agrees count read_token) e agrees in
+      (count_new words count read_token new, place_new words count read_token new, free_set links e count)

@@ -60,8 +60,8 @@ four_stored room place first second third fourth h =
     )
     refl
 
-row_stored : (room : List ℕ) (row : ℕ) (read-token : Token) → row * 4 + 4 ≤ length room → row_of (sets room (row * 4) (row_then read-token [])) row ≡ read-token
-row_stored room row read-token h = four_stored room (row * 4) read-token.kind read-token.at read-token.size read-token.value h
+row_stored : (room : List ℕ) (row : ℕ) (read_token : Token) → row * 4 + 4 ≤ length room → row_of (sets room (row * 4) (row_then read_token [])) row ≡ read_token
+row_stored room row read_token h = four_stored room (row * 4) read_token.kind read_token.at read_token.size read_token.value h
 
 -- Token `index` of those that are stored from row `start` on stands in row `start` + `index`.
 pub row_at : (ts : List Token) (room : List ℕ) (start index : ℕ) (default : Token) → index < length ts → (start + length ts) * 4 ≤ length room
@@ -137,19 +137,19 @@ module _ (lex : Lexicon) (few : length lex.outsides ≤ 64) (formula : List ℕ)
       let z : length words ≡ count = sym (ap length e) ∙ words_length count formula room 0 in
       ap (words_in formula room) z ∙ e
 
-  named_token : (at before : ℕ) (words : List (List ℕ)) (read-token : Token) (lexed : Lexed) → at < length formula → before < most_tokens → 0 < read-token.size
-      → read-token.at ≡ at
-      → NamedFrom (at + read-token.size) (before + 1) (words_with words (take read-token.size (drop at formula)) read-token) lexed
-      → NamedFrom at before words (with_token read-token lexed)
+  named_token : (at before : ℕ) (words : List (List ℕ)) (read_token : Token) (lexed : Lexed) → at < length formula → before < most_tokens → 0 < read_token.size
+      → read_token.at ≡ at
+      → NamedFrom (at + read_token.size) (before + 1) (words_with words (take read_token.size (drop at formula)) read_token) lexed
+      → NamedFrom at before words (with_token read_token lexed)
   unfolding NamedFrom
-  named_token at before words read-token lexed h m some a p room count long later fewer e =
-      let room₁ : List ℕ = sets room (count * 2) (place_then count read-token []) in
-      let w : words_in formula room₁ (count_with count read-token) ≡ words_with words (take read-token.size (drop at formula)) read-token
-      = cc (words_stored formula room count read-token (omega (arith, long (before + 1) (omega arith) (omega arith)))) in
+  named_token at before words read_token lexed h m some a p room count long later fewer e =
+      let room₁ : List ℕ = sets room (count * 2) (place_then count read_token []) in
+      let w : words_in formula room₁ (count_with count read_token) ≡ words_with words (take read_token.size (drop at formula)) read_token
+      = cc (words_stored formula room count read_token (omega (arith, long (before + 1) (omega arith) (omega arith)))) in
       cc (
-        fill_places count room read-token lexed.tokens,
-        p room₁ (count_with count read-token) (λ j b d. omega (arith, long j b d, length-sets room (count * 2) (place_then count read-token []))) (omega arith)
-            (omega (arith, count_grows count read-token (is_new count read-token) refl)) w,
+        fill_places count room read_token lexed.tokens,
+        p room₁ (count_with count read_token) (λ j b d. omega (arith, long j b d, length-sets room (count * 2) (place_then count read_token []))) (omega arith)
+            (omega (arith, count_grows count read_token (is_new count read_token) refl)) w,
       )
 
   named_kept : Kept lex formula NamedFrom

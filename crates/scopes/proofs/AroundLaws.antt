@@ -9,7 +9,7 @@ use lib.ListN.{length, get_or, set}
 use lib.Seq.{get_or-set_same, get_or-set_other, set-get_or, set-set, set_out}
 use borrow.Author.Tests.{eq-eqb, ne_eqb, eqb-true, eqb-false}
 use Rattle.spellings.specs.Bytes.{same}
-use Rattle.spellings.proofs.BytesLaws.{by-test, same_true, same_refl}
+use Rattle.spellings.proofs.BytesLaws.{by_test, same_true, same_refl}
 use Rattle.terms.specs.Cells.{name_base, most_cells}
 use Rattle.terms.specs.Term.{Name, word, fresh}
 use Rattle.terms.specs.Rows.{name_of}
@@ -48,7 +48,7 @@ module _ (spell : ℕ → List ℕ) where
       → belongs (name_of spell name_value) (name_of spell other) ≡ false
   belongs_other apart _ _ (bindable_word {n = n} h w) (bindable_word {n = m} k v) d =
       rw (named_word n h, named_word m k)
-      (by-test (same (spell n) (spell m)) (λ e. absurd (d (cc (apart n m w (same_true (spell n) (spell m) e))))) (λ e. e))
+      (by_test (same (spell n) (spell m)) (λ e. absurd (d (cc (apart n m w (same_true (spell n) (spell m) e))))) (λ e. e))
   belongs_other apart _ _ (bindable_word {n = n} h w) (bindable_fresh {n = m} k) d = rw (named_word n h, named_fresh m k) refl
   belongs_other apart _ _ (bindable_fresh {n = n} h) (bindable_word {n = m} k v) d = rw (named_fresh n h, named_word m k) refl
   belongs_other apart _ _ (bindable_fresh {n = n} h) (bindable_fresh {n = m} k) d =
@@ -72,7 +72,7 @@ module _ (spell : ℕ → List ℕ) where
       → Around spell cells around current
       → Around spell cells (record { name = name_of spell binder; place = place } ∷ around) (set current (slot_of cells binder) (place + 1))
   around_binder apart cells around current binder place b l n env x a =
-      by-test (eqb x binder)
+      by_test (eqb x binder)
       (λ e.
       let z : x ≡ binder = eqb-true x binder e in
       rw z refl

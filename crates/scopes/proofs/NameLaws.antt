@@ -8,7 +8,7 @@ use lib.Dec.{eqb, ltb}
 use lib.ListN.{get_or}
 use borrow.Author.Tests.{eq-eqb, ne_eqb, eqb-true, eqb-false, lt-ltb, le-ltb, ltb-true, ltb-false}
 use Rattle.spellings.specs.Bytes.{same, is_word}
-use Rattle.spellings.proofs.BytesLaws.{by-test, same_true, same_false}
+use Rattle.spellings.proofs.BytesLaws.{by_test, same_true, same_false}
 use Rattle.kinds.specs.Kinds.{has_kind, only}
 use Rattle.kinds.proofs.KindsLaws.{has_none, has_only}
 use Rattle.grammar.specs.Limits.{most}
@@ -26,29 +26,29 @@ use Rattle.rows.proofs.RowLaws.{as_word, as_fresh, as_outside}
 
 -- ------------------------------------------------------------------ by class
 
-module _ (value of_word of-fresh of-outside : ℕ) where
+module _ (value of_word of_fresh of_outside : ℕ) where
   -- A name of class 1 is a word.
-  pub class_word : value / name_base ≡ 1 → by_class value of_word of-fresh of-outside ≡ of_word
+  pub class_word : value / name_base ≡ 1 → by_class value of_word of_fresh of_outside ≡ of_word
   unfolding by_class
   class_word e = rw (eq-eqb (value / name_base) 1 e, by_class) refl
 
   -- One of class 2 is a fresh name.
-  pub class_fresh : value / name_base ≡ 2 → by_class value of_word of-fresh of-outside ≡ of-fresh
+  pub class_fresh : value / name_base ≡ 2 → by_class value of_word of_fresh of_outside ≡ of_fresh
   unfolding by_class
   class_fresh e = rw (ne_eqb (value / name_base) 1 (λ d. omega arith), by_class) (rw (eq-eqb (value / name_base) 2 e) refl)
 
   -- Any other is an outside name.
-  pub class_outside : (value / name_base ≡ 1 → ⊥) → (value / name_base ≡ 2 → ⊥) → by_class value of_word of-fresh of-outside ≡ of-outside
+  pub class_outside : (value / name_base ≡ 1 → ⊥) → (value / name_base ≡ 2 → ⊥) → by_class value of_word of_fresh of_outside ≡ of_outside
   unfolding by_class
   class_outside a b = rw (ne_eqb (value / name_base) 1 a, by_class) (rw (ne_eqb (value / name_base) 2 b) refl)
 
 -- What holds of each class holds of a name.
 pub by_class_lem : {P : Type 0} (value : ℕ) → (value / name_base ≡ 1 → P) → (value / name_base ≡ 2 → P)
     → ((value / name_base ≡ 1 → ⊥) → (value / name_base ≡ 2 → ⊥) → P) → P
-by_class_lem value of_word of-fresh of-outside =
-    by-test (eqb (value / name_base) 1) (λ e. of_word (eqb-true (value / name_base) 1 e))
-    (λ a. by-test (eqb (value / name_base) 2) (λ e. of-fresh (eqb-true (value / name_base) 2 e))
-    (λ b. of-outside (eqb-false (value / name_base) 1 a) (eqb-false (value / name_base) 2 b)))
+by_class_lem value of_word of_fresh of_outside =
+    by_test (eqb (value / name_base) 1) (λ e. of_word (eqb-true (value / name_base) 1 e))
+    (λ a. by_test (eqb (value / name_base) 2) (λ e. of_fresh (eqb-true (value / name_base) 2 e))
+    (λ b. of_outside (eqb-false (value / name_base) 1 a) (eqb-false (value / name_base) 2 b)))
 
 new_mark : new ≡ binder_mark true
 unfolding binder_mark
@@ -86,7 +86,7 @@ other_mark value held a =
 module _ (spell : ℕ → List ℕ) (apart : Distinct spell) where
   same_number : (numbered other : ℕ) → is_word (spell numbered) ≡ true → eqb numbered other ≡ same (spell numbered) (spell other)
   same_number numbered other w =
-      by-test (same (spell numbered) (spell other)) (λ e. eq-eqb numbered other (apart numbered other w (same_true (spell numbered) (spell other) e)) ∙ sym e)
+      by_test (same (spell numbered) (spell other)) (λ e. eq-eqb numbered other (apart numbered other w (same_true (spell numbered) (spell other) e)) ∙ sym e)
       (λ e. ne_eqb numbered other (λ z. same_false (spell numbered) (spell other) e (ap spell z)) ∙ sym e)
 
   -- An outside name holds itself alone, any other name nothing.
@@ -111,7 +111,7 @@ module _ (spell : ℕ → List ℕ) (apart : Distinct spell) where
     far_name (word s) k = refl
     far_name (fresh m) k = refl
     far_name (outside s) k =
-        by-test (same (spell named) s) (λ e. absurd (omega (arith, apart named k.0 is_word (same_true (spell named) s e ∙ k.2), k.1))) (λ e. e)
+        by_test (same (spell named) s) (λ e. absurd (omega (arith, apart named k.0 is_word (same_true (spell named) s e ∙ k.2), k.1))) (λ e. e)
 
     mutual
       unfolding holds holds_fields WellNamed WellNamedFields
@@ -137,7 +137,7 @@ module _ (spell : ℕ → List ℕ) (apart : Distinct spell) where
       (λ e.
       let number : ℕ = value % name_base in
       let is_word : is_word (spell number) ≡ true = subst (BinderName spell) (as_word spell value e) named in
-      by-test (ltb number most.outsides)
+      by_test (ltb number most.outsides)
       (λ l.
       sym (near_mark value held e (ltb-true number most.outsides l) (has_kind held number) refl)
       ∙ ap binder_mark (holding number (ltb-true number most.outsides l) is_word ∙ sym (rw (as_word spell value e) refl)))

@@ -9,7 +9,7 @@ use lib.ListN.{length, get_or, take, drop}
 use borrow.Author.Tests.{lt-leb}
 use Rattle.answers.specs.Refusals.{refusal}
 use Rattle.answers.specs.Checked.{Checked, ok, bad, ◌>>◌, need, verdict}
-use Rattle.spellings.proofs.BytesLaws.{by-test}
+use Rattle.spellings.proofs.BytesLaws.{by_test}
 use Rattle.grammar.specs.Sorts.{Signature, term}
 use Rattle.grammar.specs.SortTests.{fits}
 use Rattle.grammar.specs.Table.{Template, Templates, none, more, Item, call}
@@ -86,11 +86,11 @@ module _ (bs : List ℕ) (scope : Scope) (heads : List ℕ) (knows : (nontermina
   module _ (head at : ℕ) {L room : List ℕ} (carries : Carries L room) where
     -- ------------------------------------------------------------------ calls and items
 
-    call-agrees :
+    call_agrees :
         (nonterminal : ℕ) {ts : Templates} → nonterminal < 64 → TemplatesWithin ts
         → sorted_at at (call_at bs (known_of scope head (length L)) heads room nonterminal (templates_then ts [])) ≡ check_item scope L at (call nonterminal ts)
     unfolding call_at templates_fault
-    call-agrees nonterminal {ts} l w =
+    call_agrees nonterminal {ts} l w =
         let args : List ℕ = templates_then ts [] in
         let closed : Bool = are_closed ts scope (length L) in
         let S : Signature = signature_of scope.env nonterminal in
@@ -98,7 +98,7 @@ module _ (bs : List ℕ) (scope : Scope) (heads : List ℕ) (knows : (nontermina
         let known = missing nonterminal l in
         let within = closed_bytes_lem scope (length L) args ts (read_templates w) in
         let tests = call_by at (get_or sig 0 0) (is_defined scope.env nonterminal) closed (fill_bytes false args L (drop 1 sig)) in
-        by-test (is_defined scope.env nonterminal) (λ e. cc ((knows nonterminal l).shown e, fill_bytes_lem L args ts S.params (read_templates w))) (λ e. cc)
+        by_test (is_defined scope.env nonterminal) (λ e. cc ((knows nonterminal l).shown e, fill_bytes_lem L args ts S.params (read_templates w))) (λ e. cc)
 
     keyword_agrees : (test : Bool) → sorted_at at (choose (As 0) (Unsorted Undefined) test) ≡ (need test 9 at >> ok 0)
     keyword_agrees true = refl
@@ -112,17 +112,17 @@ module _ (bs : List ℕ) (scope : Scope) (heads : List ℕ) (knows : (nontermina
     item_agrees (terminal_within (ide_within l k)) = refl
     item_agrees (terminal_within number_within) = refl
     item_agrees local_within = refl
-    item_agrees (call_within {n} {ts} l w) = call-agrees n (omega arith) w
+    item_agrees (call_within {n} {ts} l w) = call_agrees n (omega arith) w
 
     -- ------------------------------------------------------------------ results
 
     -- a template's bytes are checked as the result that it is
-    pub result-agrees :
+    pub result_agrees :
         (before : Before) (used : ℕ) (S : Signature) {t : Template} → signature_at bs head ≡ bytes_of S → TemplateWithin t
         → verdict_of at (result_at bs (known_of scope head (length L)) room (template_then t []))
         ≡ verdict (check_result scope before L S.result used at (template t))
     unfolding result_at templates_fault are_closed fill
-    result-agrees before used S {t} e w =
+    result_agrees before used S {t} e w =
         let B : ℕ = S.result in
         let one = read_template w in
         cc (
@@ -144,7 +144,7 @@ module _ (bs : List ℕ) (scope : Scope) (heads : List ℕ) (knows : (nontermina
       let sig : List ℕ = signature_at bs (get_or heads nonterminal 0) in
       rw (root_at, missing nonterminal l)
       (root_by at (is_defined scope.env nonterminal) (fitting sig)
-      ∙ by-test (is_defined scope.env nonterminal) (λ e. cc ((knows nonterminal l).shown e, none_left S.result S.params)) (λ e. cc))
+      ∙ by_test (is_defined scope.env nonterminal) (λ e. cc ((knows nonterminal l).shown e, none_left S.result S.params)) (λ e. cc))
     where
       none_left : (result : ℕ) (ps : List ℕ) → leb (length (result ∷ ps)) 1 ≡ eqb (length ps) 0
       none_left result [] = refl

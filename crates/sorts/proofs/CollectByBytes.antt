@@ -9,7 +9,7 @@ use lib.Seq.{get_or-set_same, get_or-set_other, set_out}
 use borrow.Author.Tests.{eqb-true, eqb-false, leb-true, leb-false}
 use Rattle.answers.specs.declared.Verdict.TheVariants.{Passed, Refused}
 use Rattle.answers.specs.Checked.{Checked, ok, bad, ◌>>◌}
-use Rattle.spellings.proofs.BytesLaws.{by-test}
+use Rattle.spellings.proofs.BytesLaws.{by_test}
 use Rattle.grammar.specs.Written.{WrittenDefinition}
 use Rattle.grammar.specs.Values.{Field, head_value}
 use Rattle.grammar.specs.Fields.{RawFields, next}
@@ -32,10 +32,10 @@ Below H limit = (n : ℕ) → get_or H n 0 ≤ limit
 -- one head more
 below_more : (heads : List ℕ) (nonterminal at limit : ℕ) → Below heads at → at ≤ limit → Below (set heads nonterminal at) limit
 below_more heads nonterminal at limit b h j =
-    by-test (eqb j nonterminal)
+    by_test (eqb j nonterminal)
     (λ e.
     let z : j ≡ nonterminal = eqb-true j nonterminal e in
-    by-test (leb (length heads) nonterminal)
+    by_test (leb (length heads) nonterminal)
     (λ l. rw (set_out heads nonterminal at (leb-true (length heads) nonterminal l)) (omega (arith, b j)))
     (λ l. rw z (rw (get_or-set_same heads nonterminal at 0 (leb-false (length heads) nonterminal l)) h)))
     (λ e. rw (get_or-set_other heads nonterminal j at 0 (eqb-false j nonterminal e)) (omega (arith, b j)))
@@ -59,29 +59,29 @@ collect_part bs block heads all tag part_text at v fs e = e
 module _ (bs : List ℕ) (E : Env) (block : ℕ) (follow : List Field)
     (ends : (at : ℕ) (heads : List ℕ) → collect_from (spread at follow) bs block heads ≡ collected Passed heads) where
   -- refused by both, or one more
-  refused-or-more :
+  refused_or_more :
       (limit : ℕ) (tested : Tested) (at : ℕ) (heads : List ℕ) (checked : Checked Env) (more : Collected)
       → (tested ≡ Sound → Agree bs E block limit checked more) → Agree bs E block limit (check_of at tested >> checked) (collect_after tested at heads more)
-  refused-or-more limit Sound at heads checked more a = a refl
-  refused-or-more limit (Faulty fault) at heads checked more a = refl
+  refused_or_more limit Sound at heads checked more a = a refl
+  refused_or_more limit (Faulty fault) at heads checked more a = refl
 
   -- the heads of a block are collected from the bytes as from its definitions
-  pub collect-agrees :
+  pub collect_agrees :
       {ds : List WrittenDefinition} → Each DefinitionWithin ds → (at limit : ℕ) → at + definitions_size ds ≡ limit → (own : Env) (heads : List ℕ)
       → Placed bs (spread at (definitions_then ds follow)) → block < at → Collects bs E own block heads → Below heads at
       → Agree bs E block limit (collect E own at ds) (collect_from (spread at (definitions_then ds follow)) bs block heads)
   unfolding spread definitions_then definitions_size definition_size collect collect_from
-  collect-agrees each_none at limit z own heads p l c b = rw (ends at heads) (c, λ n. omega (arith, b n))
-  collect-agrees (each_more {x = d} {xs = ds} w ws) at limit z own heads p l c b =
+  collect_agrees each_none at limit z own heads p l c b = rw (ends at heads) (c, λ n. omega (arith, b n))
+  collect_agrees (each_more {x = d} {xs = ds} w ws) at limit z own heads p l c b =
       let first : ℕ = at + field_size (head_value d) in
       let behind : ℕ = at + definition_size d in
       let rest : List Field = definitions_then ds follow in
       let heads' : List ℕ = with_head bs at heads in
       rw (head_same bs E own block heads c at d w p.0)
-      (refused-or-more limit (fault_of bs at block heads) at heads _ _
+      (refused_or_more limit (fault_of bs at block heads) at heads _ _
       (λ sound.
       rw (← (over_alternatives (λ fs. collect_from fs bs block heads' ≡ collect_from (spread first (alternatives_then d.alternatives rest)) bs block heads')
       (collect_part bs block heads' _) d.alternatives rest first behind (omega arith) refl))
-      (collect-agrees ws behind limit (omega arith) (entry_of d ∷ own) heads'
+      (collect_agrees ws behind limit (omega arith) (entry_of d ∷ own) heads'
       (over_alternatives (Placed bs) (λ tag part at v fs q. q.1) d.alternatives rest first behind (omega arith) p.1)
       (omega arith) (head_more bs E own block heads c at d w p.0 l sound) (below_more heads (get_or bs (at + 3) 0) at behind b (omega arith)))))

@@ -12,7 +12,7 @@ use borrow.Author.Tests.{eqb-true, eqb-false, eq-eqb, ne_eqb, lt-ltb, ltb-true, 
 use Rattle.answers.specs.Refusals.{refusal}
 use Rattle.answers.specs.Checked.{Checked, ok, bad, need}
 use Rattle.spellings.specs.Bytes.{same}
-use Rattle.spellings.proofs.BytesLaws.{by-test, same_true}
+use Rattle.spellings.proofs.BytesLaws.{by_test, same_true}
 use Rattle.grammar.specs.Sorts.{Signature}
 use Rattle.grammar.specs.Table.{Mode, add, extend, update}
 use Rattle.grammar.specs.Written.{WrittenDefinition}
@@ -27,7 +27,7 @@ use Rattle.bodies.specs.declared.Tested.{Tested}
 use Rattle.bodies.specs.declared.Tested.TheVariants.{Sound, Faulty}
 use Rattle.bodies.specs.Faults.{cause_of, tested_by}
 use Rattle.bodies.specs.HeadBytes.{value_at, signature_at, head_before, fault_of, with_head}
-use Rattle.bodies.proofs.HeadLaws.{fault-earlier, fault_new, before-kept, before_same_head}
+use Rattle.bodies.proofs.HeadLaws.{fault_earlier, fault_new, before_kept, before_same_head}
 
 -- ------------------------------------------------------------------ a head
 
@@ -70,12 +70,12 @@ pub record KnowsHead (bs : List ℕ) (E : Env) (head nonterminal : ℕ) : Type 0
 
 -- its head stands among those that are known
 abbrev pub Knows : List ℕ → Env → List ℕ → ℕ → Type 0
-Knows bs E known-heads nonterminal = KnowsHead bs E (get_or known-heads nonterminal 0) nonterminal
+Knows bs E known_heads nonterminal = KnowsHead bs E (get_or known_heads nonterminal 0) nonterminal
 
 -- a number is 0 exactly if it is not above 0
 pub zero_test : (count : ℕ) → eqb count 0 ≡ not (ltb 0 count)
 zero_test count =
-    by-test (ltb 0 count) (λ e. ne_eqb count 0 (λ z. let l : 0 < count = ltb-true 0 count e in omega arith) ∙ sym (ap not e))
+    by_test (ltb 0 count) (λ e. ne_eqb count 0 (λ z. let l : 0 < count = ltb-true 0 count e in omega arith) ∙ sym (ap not e))
     (λ e. eq-eqb count 0 (let l : count ≤ 0 = ltb-false 0 count e in omega arith) ∙ sym (ap not e))
 
 -- an environment followed by another
@@ -83,7 +83,7 @@ append_defined : (own E : Env) (nonterminal : ℕ) → is_defined (own ++ E) non
 unfolding is_defined
 append_defined [] E nonterminal = refl
 append_defined (e ∷ own) E nonterminal =
-    by-test (eqb e.nonterminal nonterminal)
+    by_test (eqb e.nonterminal nonterminal)
     (λ q. cc (defined_here e (own ++ E) nonterminal q, defined_here e own nonterminal q))
     (λ q.
     cc (defined_later e (own ++ E) nonterminal q, append_defined own E nonterminal, defined_later e own nonterminal q))
@@ -92,7 +92,7 @@ append_signature : (own E : Env) (nonterminal : ℕ) → is_defined own nontermi
 unfolding is_defined
 append_signature [] E nonterminal h = refl
 append_signature (e ∷ own) E nonterminal h =
-    by-test (eqb e.nonterminal nonterminal) (λ q. absurd (true≢false (sym (defined_here e own nonterminal q) ∙ h)))
+    by_test (eqb e.nonterminal nonterminal) (λ q. absurd (true≢false (sym (defined_here e own nonterminal q) ∙ h)))
     (λ q. signature_later e (own ++ E) nonterminal q ∙ append_signature own E nonterminal (sym (defined_later e own nonterminal q) ∙ h))
 
 -- what a test finds at an offset, as a check
@@ -101,15 +101,15 @@ check_of at Sound = ok tt
 check_of at (Faulty fault) = bad (refusal (cause_of fault) at 0 0)
 
 -- what a block has defined lies behind its beginning
-pub record Collects (bs : List ℕ) (E own : Env) (block : ℕ) (known-heads : List ℕ) : Type 0 where
+pub record Collects (bs : List ℕ) (E own : Env) (block : ℕ) (known_heads : List ℕ) : Type 0 where
   -- there is a head for each nonterminal
-  pub size : length known-heads ≡ 64
+  pub size : length known_heads ≡ 64
   -- each head shows what the block and the environment before it have
-  pub knows : (nonterminal : ℕ) → nonterminal < 64 → Knows bs (own ++ E) known-heads nonterminal
+  pub knows : (nonterminal : ℕ) → nonterminal < 64 → Knows bs (own ++ E) known_heads nonterminal
   -- a head lies in front of the block exactly if the block does not define its nonterminal
-  pub here : (nonterminal : ℕ) → nonterminal < 64 → leb (get_or known-heads nonterminal 0) block ≡ not (is_defined own nonterminal)
+  pub here : (nonterminal : ℕ) → nonterminal < 64 → leb (get_or known_heads nonterminal 0) block ≡ not (is_defined own nonterminal)
   -- what the environment before the block has can be told from the heads too
-  pub before : (nonterminal : ℕ) → nonterminal < 64 → KnowsHead bs E (head_before bs known-heads block nonterminal) nonterminal
+  pub before : (nonterminal : ℕ) → nonterminal < 64 → KnowsHead bs E (head_before bs known_heads block nonterminal) nonterminal
 
 -- a test that finds nothing
 tested_sound : (test : Bool) (fault : Fault) → tested_by test fault ≡ Sound → test ≡ true
@@ -128,18 +128,18 @@ three first second third true true third' e f g = cc (f refl, g refl refl)
 three first second third true false third' e f g = cc (f refl)
 three first second third false second' third' e f g = cc
 
-module _ (bs : List ℕ) (E own : Env) (block : ℕ) (known-heads : List ℕ) (collects : Collects bs E own block known-heads) (at : ℕ)
+module _ (bs : List ℕ) (E own : Env) (block : ℕ) (known_heads : List ℕ) (collects : Collects bs E own block known_heads) (at : ℕ)
     (definition : WrittenDefinition) (within : DefinitionWithin definition) (placed : head_value definition ≡ value_at bs at) where
   abbrev n : ℕ
   n = definition.nonterminal
 
   abbrev head : ℕ
-  head = get_or known-heads n 0
+  head = get_or known_heads n 0
 
   low : n < 64
   low = omega (arith, within.nonterminal)
 
-  known_head : Knows bs (own ++ E) known-heads n
+  known_head : Knows bs (own ++ E) known_heads n
   known_head = collects.knows n low
 
   -- refusal 7: no head
@@ -175,53 +175,53 @@ module _ (bs : List ℕ) (E own : Env) (block : ℕ) (known-heads : List ℕ) (c
   coded q = cc (head_mode bs at definition within placed)
 
   new_outcome : {mode : Mode} → definition.mode ≡ mode → (eqb (mode_code mode) 1 || eqb (mode_code mode) 2) ≡ false
-      → need (is_unused E own definition) 7 at ≡ check_of at (fault_of bs at block known-heads)
+      → need (is_unused E own definition) 7 at ≡ check_of at (fault_of bs at block known_heads)
   new_outcome q m =
       cc (
         new_same,
         need_tested (eqb head 0) NumberInUse,
-        fault_new bs known-heads at block (head_nonterminal bs at definition within placed) (coded q) refl m (eqb head 0) refl,
+        fault_new bs known_heads at block (head_nonterminal bs at definition within placed) (coded q) refl m (eqb head 0) refl,
       )
 
   before_outcome : {mode : Mode} → definition.mode ≡ mode → (eqb (mode_code mode) 1 || eqb (mode_code mode) 2) ≡ true
-      → need (is_as_before E own definition) 8 at ≡ check_of at (fault_of bs at block known-heads)
+      → need (is_as_before E own definition) 8 at ≡ check_of at (fault_of bs at block known_heads)
   before_outcome q m =
       let good : Bool = leb head block && ltb 0 head && same (signature_at bs head) (signature_at bs at) in
       cc (
         before_same,
         need_tested good BadExtension,
-        fault-earlier bs known-heads at block (head_nonterminal bs at definition within placed) (coded q) refl m refl refl refl good refl,
+        fault_earlier bs known_heads at block (head_nonterminal bs at definition within placed) (coded q) refl m refl refl refl good refl,
       )
 
   -- the refusal of a head is that of its definition
-  pub head_same : consistent definition.mode E own definition at ≡ check_of at (fault_of bs at block known-heads)
+  pub head_same : consistent definition.mode E own definition at ≡ check_of at (fault_of bs at block known_heads)
   head_same = by definition.mode refl
     where
-      by : (mode : Mode) → definition.mode ≡ mode → consistent mode E own definition at ≡ check_of at (fault_of bs at block known-heads)
+      by : (mode : Mode) → definition.mode ≡ mode → consistent mode E own definition at ≡ check_of at (fault_of bs at block known_heads)
       by add q = new_outcome q refl
       by extend q = before_outcome q refl
       by update q = before_outcome q refl
 
   -- one head more, if nothing is wrong with it
-  module _ (later : block < at) (sound : fault_of bs at block known-heads ≡ Sound) where
+  module _ (later : block < at) (sound : fault_of bs at block known_heads ≡ Sound) where
     abbrev e : Declaration
     e = entry_of definition
 
     abbrev heads : List ℕ
-    heads = with_head bs at known-heads
+    heads = with_head bs at known_heads
 
-    put : heads ≡ set known-heads n at
+    put : heads ≡ set known_heads n at
     put = cc (head_nonterminal bs at definition within placed)
 
     this_head : (other : ℕ) → eqb n other ≡ true → get_or heads other 0 ≡ at
-    this_head other q = cc (eqb-true n other q, put, get_or-set_same known-heads n at 0 (omega (arith, low, collects.size)))
+    this_head other q = cc (eqb-true n other q, put, get_or-set_same known_heads n at 0 (omega (arith, low, collects.size)))
 
-    that_head : (other : ℕ) → eqb n other ≡ false → get_or heads other 0 ≡ get_or known-heads other 0
-    that_head other q = cc (put, get_or-set_other known-heads n other at 0 (λ z. eqb-false n other q (sym z)))
+    that_head : (other : ℕ) → eqb n other ≡ false → get_or heads other 0 ≡ get_or known_heads other 0
+    that_head other q = cc (put, get_or-set_other known_heads n other at 0 (λ z. eqb-false n other q (sym z)))
 
     knows_more : (other : ℕ) → other < 64 → Knows bs (e ∷ own ++ E) heads other
     knows_more other k =
-        by-test (eqb n other)
+        by_test (eqb n other)
         (λ q.
         record {
           defined = ap (ltb 0) (this_head other q) ∙ lt-ltb 0 at (omega arith) ∙ sym (defined_here e (own ++ E) other q);
@@ -240,7 +240,7 @@ module _ (bs : List ℕ) (E own : Env) (block : ℕ) (known-heads : List ℕ) (c
 
     here_more : (other : ℕ) → other < 64 → leb (get_or heads other 0) block ≡ not (is_defined (e ∷ own) other)
     here_more other k =
-        by-test (eqb n other)
+        by_test (eqb n other)
         (λ q. cc (this_head other q, lt-leb at block later, defined_here e own other q))
         (λ q. cc (that_head other q, collects.here other k, defined_later e own other q))
 
@@ -248,7 +248,7 @@ module _ (bs : List ℕ) (E own : Env) (block : ℕ) (known-heads : List ℕ) (c
     before_by : {mode : Mode} → definition.mode ≡ mode → (test : Bool) → (eqb (mode_code mode) 1 || eqb (mode_code mode) 2) ≡ test
         → (elim test [ true ↦ at | false ↦ 0 ]) ≡ head_before bs heads block n
     before_by {mode} q test m =
-        before-kept bs heads block n (sym (this_head n (eq-eqb n n refl))) (coded q) test
+        before_kept bs heads block n (sym (this_head n (eq-eqb n n refl))) (coded q) test
         (ap (λ (b : Bool). (b || eqb (mode_code mode) 1) || eqb (mode_code mode) 2) (lt-leb at block later) ∙ m)
 
     -- add: there was none
@@ -256,7 +256,7 @@ module _ (bs : List ℕ) (E own : Env) (block : ℕ) (known-heads : List ℕ) (c
     added_before q =
         let new : eqb head 0 ≡ true =
         tested_sound (eqb head 0) NumberInUse
-        (fault_new bs known-heads at block (head_nonterminal bs at definition within placed) (coded q) refl refl (eqb head 0) refl ∙ sound) in
+        (fault_new bs known_heads at block (head_nonterminal bs at definition within placed) (coded q) refl refl (eqb head 0) refl ∙ sound) in
         let both = (and-eq-true_iff (not (is_defined own n)) (not (is_defined E n))).0 (sym new_same ∙ new) in
         let none : is_defined E n ≡ false = not-true (is_defined E n) both.1 in
         let kept : 0 ≡ head_before bs heads block n = before_by q false refl in
@@ -269,7 +269,7 @@ module _ (bs : List ℕ) (E own : Env) (block : ℕ) (known-heads : List ℕ) (c
         let good : Bool = leb head block && ltb 0 head && same (signature_at bs head) (signature_at bs at) in
         let old : good ≡ true =
         tested_sound good BadExtension
-        (fault-earlier bs known-heads at block (head_nonterminal bs at definition within placed) (coded q) refl m refl refl refl good refl ∙ sound) in
+        (fault_earlier bs known_heads at block (head_nonterminal bs at definition within placed) (coded q) refl m refl refl refl good refl ∙ sound) in
         let parts =
         (and-eq-true_iff (not (is_defined own n) && is_defined E n) (same_signature (signature_of E n) definition.signature)).0 (sym before_same ∙ old) in
         let there : is_defined E n ≡ true = ((and-eq-true_iff (not (is_defined own n)) (is_defined E n)).0 parts.0).1 in
@@ -291,10 +291,10 @@ module _ (bs : List ℕ) (E own : Env) (block : ℕ) (known-heads : List ℕ) (c
 
     before_more : (other : ℕ) → other < 64 → KnowsHead bs E (head_before bs heads block other) other
     before_more other k =
-        by-test (eqb n other) (λ q. subst (λ m. KnowsHead bs E (head_before bs heads block m) m) (eqb-true n other q) before_this)
-        (λ q. subst (λ h. KnowsHead bs E h other) (before_same_head bs known-heads heads block other (sym (that_head other q))) (collects.before other k))
+        by_test (eqb n other) (λ q. subst (λ m. KnowsHead bs E (head_before bs heads block m) m) (eqb-true n other q) before_this)
+        (λ q. subst (λ h. KnowsHead bs E h other) (before_same_head bs known_heads heads block other (sym (that_head other q))) (collects.before other k))
 
     -- the heads show one entry more
-    pub head_more : Collects bs E (entry_of definition ∷ own) block (with_head bs at known-heads)
+    pub head_more : Collects bs E (entry_of definition ∷ own) block (with_head bs at known_heads)
     head_more =
-        record { size = length-set known-heads (get_or bs (at + 3) 0) at ∙ collects.size; knows = knows_more; here = here_more; before = before_more }
+        record { size = length-set known_heads (get_or bs (at + 3) 0) at ∙ collects.size; knows = knows_more; here = here_more; before = before_more }

@@ -8,7 +8,7 @@ use native.Mathlib.Omega.{arith}
 use lib.Dec.{eqb, leb}
 use lib.ListN.{length, get_or, take, drop}
 use lib.Seq.{get_or-drop, drop-drop}
-use Rattle.spellings.proofs.BytesLaws.{by-test}
+use Rattle.spellings.proofs.BytesLaws.{by_test}
 use Rattle.grammar.specs.Table.{Item}
 use Rattle.grammar.specs.Written.{WrittenResult, template, text, result_field, WrittenAlternative}
 use Rattle.grammar.specs.Values.{Field, field, item_value}
@@ -50,9 +50,9 @@ module _ (bs : List ℕ) where
   placed_from zero at = tt
   placed_from (suc fuel) at =
       let rest : List ℕ = drop at bs in
-      by-test (eqb (length rest) 0) (λ e. subst⁻¹ (Placed bs) (fields_by_lem fuel at rest true _ e refl) tt)
+      by_test (eqb (length rest) 0) (λ e. subst⁻¹ (Placed bs) (fields_by_lem fuel at rest true _ e refl) tt)
       (λ e.
-      by-test (leb (3 + size_of rest) (length rest))
+      by_test (leb (3 + size_of rest) (length rest))
       (λ f.
       subst⁻¹ (Placed bs) (fields_by_lem fuel at rest false true e f)
       (value_placed at, rw (drop-drop (3 + size_of rest) at bs) (placed_from fuel (at + (3 + size_of rest)))))

@@ -29,7 +29,7 @@ use Rattle.judgements.specs.CheckSorts.{is_defined, collect, check_item, check_i
 use Rattle.judgements.specs.Scopes.{Env, Scope}
 use Rattle.judgements.specs.Judgements.{scope}
 use Rattle.texts.specs.Reading.{TextRead}
-use Rattle.elaboration.specs.CheckSequence.{Elaborated, none_yet, and_then, check_result, check_alternative, checkAlternatives, check_bodies, check_blocks}
+use Rattle.elaboration.specs.CheckSequence.{Elaborated, none_yet, and_then, check_result, check_alternative, check_alternatives, check_bodies, check_blocks}
 use Rattle.elaboration.specs.CheckSequence.{check_root, check_sorts}
 use Rattle.elaboration.specs.Contexts.{Before, at_first, behind_block, scope_after}
 use Rattle.bodies.specs.declared.Known.{Known}
@@ -44,8 +44,8 @@ use Rattle.sorts.specs.ByBytes.{stepped, counting, verdict_step, after_block, af
 use Rattle.sorts.proofs.StepLaws.{sorts_short}
 use Rattle.sorts.proofs.PlacedFields.{Placed, over_alternatives, placed_fields}
 use Rattle.sorts.proofs.HeadsByBytes.{bytes_of, KnowsHead, Knows, Collects, head_signature}
-use Rattle.sorts.proofs.CollectByBytes.{Below, Agree, collect-agrees}
-use Rattle.sorts.proofs.BodiesByBytes.{known_of, Carries, sorted_at, item_agrees, result-agrees, root_agrees}
+use Rattle.sorts.proofs.CollectByBytes.{Below, Agree, collect_agrees}
+use Rattle.sorts.proofs.BodiesByBytes.{known_of, Carries, sorted_at, item_agrees, result_agrees, root_agrees}
 
 -- ------------------------------------------------------------------ checks in order
 
@@ -113,17 +113,17 @@ carries_parameters params room e h =
 
 -- ------------------------------------------------------------------ bodies
 
-module _ (bs : List ℕ) (given-scope : Scope) (before : Before) (heads : List ℕ)
-    (knows : (nonterminal : ℕ) → nonterminal < 64 → Knows bs given-scope.env heads nonterminal) where
+module _ (bs : List ℕ) (given_scope : Scope) (before : Before) (heads : List ℕ)
+    (knows : (nonterminal : ℕ) → nonterminal < 64 → Knows bs given_scope.env heads nonterminal) where
   abbrev walk : List Field → ℕ → ℕ → ℕ → List ℕ → Finding
-  walk fields at head count room = sorts_from (spread at fields) bs (known_of given-scope head count) heads room
+  walk fields at head count room = sorts_from (spread at fields) bs (known_of given_scope head count) heads room
 
   -- an item is checked, then what is behind it
   item_goes :
       (head at : ℕ) (L room : List ℕ) (rest : RawFields) (item_sort : ItemSort) (checked : Checked ℕ) → sorted_at at item_sort ≡ checked → length L < 16
       → (last : ℕ → Finding)
-      → ((sort : ℕ) → sorts_from rest bs (known_of given-scope head (length (L ++ (sort ∷ [])))) heads (set room (length L) sort) ≡ last sort)
-      → go_on (after_item (known_of given-scope head (length L)) heads room at item_sort) (λ k H M. sorts_from rest bs k H M) ≡ after checked last
+      → ((sort : ℕ) → sorts_from rest bs (known_of given_scope head (length (L ++ (sort ∷ [])))) heads (set room (length L) sort) ≡ last sort)
+      → go_on (after_item (known_of given_scope head (length L)) heads room at item_sort) (λ k H M. sorts_from rest bs k H M) ≡ after checked last
   item_goes head at L room rest (As s) checked e h last f =
       let one : one_more (length L) ≡ length (L ++ (s ∷ [])) = more_is (length L) h ∙ sym (length-append L (s ∷ [])) in
       cc (f s)
@@ -133,29 +133,29 @@ module _ (bs : List ℕ) (given-scope : Scope) (before : Before) (heads : List �
       {is : List Item} → Each ItemWithin is → (follow : List Field) (head at to : ℕ) → at + items_size is ≡ to → (L room : List ℕ) → Carries L room
       → length L + length is ≤ 16 → (last : List ℕ → Finding)
       → ((L' room' : List ℕ) → Carries L' room' → walk follow to head (length L') room' ≡ last L')
-      → walk (items_then is follow) at head (length L) room ≡ after (check_items given-scope L at is) last
+      → walk (items_then is follow) at head (length L) room ≡ after (check_items given_scope L at is) last
   unfolding spread items_then items_size sorts_from step_at check_items
   items_sorted each_none follow head at to z L room c h last f = let e : at ≡ to = omega arith in rw e (f L room c)
   items_sorted (each_more {x = i} {xs = is} w ws) follow head at to z L room c h last f =
       let behind : ℕ = at + field_size (item_value i) in
-      item_goes head at L room (spread behind (items_then is follow)) (item_at bs (known_of given-scope head (length L)) heads room (item_value i))
-      (check_item given-scope L at i) (item_agrees bs given-scope heads knows head at c w) (omega arith)
-      (λ s. after (check_items given-scope (L ++ (s ∷ [])) behind is) last)
+      item_goes head at L room (spread behind (items_then is follow)) (item_at bs (known_of given_scope head (length L)) heads room (item_value i))
+      (check_item given_scope L at i) (item_agrees bs given_scope heads knows head at c w) (omega arith)
+      (λ s. after (check_items given_scope (L ++ (s ∷ [])) behind is) last)
       (λ s. items_sorted ws follow head behind to (omega arith) (L ++ (s ∷ [])) (set room (length L) s) (carries_more L room s c (omega arith))
       (omega (arith, length-append L (s ∷ []))) last f)
-      ∙ after_bind (check_item given-scope L at i) _ last
+      ∙ after_bind (check_item given_scope L at i) _ last
 
   -- a result is checked, then what is behind it
   result_sorted :
       {result : WrittenResult} → ResultWithin result → (follow : List Field) (head at : ℕ) {L room : List ℕ} → Carries L room
       → (S : Signature) → signature_at bs head ≡ bytes_of S → (used : ℕ) (last : TextRead → Finding)
       → ((made : TextRead) → walk follow (at + field_size (result_field result).value) head (length L) room ≡ last made)
-      → walk (result_field result ∷ follow) at head (length L) room ≡ after (check_result given-scope before L S.result used at result) last
+      → walk (result_field result ∷ follow) at head (length L) room ≡ after (check_result given_scope before L S.result used at result) last
   unfolding spread sorts_from step_at
   result_sorted (template_within {t} w) follow head at {L} {room} c S signed used last f =
-      rw (result-agrees bs given-scope heads knows head at c before used S signed w)
-      (verdict_goes (check_result given-scope before L S.result used at (template t)) _ heads room _
-      ∙ after_same (check_result given-scope before L S.result used at (template t)) _ _ f)
+      rw (result_agrees bs given_scope heads knows head at c before used S signed w)
+      (verdict_goes (check_result given_scope before L S.result used at (template t)) _ heads room _
+      ∙ after_same (check_result given_scope before L S.result used at (template t)) _ _ f)
 
   -- whatever head and variables are known behind the fields, they give the same
   abbrev Goes : List Field → ℕ → Finding → Type 0
@@ -169,8 +169,8 @@ module _ (bs : List ℕ) (given-scope : Scope) (before : Before) (heads : List �
     alternatives_sorted : {rest : List WrittenAlternative} → Each AlternativeWithin rest → (follow : List Field) (at to : ℕ) → at + alternatives_size rest ≡ to
         → (last : Elaborated (List Alternative) → Finding) → ((choices : Elaborated (List Alternative)) → GoesAt head follow to (last choices))
         → (done : Elaborated (List Alternative))
-        → GoesAt head (alternatives_then rest follow) at (after (checkAlternatives given-scope before S done at rest) last)
-    unfolding spread alternatives_then alternatives_size alternative_size sorts_from step_at checkAlternatives check_alternative
+        → GoesAt head (alternatives_then rest follow) at (after (check_alternatives given_scope before S done at rest) last)
+    unfolding spread alternatives_then alternatives_size alternative_size sorts_from step_at check_alternatives check_alternative
     alternatives_sorted each_none follow at to z last f done count room r = let e : at ≡ to = omega arith in rw e (f done count room r)
     alternatives_sorted (each_more {x = a} {xs = rest} w ws) follow at to z last f done count room r =
         let result : ℕ = at + 3 + items_size a.items in
@@ -178,26 +178,26 @@ module _ (bs : List ℕ) (given-scope : Scope) (before : Before) (heads : List �
         let params : List ℕ = S.params in
         let whole : TextRead → Elaborated Alternative = λ t. record { value = record { items = a.items; result = t.template }; used = t.used } in
         let others : Elaborated Alternative → Finding
-        = λ b. after (checkAlternatives given-scope before S (and_then done b.value b.used) behind rest) last in
+        = λ b. after (check_alternatives given_scope before S (and_then done b.value b.used) behind rest) last in
         let many : length (bytes_of S) - 1 ≡ length params = omega arith in
         rw (signed, many)
         (items_sorted w.items (result_field a.result ∷ alternatives_then rest follow) head (at + 3) result refl params
         (params ++ drop (length params) room) (carries_parameters params room r few) (omega (arith, w.item_count))
-        (λ L. after (check_result given-scope before L S.result done.used result a.result >>= λ t. ok (whole t)) others)
+        (λ L. after (check_result given_scope before L S.result done.used result a.result >>= λ t. ok (whole t)) others)
         (λ L' room' c.
         let place : result + field_size (result_field a.result).value ≡ behind = omega arith in
         result_sorted w.result (alternatives_then rest follow) head result c S signed done.used (λ t. others (whole t))
         (λ t. rw place
         (alternatives_sorted ws follow behind to (omega arith) last f (and_then done (whole t).value t.used) (length L') room' c.size))
-        ∙ after_bind (check_result given-scope before L' S.result done.used result a.result) (λ t. ok (whole t)) others))
-        ∙ after_bind (check_items given-scope params (at + 3) a.items) _ others
-        ∙ after_bind (check_alternative given-scope before S done.used at a)
-        (λ b. checkAlternatives given-scope before S (and_then done b.value b.used) behind rest) last
+        ∙ after_bind (check_result given_scope before L' S.result done.used result a.result) (λ t. ok (whole t)) others))
+        ∙ after_bind (check_items given_scope params (at + 3) a.items) _ others
+        ∙ after_bind (check_alternative given_scope before S done.used at a)
+        (λ b. check_alternatives given_scope before S (and_then done b.value b.used) behind rest) last
 
   definitions_sorted : {ds : List WrittenDefinition} → Each DefinitionWithin ds → (follow : List Field) (at to : ℕ) → at + definitions_size ds ≡ to
       → Placed bs (spread at (definitions_then ds follow)) → (last : Elaborated (List Definition) → Finding)
       → (Placed bs (spread to follow) → (ds : Elaborated (List Definition)) → Goes follow to (last ds))
-      → (done : Elaborated (List Definition)) → Goes (definitions_then ds follow) at (after (check_bodies given-scope before done at ds) last)
+      → (done : Elaborated (List Definition)) → Goes (definitions_then ds follow) at (after (check_bodies given_scope before done at ds) last)
   unfolding spread definitions_then definitions_size definition_size sorts_from step_at counting check_bodies
   definitions_sorted each_none follow at to z p last f done head count room r =
       let e : at ≡ to = omega arith in
@@ -209,13 +209,13 @@ module _ (bs : List ℕ) (given-scope : Scope) (before : Before) (heads : List �
       let none : Elaborated (List Alternative) = none_yet done.used in
       let more : Elaborated (List Alternative) → Elaborated (List Definition) = λ e. and_then done (with_alternatives d e.value) e.used in
       alternatives_sorted at d.signature (head_signature bs at d w p.0) (omega (arith, w.param_count)) w.alternatives rest first behind (omega arith)
-      (λ choices. after (check_bodies given-scope before (more choices) behind ds) last)
+      (λ choices. after (check_bodies given_scope before (more choices) behind ds) last)
       (λ choices count' room' r'. definitions_sorted ws follow behind to (omega arith)
       (over_alternatives (Placed bs) (λ tag part at v fs q. q.1) d.alternatives rest first behind (omega arith) p.1) last f (more choices) at count'
       room' r')
       none count room r
-      ∙ after_bind (checkAlternatives given-scope before d.signature none first d.alternatives)
-      (λ choices. check_bodies given-scope before (more choices) behind ds) last
+      ∙ after_bind (check_alternatives given_scope before d.signature none first d.alternatives)
+      (λ choices. check_bodies given_scope before (more choices) behind ds) last
 
 -- ------------------------------------------------------------------ blocks
 
@@ -241,10 +241,10 @@ module _ (bs : List ℕ) (root : ℕ) (low : root < 64) (whole : List (List Defi
 
   -- a block is collected, then what is behind it is checked
   block_goes :
-      (E : Env) (block limit : ℕ) (known : Known) (room : List ℕ) (rest : RawFields) (checked : Checked Env) (given-collected : Collected)
-      → Agree bs E block limit checked given-collected → (last : Env → Finding)
+      (E : Env) (block limit : ℕ) (known : Known) (room : List ℕ) (rest : RawFields) (checked : Checked Env) (given_collected : Collected)
+      → Agree bs E block limit checked given_collected → (last : Env → Finding)
       → ((own : Env) (heads : List ℕ) → Collects bs E own block heads → Below heads limit → sorts_from rest bs known heads room ≡ last own)
-      → go_on (after_block known room given-collected) (λ k H M. sorts_from rest bs k H M) ≡ after checked last
+      → go_on (after_block known room given_collected) (λ k H M. sorts_from rest bs k H M) ≡ after checked last
   block_goes E block limit known room rest (ok own) (collected Passed heads) (c, b) last f = f own heads c b
   block_goes E block limit known room rest (ok own) (collected (Refused r) heads) a last f = absurd a
   block_goes E block limit known room rest (bad r) (collected Passed heads) a last f = absurd a
@@ -284,7 +284,7 @@ module _ (bs : List ℕ) (root : ℕ) (low : root < 64) (whole : List (List Defi
       let rest : Env → Elaborated (List Definition) → Checked Before = λ own ds. check_blocks (next own ds) behind blocks in
       block_goes E at behind _ room (spread (at + 3) (definitions_then b follow)) (collect E [] (at + 3) b)
       (collect_from (spread (at + 3) (definitions_then b follow)) bs at heads)
-      (collect-agrees bs E at follow (collect_ends blocks at) w (at + 3) behind refl [] heads p.1 (omega arith) before (λ n. omega (arith, s.below n)))
+      (collect_agrees bs E at follow (collect_ends blocks at) w (at + 3) behind refl [] heads p.1 (omega arith) before (λ n. omega (arith, s.below n)))
       (λ own. after (bodies own) (λ ds. found (check_rest (next own ds) behind blocks)))
       (λ own heads' c l.
       definitions_sorted bs (scope_after P own) P heads' c.knows w follow (at + 3) behind refl p.1

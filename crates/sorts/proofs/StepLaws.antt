@@ -49,10 +49,10 @@ module _ (bs heads : List ℕ) (nonterminal : ℕ) {head : ℕ} (equal : head �
   root_undefined z = root_by true _ (eq-eqb head 0 z) refl
 
   -- by the code's test of its signature
-  pub root-tested :
+  pub root_tested :
       {signature : List ℕ} {sort : ℕ} → (head ≡ 0 → ⊥) → signature ≡ signature_at bs head → sort ≡ get_or signature 0 0 → (fitting : Bool)
       → (leb (length signature) 1 && eqb sort term) ≡ fitting → tested_by fitting WrongSort ≡ root_at bs heads nonterminal
-  root-tested {signature} {sort} z s q fitting t =
+  root_tested {signature} {sort} z s q fitting t =
       root_by false fitting (ne_eqb head 0 z)
       (cc)
 
@@ -77,16 +77,16 @@ module _ (known : Known) (tag at : ℕ) where
   counting_at e = cc counting_is
 
   -- one keyword more, one outside name more, another head, or none of these
-  pub count-keyword :
+  pub count_keyword :
       tag ≡ 1 → record { keywords = known.keywords + 1; outsides = known.outsides; head = known.head; variables = known.variables } ≡ counting known tag at
   unfolding counting_by
-  count-keyword e = counting_at e
+  count_keyword e = counting_at e
 
   -- one outside name more
-  pub count-outside :
+  pub count_outside :
       tag ≡ 2 → record { keywords = known.keywords; outsides = known.outsides + 1; head = known.head; variables = known.variables } ≡ counting known tag at
   unfolding counting_by
-  count-outside e = counting_at e
+  count_outside e = counting_at e
 
   -- another head
   pub count_head :
@@ -119,10 +119,10 @@ module _ {bs : List ℕ} {at : ℕ} {value : List ℕ} {known : Known} {heads L 
   item_refused f n q = record { steps = cc; counts = tt }
 
   -- one variable more
-  pub item-added :
+  pub item_added :
       {sort count : ℕ} {L' : List ℕ} → item_sort ≡ As sort → SortAdded L known.variables sort L' count
       → ItemChecked bs at value known heads L (Next (with_variables known count)) L'
-  item-added f q = record { steps = cc (q.count_is, q.sorts_are); counts = (omega arith, omega arith) }
+  item_added f q = record { steps = cc (q.count_is, q.sorts_are); counts = (omega arith, omega arith) }
 
 -- ------------------------------------------------------------------ one field
 
@@ -139,11 +139,11 @@ module _ {bs : List ℕ} {at tag : ℕ} {value : List ℕ} {to : ℕ} {known : K
   step_block {verdict} e p q = record { steps = rw e (cc); counts = subst (Counts known) (sym q) (verdict_counts known verdict) }
 
   -- an alternative's variables are its parameters
-  pub step-parameters :
+  pub step_parameters :
       {count : ℕ} {L' signature : List ℕ} → tag ≡ 5 → signature ≡ signature_at bs known.head → ParameterSorts signature L L' count
       → FieldChecked bs at tag value to known heads L (Next (with_variables known count)) heads L'
   unfolding step_at
-  step-parameters e p q = record { steps = rw e (cc (q.count_is, q.sorts_are)); counts = (omega arith, omega arith) }
+  step_parameters e p q = record { steps = rw e (cc (q.count_is, q.sorts_are)); counts = (omega arith, omega arith) }
 
   -- an item
   pub step_item : {field_step : FieldStep} {L' : List ℕ} → tag ≡ 6 → ItemChecked bs at value known heads L field_step L'
@@ -197,9 +197,9 @@ sorts_short bs h =
     cc (fields_of_lem bs, le-leb (length bs) most.bytes h)
 
 -- The fields from an offset on, with what is known there, give what all fields give.
-pub record Sorting (bs heads₀ L₀ stack₀ known-heads L stack : List ℕ) (at : ℕ) (known : Known) : Type 0 where
+pub record Sorting (bs heads₀ L₀ stack₀ known_heads L stack : List ℕ) (at : ℕ) (known : Known) : Type 0 where
   -- the heads are as many as they were
-  pub heads : length known-heads ≡ length heads₀
+  pub heads : length known_heads ≡ length heads₀
   -- the sorts are as many
   pub sorts : length L ≡ length L₀
   -- the stack is as long
@@ -209,7 +209,7 @@ pub record Sorting (bs heads₀ L₀ stack₀ known-heads L stack : List ℕ) (a
   -- nor outside names
   pub outsides : known.outsides ≤ at
   -- the fields left give what all of them give
-  pub rest : sorts_from (fields_at bs at) bs known known-heads L ≡ sorts_from (fields_at bs 0) bs unknown heads₀ L₀
+  pub rest : sorts_from (fields_at bs at) bs known known_heads L ≡ sorts_from (fields_at bs 0) bs unknown heads₀ L₀
 
 -- at the first field nothing is known
 pub sorting_start : {bs heads₀ L₀ stack₀ : List ℕ} → Sorting bs heads₀ L₀ stack₀ heads₀ L₀ stack₀ 0 unknown
@@ -226,12 +226,12 @@ module _ {bs heads₀ L₀ stack₀ heads L stack : List ℕ} {at : ℕ} {known 
   sorting_end h = sym (walk_end walks bs at h) ∙ sorting.rest
 
   module _ {field : FieldSpan} {step : FieldStep} {heads' L' : List ℕ} (equal : field ≡ field_at bs at)
-      (field-checked : FieldChecked bs at field.tag (value_in bs field) field.to known heads L step heads' L') where
+      (field_checked : FieldChecked bs at field.tag (value_in bs field) field.to known heads L step heads' L') where
     step_gives : {field_step : FieldStep} → step ≡ field_step
         → go_on (stepped field_step heads' L') (λ known' H M. sorts_from (fields_at bs field.to) bs known' H M)
         ≡ sorts_from (fields_at bs 0) bs unknown heads₀ L₀
     unfolding sorts_from
-    step_gives h = cc (field-checked.steps, walk_field walks bs at equal, sorting.rest)
+    step_gives h = cc (field_checked.steps, walk_field walks bs at equal, sorting.rest)
 
     -- a field stops the check
     pub sorting_stop : {verdict : Verdict} → step ≡ Stop verdict → Judged verdict ≡ sorts_from (fields_at bs 0) bs unknown heads₀ L₀
@@ -242,11 +242,11 @@ module _ {bs heads₀ L₀ stack₀ heads L stack : List ℕ} {at : ℕ} {known 
     sorting_text h = step_gives h
 
     -- the check goes on behind it
-    pub sorting-next :
+    pub sorting_next :
         {known' : Known} {stack' : List ℕ} → at < length bs → step ≡ Next known' → length heads' ≡ length heads → length L' ≡ length L
         → length stack' ≡ length stack → Sorting bs heads₀ L₀ stack₀ heads' L' stack' field.to known'
-    sorting-next {known'} w h a b c =
-        let more : (known'.keywords ≤ known.keywords + 1) × (known'.outsides ≤ known.outsides + 1) = subst (Counts known) h field-checked.counts in
+    sorting_next {known'} w h a b c =
+        let more : (known'.keywords ≤ known.keywords + 1) × (known'.outsides ≤ known.outsides + 1) = subst (Counts known) h field_checked.counts in
         let further : at < field.to = (field_lies bs at equal).further w in
         record {
           heads = a ∙ sorting.heads;

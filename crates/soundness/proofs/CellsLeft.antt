@@ -36,11 +36,11 @@ abbrev pub Leaves : {A : Type 0} → ℕ → ℕ → List ℕ → Result A → T
 Leaves rows m cells (done a s cells') = (m ≤ s.made) × (s.made ≤ rows) × Left s.made cells cells'
 Leaves rows m cells (halt r cells') = (n : ℕ) × (m ≤ n) × (n ≤ rows) × Left n cells cells'
 
-leaves_after : {A B : Type 0} (rows made : ℕ) (cells : List ℕ) (result : Result A) (then-run : A → Run B) → Leaves rows made cells result
-    → ((item : A) (state : State) (cells' : List ℕ) → state.made ≤ rows → Leaves rows state.made cells' (then-run item state cells'))
-    → Leaves rows made cells (after result then-run)
-leaves_after rows made cells (halt r cells') then-run h f = h
-leaves_after {B = B} rows made cells (done a s cells') then-run h f = go (then-run a s cells') (f a s cells' h.1)
+leaves_after : {A B : Type 0} (rows made : ℕ) (cells : List ℕ) (result : Result A) (then_run : A → Run B) → Leaves rows made cells result
+    → ((item : A) (state : State) (cells' : List ℕ) → state.made ≤ rows → Leaves rows state.made cells' (then_run item state cells'))
+    → Leaves rows made cells (after result then_run)
+leaves_after rows made cells (halt r cells') then_run h f = h
+leaves_after {B = B} rows made cells (done a s cells') then_run h f = go (then_run a s cells') (f a s cells' h.1)
   where
     go : (result : Result B) → Leaves rows s.made cells' result → Leaves rows made cells result
     go (done b s'' cells'') q = (omega (arith, h.0, q.0), q.1, left_trans q.0 h.2 q.2)

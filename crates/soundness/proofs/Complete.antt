@@ -8,7 +8,7 @@ use native.Mathlib.Omega.{arith}
 use lib.Dec.{ltb}
 use lib.ListN.{length, get_or, drop, drop_of_length-le, length-drop}
 use borrow.Author.Tests.{eq-eqb, ltb-true, ltb-false, le-ltb}
-use Rattle.spellings.proofs.BytesLaws.{by-test}
+use Rattle.spellings.proofs.BytesLaws.{by_test}
 use Rattle.answers.specs.declared.Refusal.{Refusal}
 use Rattle.answers.specs.Refusals.{refusal}
 use Rattle.kinds.specs.Kinds.{word_kind}
@@ -48,7 +48,7 @@ use Rattle.terms.specs.Cells.{columns}
 pub token_is : (tokens : List Token) (at : ℕ) {token : Token} {s : List Token} → drop at tokens ≡ token ∷ s → (get_or tokens at end_token ≡ token)
     × (drop (at + 1) tokens ≡ s)
 token_is tokens at {token} {s} e =
-    by-test (ltb at (length tokens))
+    by_test (ltb at (length tokens))
     (λ b. let h : get_or tokens at end_token ∷ drop (at + 1) tokens ≡ token ∷ s = sym (token_here tokens at (ltb-true at (length tokens) b)) ∙ e in ((cc), (cc)))
     (λ b.
     let n : ◌≡◌ {A = ℕ} 0 (suc (length s)) = ap length (sym (drop_of_length-le tokens (ltb-false at (length tokens) b)) ∙ e) in
@@ -110,65 +110,65 @@ module _ {g : List Production} (setting : Setting g) where
   abbrev pub from : State → List Token
   from s = drop s.at tokens
 
-  -- the way from a state with `calls-before` calls begun and `made` cells made: `opened` calls open, `calls` calls begun and `rows_made` cells made,
+  -- the way from a state with `calls_before` calls begun and `made` cells made: `opened` calls open, `calls` calls begun and `rows_made` cells made,
   -- to the place `left` and the counter i
-  pub record Went (names-left depth opened calls rows_made : ℕ) (left : List Token) (i calls-before made : ℕ) (cells : List ℕ) (state' : State)
+  pub record Went (names_left depth opened calls rows_made : ℕ) (left : List Token) (i calls_before made : ℕ) (cells : List ℕ) (state' : State)
       (cells' : List ℕ) : Type 0 where
     -- rows are added only
     pub grown : Grown made cells state'.made cells'
     -- the bounds of a run still hold
-    pub kept : Kept rows names-left state' cells'
+    pub kept : Kept rows names_left state' cells'
     -- the tokens left are those of the derivation
     pub place : from state' ≡ left
     -- so is the counter of new names
     pub counter : state'.fresh ≡ i
     -- the calls begun
-    pub calls_are : state'.calls ≡ calls-before + calls
+    pub calls_are : state'.calls ≡ calls_before + calls
     -- the rows made
     pub made_are : state'.made ≡ made + rows_made
     -- the calls open at once
     pub deep : opened ≤ depth
 
   -- the run is where the derivation is, with its values shown
-  abbrev pub Reached : (names-left depth opened calls rows_made : ℕ) → List Token → ℕ → List Value → ℕ → ℕ → List ℕ → List ℕ → State → List ℕ → Type 0
-  Reached names-left depth opened calls rows_made t i M b m cells xs s' cells' =
-      Went names-left depth opened calls rows_made t i b m cells s' cells' × ShowAll spell s'.made cells' xs M
+  abbrev pub Reached : (names_left depth opened calls rows_made : ℕ) → List Token → ℕ → List Value → ℕ → ℕ → List ℕ → List ℕ → State → List ℕ → Type 0
+  Reached names_left depth opened calls rows_made t i M b m cells xs s' cells' =
+      Went names_left depth opened calls rows_made t i b m cells s' cells' × ShowAll spell s'.made cells' xs M
 
   -- the run gives what the derivation gives
-  abbrev pub Gave : (names-left depth opened calls rows_made : ℕ) → List Token → ℕ → Value → ℕ → ℕ → List ℕ → ℕ → State → List ℕ → Type 0
-  Gave names-left depth opened calls rows_made t i v b m cells x s' cells' =
-      Went names-left depth opened calls rows_made t i b m cells s' cells' × Shows spell s'.made cells' x v
+  abbrev pub Gave : (names_left depth opened calls rows_made : ℕ) → List Token → ℕ → Value → ℕ → ℕ → List ℕ → ℕ → State → List ℕ → Type 0
+  Gave names_left depth opened calls rows_made t i v b m cells x s' cells' =
+      Went names_left depth opened calls rows_made t i b m cells s' cells' × Shows spell s'.made cells' x v
 
   -- the run of items beside a derivation with its costs
   pub record Along (opened calls rows_made : ℕ) (left : List Token) (i : ℕ) (is : List Item) (M M' : List Value) (left' : List Token) (i' : ℕ) : Type 0 where
     -- from any state that fits, the run goes along
     pub along : {lent within : Input} → Provides setting lent → Provides setting within
-        → (depth names-left : ℕ) (result : Template) (B : ℕ) (L xs : List ℕ) (state : State) (cells : List ℕ) → Body F.scope L is result B
-        → from state ≡ left → state.fresh ≡ i → Kept rows (names-left + length is) state cells → ShowAll spell state.made cells xs M
-        → Ends (Reached names-left depth opened calls rows_made left' i' M' state.calls state.made cells)
+        → (depth names_left : ℕ) (result : Template) (B : ℕ) (L xs : List ℕ) (state : State) (cells : List ℕ) → Body F.scope L is result B
+        → from state ≡ left → state.fresh ≡ i → Kept rows (names_left + length is) state cells → ShowAll spell state.made cells xs M
+        → Ends (Reached names_left depth opened calls rows_made left' i' M' state.calls state.made cells)
         (Beyond rows depth opened (state.calls + calls) (state.made + rows_made)) (run_items (run_call depth lent) within is xs state cells)
 
   -- a token taken, and the items after it
-  token_along : {opened calls rows_made : ℕ} {token : Token} {s₀ s' : List Token} {i i' : ℕ} {is : List Item} {M M' : List Value} {given-value : Value}
+  token_along : {opened calls rows_made : ℕ} {token : Token} {s₀ s' : List Token} {i i' : ℕ} {is : List Item} {M M' : List Value} {given_value : Value}
       (t : Terminal) → token.kind ≡ kind_of t
-      → ((state : State) (cells : List ℕ) → next_token I state ≡ token → Shows spell state.made cells (read_value t (next_token I state).value) given-value)
-      → Along opened calls rows_made s₀ i is (M ++ (given-value ∷ [])) M' s' i' → Along opened calls rows_made (token ∷ s₀) i (terminal t ∷ is) M M' s' i'
-  token_along {opened} {calls} {rows_made} {token} {s₀} {s'} {i} {i'} {is} {M} {M'} {given-value} t e shown A =
+      → ((state : State) (cells : List ℕ) → next_token I state ≡ token → Shows spell state.made cells (read_value t (next_token I state).value) given_value)
+      → Along opened calls rows_made s₀ i is (M ++ (given_value ∷ [])) M' s' i' → Along opened calls rows_made (token ∷ s₀) i (terminal t ∷ is) M M' s' i'
+  token_along {opened} {calls} {rows_made} {token} {s₀} {s'} {i} {i'} {is} {M} {M'} {given_value} t e shown A =
       record { along = λ u v d k r B L xs s cells b p f h a. go u v d k r B L xs s cells b p f h a }
     where
       go : {lent within : Input} → Provides setting lent → Provides setting within
-          → (depth names-left : ℕ) (result : Template) (B : ℕ) (L xs : List ℕ) (state : State) (cells : List ℕ) → Body F.scope L (terminal t ∷ is) result B
+          → (depth names_left : ℕ) (result : Template) (B : ℕ) (L xs : List ℕ) (state : State) (cells : List ℕ) → Body F.scope L (terminal t ∷ is) result B
           → from state ≡ token ∷ s₀ → state.fresh ≡ i
-          → Kept rows (names-left + length (terminal t ∷ is)) state cells → ShowAll spell state.made cells xs M
-          → Ends (Reached names-left depth opened calls rows_made s' i' M' state.calls state.made cells)
+          → Kept rows (names_left + length (terminal t ∷ is)) state cells → ShowAll spell state.made cells xs M
+          → Ends (Reached names_left depth opened calls rows_made s' i' M' state.calls state.made cells)
           (Beyond rows depth opened (state.calls + calls) (state.made + rows_made)) (run_items (run_call depth lent) within (terminal t ∷ is) xs state cells)
-      go {lent} {within} provides inside depth names-left result B L xs state cells (by_binding w b) p f h a =
+      go {lent} {within} provides inside depth names_left result B L xs state cells (by_binding w b) p f h a =
           let q = token_is tokens state.at p in
           let x : ℕ = read_value t (next_token I state).value in
           let taken : run_item (run_call depth lent) within (terminal t) xs state cells ≡ done x (token_taken state) cells =
           cc (take_is setting inside t state cells, take_done I (kind_of t) (read_value t) state cells (cc q.0)) in
           rw (items_after (run_call depth lent) within (terminal t) is xs state cells x (token_taken state) cells taken)
-          (A.along provides inside depth names-left result B _ (xs ++ (x ∷ [])) (token_taken state) cells b q.1 f
+          (A.along provides inside depth names_left result B _ (xs ++ (x ∷ [])) (token_taken state) cells b q.1 f
           (record { room = h.room; fits = h.fits; names = omega (arith, h.names); begun = h.begun }) (all_and a (shown state cells q.0)))
 
   word_shown : (state : State) (token : Token) → next_token I state ≡ token → token.kind ≡ word_kind
@@ -183,12 +183,12 @@ module _ {g : List Production} (setting : Setting g) where
     abbrev pub cost : ℕ
     cost = rows_made + rows_of p.result
 
-    module _ (names-left : ℕ) (xs : List ℕ) (state : State) (cells : List ℕ) (equal : from state ≡ left) (agrees : state.fresh ≡ i)
-        (kept : Kept rows names-left state cells) (show-all : ShowAll spell state.made cells xs vs) where
+    module _ (names_left : ℕ) (xs : List ℕ) (state : State) (cells : List ℕ) (equal : from state ≡ left) (agrees : state.fresh ≡ i)
+        (kept : Kept rows names_left state cells) (show_all : ShowAll spell state.made cells xs vs) where
       -- a call goes along, or a limit is passed
       abbrev pub Called : ℕ → Result ℕ → Type 0
       Called d z =
-          Ends (Gave names-left d (opened + 1) (calls + 1) cost left' i' value state.calls state.made cells)
+          Ends (Gave names_left d (opened + 1) (calls + 1) cost left' i' value state.calls state.made cells)
           (Beyond rows d (opened + 1) (state.calls + (calls + 1)) (state.made + cost)) z
 
       production_along : {lent : Input} → Provides setting lent → (depth : ℕ) → state.calls < most_calls
@@ -197,17 +197,17 @@ module _ {g : List Production} (setting : Setting g) where
           let inside = provides_inner setting provides state in
           let q = F.each p (taken_of taken).member in
           let w = result_sorted q.body in
-          ends_after (Reached names-left depth opened calls rows_made left' i' M (call_begun state).calls state.made cells)
+          ends_after (Reached names_left depth opened calls rows_made left' i' M (call_begun state).calls state.made cells)
           (Beyond rows depth opened ((call_begun state).calls + calls) (state.made + rows_made))
-          (Gave names-left (suc depth) (opened + 1) (calls + 1) cost left' i' value state.calls state.made cells)
+          (Gave names_left (suc depth) (opened + 1) (calls + 1) cost left' i' value state.calls state.made cells)
           (Beyond rows (suc depth) (opened + 1) (state.calls + (calls + 1)) (state.made + cost))
           (run_items (run_call depth lent) (inner lent state) p.items xs (call_begun state) cells) (λ ys. build p.result (inner lent state) ys)
-          (along.along provides inside depth names-left p.result q.signature.result q.signature.params xs (call_begun state) cells
+          (along.along provides inside depth names_left p.result q.signature.result q.signature.params xs (call_begun state) cells
           q.body equal agrees
-          (record { room = kept.room; fits = kept.fits; names = omega (arith, kept.names, q.item_count); begun = omega arith }) show-all)
+          (record { room = kept.room; fits = kept.fits; names = omega (arith, kept.names, q.item_count); begun = omega arith }) show_all)
           (λ ys s₁ c₁ y.
           ends_map (Built spell rows (rows_of p.result) s₁ c₁ value) (Full rows (s₁.made + rows_of p.result))
-          (Gave names-left (suc depth) (opened + 1) (calls + 1) cost left' i' value state.calls state.made cells)
+          (Gave names_left (suc depth) (opened + 1) (calls + 1) cost left' i' value state.calls state.made cells)
           (Beyond rows (suc depth) (opened + 1) (state.calls + (calls + 1)) (state.made + cost))
           (build p.result (inner lent state) ys s₁ c₁)
           (build_ends spell rows (inner lent state) inside.rows_are p.result s₁ c₁ gives w.2 (omega (arith, F.outside_count)) y.0.kept.room
@@ -252,50 +252,50 @@ module _ {g : List Production} (setting : Setting g) where
   local_along {opened} {calls} {rows_made} {left} {left'} {i} {i'} {is} {M} {M'} A = record { along = go }
     where
       go : {lent within : Input} → Provides setting lent → Provides setting within
-          → (depth names-left : ℕ) (result : Template) (B : ℕ) (L xs : List ℕ) (state : State) (cells : List ℕ) → Body F.scope L (local ∷ is) result B
-          → from state ≡ left → state.fresh ≡ i → Kept rows (names-left + length (local ∷ is)) state cells → ShowAll spell state.made cells xs M
-          → Ends (Reached names-left depth opened calls rows_made left' i' M' state.calls state.made cells)
+          → (depth names_left : ℕ) (result : Template) (B : ℕ) (L xs : List ℕ) (state : State) (cells : List ℕ) → Body F.scope L (local ∷ is) result B
+          → from state ≡ left → state.fresh ≡ i → Kept rows (names_left + length (local ∷ is)) state cells → ShowAll spell state.made cells xs M
+          → Ends (Reached names_left depth opened calls rows_made left' i' M' state.calls state.made cells)
           (Beyond rows depth opened (state.calls + calls) (state.made + rows_made)) (run_items (run_call depth lent) within (local ∷ is) xs state cells)
-      go {lent} {within} provides inside depth names-left result B L xs state cells (by_binding w b) p f h a =
+      go {lent} {within} provides inside depth names_left result B L xs state cells (by_binding w b) p f h a =
           rw (items_after (run_call depth lent) within local is xs state cells _ _ cells refl)
-          (A.along provides inside depth names-left result B _ _
+          (A.along provides inside depth names_left result B _ _
           (record { at = state.at; fresh = state.fresh + 1; calls = state.calls; made = state.made }) cells b p (cc)
           (record { room = h.room; fits = h.fits; names = omega (arith, h.names); begun = h.begun })
           (all_and a (shows_binder (fresh_named spell state.fresh (omega (arith, h.names, h.begun)) ∙ ap fresh f))))
 
   -- a call with its arguments, and the items after it
-  call_item_along : {opened calls rows_made opened' calls' rows-made' nonterminal : ℕ} {left left₁ left' : List Token} {i i₁ i' : ℕ} {is : List Item}
+  call_item_along : {opened calls rows_made opened' calls' rows_made' nonterminal : ℕ} {left left₁ left' : List Token} {i i₁ i' : ℕ} {is : List Item}
       {ts : Templates} {M M₁ M' vs : List Value} {value : Value} (p : Production)
       → GiveAll spell M ts vs → Taken g nonterminal left p → Along opened calls rows_made left i p.items vs M₁ left₁ i₁ → Gives spell M₁ p.result value
-      → Along opened' calls' rows-made' left₁ i₁ is (M ++ (value ∷ [])) M' left' i'
-      → Along (max (opened + 1) opened') (calls + 1 + calls') (rows_of_all ts + rows_made + rows_of p.result + rows-made') left i (call nonterminal ts ∷ is) M
+      → Along opened' calls' rows_made' left₁ i₁ is (M ++ (value ∷ [])) M' left' i'
+      → Along (max (opened + 1) opened') (calls + 1 + calls') (rows_of_all ts + rows_made + rows_of p.result + rows_made') left i (call nonterminal ts ∷ is) M
       M' left' i'
   unfolding run_items
-  call_item_along {opened} {calls} {rows_made} {opened'} {calls'} {rows-made'} {nonterminal} {left} {left₁} {left'} {i} {i₁} {i'} {is} {ts} {M} {M₁} {M'} {vs}
+  call_item_along {opened} {calls} {rows_made} {opened'} {calls'} {rows_made'} {nonterminal} {left} {left₁} {left'} {i} {i₁} {i'} {is} {ts} {M} {M₁} {M'} {vs}
       {value} p gs taken A gives A' = record { along = go }
     where
       cells_of_lem : ℕ
       cells_of_lem = rows_of_all ts + rows_made + rows_of p.result
 
       item : {lent within : Input} → Provides setting lent → Provides setting within
-          → (depth names-left : ℕ) {L Bs xs : List ℕ} (state : State) (cells : List ℕ) → Judgements.Fill F.scope.outsides L ts Bs → from state ≡ left
-          → state.fresh ≡ i → Kept rows (names-left + 1) state cells → ShowAll spell state.made cells xs M
-          → Ends (Gave names-left depth (opened + 1) (calls + 1) cells_of_lem left₁ i₁ value state.calls state.made cells)
+          → (depth names_left : ℕ) {L Bs xs : List ℕ} (state : State) (cells : List ℕ) → Judgements.Fill F.scope.outsides L ts Bs → from state ≡ left
+          → state.fresh ≡ i → Kept rows (names_left + 1) state cells → ShowAll spell state.made cells xs M
+          → Ends (Gave names_left depth (opened + 1) (calls + 1) cells_of_lem left₁ i₁ value state.calls state.made cells)
           (Beyond rows depth (opened + 1) (state.calls + (calls + 1)) (state.made + cells_of_lem))
           (run_item (run_call depth lent) within (call nonterminal ts) xs state cells)
-      item {lent} {within} provides inside depth names-left {xs = xs} state cells w e f h a =
+      item {lent} {within} provides inside depth names_left {xs = xs} state cells w e f h a =
           ends_after (BuiltAll spell rows (rows_of_all ts) state cells vs) (Full rows (state.made + rows_of_all ts))
-          (Gave names-left depth (opened + 1) (calls + 1) cells_of_lem left₁ i₁ value state.calls state.made cells)
+          (Gave names_left depth (opened + 1) (calls + 1) cells_of_lem left₁ i₁ value state.calls state.made cells)
           (Beyond rows depth (opened + 1) (state.calls + (calls + 1)) (state.made + cells_of_lem))
           (build_all ts within xs state cells) (λ ys. run_call depth lent nonterminal ys)
           (build_all_ends spell rows within inside.rows_are ts state cells gs w (omega (arith, F.outside_count)) h.room h.fits a)
           (λ ys s₁ c₁ b.
-          ends_map (Gave names-left depth (opened + 1) (calls + 1) (rows_made + rows_of p.result) left₁ i₁ value s₁.calls s₁.made c₁)
+          ends_map (Gave names_left depth (opened + 1) (calls + 1) (rows_made + rows_of p.result) left₁ i₁ value s₁.calls s₁.made c₁)
           (Beyond rows depth (opened + 1) (s₁.calls + (calls + 1)) (s₁.made + (rows_made + rows_of p.result)))
-          (Gave names-left depth (opened + 1) (calls + 1) cells_of_lem left₁ i₁ value state.calls state.made cells)
+          (Gave names_left depth (opened + 1) (calls + 1) cells_of_lem left₁ i₁ value state.calls state.made cells)
           (Beyond rows depth (opened + 1) (state.calls + (calls + 1)) (state.made + cells_of_lem))
           (run_call depth lent nonterminal ys s₁ c₁)
-          (call_along p taken A gives names-left ys s₁ c₁ (cc b.0.at_kept) (b.0.fresh_kept ∙ f) (kept_less (kept_made h b.0))
+          (call_along p taken A gives names_left ys s₁ c₁ (cc b.0.at_kept) (b.0.fresh_kept ∙ f) (kept_less (kept_made h b.0))
           b.1 provides depth)
           (λ x s₂ c₂ y. (
             record {
@@ -313,29 +313,29 @@ module _ {g : List Production} (setting : Setting g) where
           (full_beyond (omega arith))
 
       go : {lent within : Input} → Provides setting lent → Provides setting within
-          → (depth names-left : ℕ) (result : Template) (B : ℕ) (L xs : List ℕ) (state : State) (cells : List ℕ)
+          → (depth names_left : ℕ) (result : Template) (B : ℕ) (L xs : List ℕ) (state : State) (cells : List ℕ)
           → Body F.scope L (call nonterminal ts ∷ is) result B → from state ≡ left → state.fresh ≡ i
-          → Kept rows (names-left + length (call nonterminal ts ∷ is)) state cells → ShowAll spell state.made cells xs M
+          → Kept rows (names_left + length (call nonterminal ts ∷ is)) state cells → ShowAll spell state.made cells xs M
           → Ends
-          (Reached names-left depth (max (opened + 1) opened') (calls + 1 + calls') (cells_of_lem + rows-made') left' i' M' state.calls state.made cells)
-          (Beyond rows depth (max (opened + 1) opened') (state.calls + (calls + 1 + calls')) (state.made + (cells_of_lem + rows-made')))
+          (Reached names_left depth (max (opened + 1) opened') (calls + 1 + calls') (cells_of_lem + rows_made') left' i' M' state.calls state.made cells)
+          (Beyond rows depth (max (opened + 1) opened') (state.calls + (calls + 1 + calls')) (state.made + (cells_of_lem + rows_made')))
           (run_items (run_call depth lent) within (call nonterminal ts ∷ is) xs state cells)
-      go {lent} {within} provides inside depth names-left result B L xs state cells (by_binding (Judgements.by_call w z) b) e f h a =
-          ends_after (Gave (names-left + length is) depth (opened + 1) (calls + 1) cells_of_lem left₁ i₁ value state.calls state.made cells)
+      go {lent} {within} provides inside depth names_left result B L xs state cells (by_binding (Judgements.by_call w z) b) e f h a =
+          ends_after (Gave (names_left + length is) depth (opened + 1) (calls + 1) cells_of_lem left₁ i₁ value state.calls state.made cells)
           (Beyond rows depth (opened + 1) (state.calls + (calls + 1)) (state.made + cells_of_lem))
-          (Reached names-left depth (max (opened + 1) opened') (calls + 1 + calls') (cells_of_lem + rows-made') left' i' M' state.calls state.made cells)
-          (Beyond rows depth (max (opened + 1) opened') (state.calls + (calls + 1 + calls')) (state.made + (cells_of_lem + rows-made')))
+          (Reached names_left depth (max (opened + 1) opened') (calls + 1 + calls') (cells_of_lem + rows_made') left' i' M' state.calls state.made cells)
+          (Beyond rows depth (max (opened + 1) opened') (state.calls + (calls + 1 + calls')) (state.made + (cells_of_lem + rows_made')))
           (run_item (run_call depth lent) within (call nonterminal ts) xs state cells) (λ x. run_items (run_call depth lent) within is (xs ++ (x ∷ [])))
-          (item provides inside depth (names-left + length is) state cells z e f
+          (item provides inside depth (names_left + length is) state cells z e f
           (record { room = h.room; fits = h.fits; names = omega (arith, h.names); begun = h.begun })
           a)
           (λ x s₁ c₁ y.
-          ends_map (Reached names-left depth opened' calls' rows-made' left' i' M' s₁.calls s₁.made c₁)
-          (Beyond rows depth opened' (s₁.calls + calls') (s₁.made + rows-made'))
-          (Reached names-left depth (max (opened + 1) opened') (calls + 1 + calls') (cells_of_lem + rows-made') left' i' M' state.calls state.made cells)
-          (Beyond rows depth (max (opened + 1) opened') (state.calls + (calls + 1 + calls')) (state.made + (cells_of_lem + rows-made')))
+          ends_map (Reached names_left depth opened' calls' rows_made' left' i' M' s₁.calls s₁.made c₁)
+          (Beyond rows depth opened' (s₁.calls + calls') (s₁.made + rows_made'))
+          (Reached names_left depth (max (opened + 1) opened') (calls + 1 + calls') (cells_of_lem + rows_made') left' i' M' state.calls state.made cells)
+          (Beyond rows depth (max (opened + 1) opened') (state.calls + (calls + 1 + calls')) (state.made + (cells_of_lem + rows_made')))
           (run_items (run_call depth lent) within is (xs ++ (x ∷ [])) s₁ c₁)
-          (A'.along provides inside depth names-left result B _ (xs ++ (x ∷ [])) s₁ c₁ b y.0.place y.0.counter y.0.kept
+          (A'.along provides inside depth names_left result B _ (xs ++ (x ∷ [])) s₁ c₁ b y.0.place y.0.counter y.0.kept
           (all_and (all_later y.0.grown a) y.1))
           (λ ys s₂ c₂ q. (
             record {

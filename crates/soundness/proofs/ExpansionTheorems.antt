@@ -121,8 +121,8 @@ module _ (table : Table) (passing : Passing table) where
     derived_once P Q = parses_one firsts_passed P Q
 
     -- Each place of a derived term holds what its sort asks for (01, "Whose name is whose").
-    pub derived_is_placed : {meant : Term Name} (parses-as : ParsesAs meant) → Placed (given_in parses-as.derived) lexemes.spell meant
-    derived_is_placed parses-as = parses_placed parses-as
+    pub derived_is_placed : {meant : Term Name} (parses_as : ParsesAs meant) → Placed (given_in parses_as.derived) lexemes.spell meant
+    derived_is_placed parses_as = parses_placed parses_as
 
     abbrev setting : ℕ → Setting (grammar_of table)
     setting rows =
@@ -143,9 +143,9 @@ module _ (table : Table) (passing : Passing table) where
         }
 
     -- What was given in its derivation is a token of the formula or one of the table's outside names.
-    pub derived_is_supplied : {meant : Term Name} (parses-as : ParsesAs meant)
-        → Each (Supplied lexemes.tokens (length table.outsides)) (given_in parses-as.derived)
-    derived_is_supplied parses-as = rw passing.meets.elaborates.same_outsides (parses_supplied (setting 0) parses-as)
+    pub derived_is_supplied : {meant : Term Name} (parses_as : ParsesAs meant)
+        → Each (Supplied lexemes.tokens (length table.outsides)) (given_in parses_as.derived)
+    derived_is_supplied parses_as = rw passing.meets.elaborates.same_outsides (parses_supplied (setting 0) parses_as)
 
     -- So a derived term has only words for names and labels, if those of the formula and of the table are words.
     pub derived_is_worded : ((token : Token) → Among lexemes.tokens token → token.kind ≡ word_kind → is_word (lexemes.spell token.value) ≡ true)
@@ -168,7 +168,7 @@ module _ (table : Table) (passing : Passing table) where
       -- A term is accepted exactly if it is derived within the limits.
       pub accepted_exactly : (meant : Term Name)
           → ((row : ℕ) × (state : State) × (cells' : List ℕ) × Answers (done row state cells') × (term_at state.made lexemes.spell cells' row ≡ meant))
-          ↔ ((parses-as : ParsesAs meant) × Affords rows 0 0 0 parses-as.derived)
+          ↔ ((parses_as : ParsesAs meant) × Affords rows 0 0 0 parses_as.derived)
       accepted_exactly meant = (
         λ a.
             let P : ParsesAs meant = subst ParsesAs a.4 (accepted_is_derived a.0 a.1 a.2 a.3) in
@@ -179,9 +179,9 @@ module _ (table : Table) (passing : Passing table) where
       )
 
       -- Accepted beside a derivation, the cells show the term derived, and the state has counted the derivation's cells.
-      pub accepted_as_derived : {meant : Term Name} (parses-as : ParsesAs meant) (row : ℕ) (state : State) (cells' : List ℕ) → Answers (done row state cells')
-          → (term_at state.made lexemes.spell cells' row ≡ meant) × (state.made ≡ rows_in parses-as.derived)
-      accepted_as_derived parses-as row state cells' e = let a = accepts (setting rows) parses-as cells room row state cells' e in (a.term_is, a.made_are)
+      pub accepted_as_derived : {meant : Term Name} (parses_as : ParsesAs meant) (row : ℕ) (state : State) (cells' : List ℕ) → Answers (done row state cells')
+          → (term_at state.made lexemes.spell cells' row ≡ meant) × (state.made ≡ rows_in parses_as.derived)
+      accepted_as_derived parses_as row state cells' e = let a = accepts (setting rows) parses_as cells room row state cells' e in (a.term_is, a.made_are)
 
       -- The term of an accepted expansion lies in the rows that it made, which are no more than there are.
       pub accepted_leaves : {row : ℕ} {state : State} {cells' : List ℕ} → Answers (done row state cells') → Leaves (setting rows) cells row state cells'

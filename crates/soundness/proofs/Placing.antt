@@ -48,7 +48,7 @@ module _ (given : List Given) (spell : ℕ → List ℕ) where
     from_unit : From unit
     from_var : {name : Name} → VarPlace given spell name → From (var name)
     from_binder : {name : Name} → BinderPlace given spell name → From (binder name)
-    from_label : {label-bytes : List ℕ} → LabelPlace given spell label-bytes → From (label label-bytes)
+    from_label : {label_bytes : List ℕ} → LabelPlace given spell label_bytes → From (label label_bytes)
     from_num : {number : ℕ} → NumPlace given number → From (num number)
     from_term : {t : Term Name} → Placed given spell t → From (term t)
     from_fields : {list : Fields Name} → PlacedFields given spell list → From (fields list)
@@ -189,10 +189,10 @@ Worded spell (number_at t) = Unit {0}
 Worded spell (outside_name n) = is_word (spell n) ≡ true
 Worded spell (outside_label_lem n) = is_word (spell n) ≡ true
 
-module _ {tokens : List Token} {outside-count : ℕ} {given : List Given} (spell : ℕ → List ℕ) (known : Each (Supplied tokens outside-count) given)
+module _ {tokens : List Token} {outside_count_lem : ℕ} {given : List Given} (spell : ℕ → List ℕ) (known : Each (Supplied tokens outside_count_lem) given)
     (words : (token : Token) → Among tokens token → token.kind ≡ word_kind → is_word (spell token.value) ≡ true)
-    (outsides : (number : ℕ) → number < outside-count → is_word (spell number) ≡ true) where
-  supplied_worded : {other : Given} → Supplied tokens outside-count other → Worded spell other
+    (outsides : (number : ℕ) → number < outside_count_lem → is_word (spell number) ≡ true) where
+  supplied_worded : {other : Given} → Supplied tokens outside_count_lem other → Worded spell other
   supplied_worded (supplied_word h e) = words _ h e
   supplied_worded supplied_fresh = tt
   supplied_worded (supplied_number h e) = tt
@@ -208,7 +208,7 @@ module _ {tokens : List Token} {outside-count : ℕ} {given : List Given} (spell
   var_worded (var_local h) = refl
   var_worded (var_outside h) = worded h
 
-  label_worded : {label-bytes : List ℕ} → LabelPlace given spell label-bytes → is_word label-bytes ≡ true
+  label_worded : {label_bytes : List ℕ} → LabelPlace given spell label_bytes → is_word label_bytes ≡ true
   label_worded (label_label h) = worded h
   label_worded (label_outside h) = worded h
 

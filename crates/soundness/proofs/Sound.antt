@@ -9,7 +9,7 @@ use lib.Dec.{eqb, ltb}
 use lib.ListN.{length, get_or, drop, drop_of_length-le, get_or-eq_default}
 use lib.Seq.{drop-cons}
 use borrow.Author.Tests.{eqb-true, ltb-true, ltb-false}
-use Rattle.spellings.proofs.BytesLaws.{by-test}
+use Rattle.spellings.proofs.BytesLaws.{by_test}
 use Rattle.answers.specs.declared.Refusal.{Refusal}
 use Rattle.answers.specs.Refusals.{refusal}
 use Rattle.grammar.specs.Sorts.{Signature}
@@ -53,27 +53,27 @@ token_here tokens at h = rw (add-one at) (drop-cons tokens at end_token h)
 -- a kind below 64 is that of a token
 pub token_before : (tokens : List Token) (at : ℕ) {kind : ℕ} → (get_or tokens at end_token).kind ≡ kind → kind < 64 → at < length tokens
 token_before tokens at {kind} e l =
-    by-test (ltb at (length tokens)) (λ b. ltb-true at (length tokens) b)
+    by_test (ltb at (length tokens)) (λ b. ltb-true at (length tokens) b)
     (λ b.
     let n : 64 ≡ kind = cc (get_or-eq_default tokens end_token (ltb-false at (length tokens) b)) in
     absurd (omega arith))
 
 -- ------------------------------------------------------------------ what an expansion is given
 
--- The rows have room in the cells, and the fresh names in a name: each call begun has at most 12 of them, `names-left` of which are to come.
-pub record Kept (rows names-left : ℕ) (state : State) (cells : List ℕ) : Type 0 where
+-- The rows have room in the cells, and the fresh names in a name: each call begun has at most 12 of them, `names_left` of which are to come.
+pub record Kept (rows names_left : ℕ) (state : State) (cells : List ℕ) : Type 0 where
   -- the cells have room for all rows
   pub room : rows * columns ≤ length cells
   -- the rows made are not more
   pub fits : state.made ≤ rows
   -- twelve new names a call at most
-  pub names : state.fresh + names-left ≤ 2 + 12 * state.calls
+  pub names : state.fresh + names_left ≤ 2 + 12 * state.calls
   -- the calls are not more than the limit
   pub begun : state.calls ≤ most_calls
 
 -- the bounds hold after rows are made
-pub kept_made : {rows new-rows names-left : ℕ} {state state' : State} {cells cells' : List ℕ} → Kept rows names-left state cells
-    → Made rows new-rows state cells state' cells' → Kept rows names-left state' cells'
+pub kept_made : {rows new_rows names_left : ℕ} {state state' : State} {cells cells' : List ℕ} → Kept rows names_left state cells
+    → Made rows new_rows state cells state' cells' → Kept rows names_left state' cells'
 kept_made h m =
     record {
       room = rw m.grown.as_many h.room;
@@ -83,7 +83,7 @@ kept_made h m =
     }
 
 -- and with one name fewer to come
-pub kept_less : {rows names-left : ℕ} {state : State} {cells : List ℕ} → Kept rows (names-left + 1) state cells → Kept rows names-left state cells
+pub kept_less : {rows names_left : ℕ} {state : State} {cells : List ℕ} → Kept rows (names_left + 1) state cells → Kept rows names_left state cells
 kept_less h = record { room = h.room; fits = h.fits; names = omega (arith, h.names); begun = h.begun }
 
 module _ {g : List Production} (setting : Setting g) where
@@ -110,7 +110,7 @@ module _ {g : List Production} (setting : Setting g) where
   -- ------------------------------------------------------------------ items
 
   -- an item derived, with its value, and any derivation of the items after it goes on from it
-  pub record Stepped (names-left : ℕ) (item : Item) (A : ℕ) (M : List Value) (state : State) (cells : List ℕ) (row : ℕ) (state' : State)
+  pub record Stepped (names_left : ℕ) (item : Item) (A : ℕ) (M : List Value) (state : State) (cells : List ℕ) (row : ℕ) (state' : State)
       (cells' : List ℕ) : Type 0 where
     -- the value that Figure 3 gives the item
     pub value : Value
@@ -121,13 +121,13 @@ module _ {g : List Production} (setting : Setting g) where
     -- rows are added only
     pub grown : Grown state.made cells state'.made cells'
     -- the bounds hold with one name fewer to come
-    pub kept : Kept rows names-left state' cells'
+    pub kept : Kept rows names_left state' cells'
     -- a derivation of the items behind, under this variable too, gives one of this item and those
     pub step : (is : List Item) (M' : List Value) (left : List Token) (i' : ℕ) → Derives g spell (M ++ (value ∷ [])) (from state') state'.fresh is left i' M'
         → Derives g spell M (from state) state.fresh (item ∷ is) left i' M'
 
   -- a call derived
-  pub record Called (names-left nonterminal : ℕ) (vs : List Value) (state : State) (cells : List ℕ) (row : ℕ) (state' : State) (cells' : List ℕ) : Type 0 where
+  pub record Called (names_left nonterminal : ℕ) (vs : List Value) (state : State) (cells : List ℕ) (row : ℕ) (state' : State) (cells' : List ℕ) : Type 0 where
     -- the alternative chosen
     pub production : Production
     -- Figure 3 takes it at these tokens
@@ -145,7 +145,7 @@ module _ {g : List Production} (setting : Setting g) where
     -- rows are added only
     pub grown : Grown state.made cells state'.made cells'
     -- the bounds hold still
-    pub kept : Kept rows names-left state' cells'
+    pub kept : Kept rows names_left state' cells'
 
   -- of refusals nothing is said here
   abbrev pub Any : Refusal → Type 0
@@ -158,16 +158,16 @@ module _ {g : List Production} (setting : Setting g) where
       → Kept rows k s cells → ShowAll spell s.made cells xs vs → Ends (Called k n vs s cells) Any (C n xs s cells)
 
   -- a token of the terminal's kind is taken, or nothing is said
-  take_ends : {lent : Input} → Provides setting lent → {names-left A : ℕ} {M : List Value} (t : Terminal) (state : State) (cells : List ℕ)
+  take_ends : {lent : Input} → Provides setting lent → {names_left A : ℕ} {M : List Value} (t : Terminal) (state : State) (cells : List ℕ)
       → ((next_token I state).kind ≡ kind_of t
-      → Stepped names-left (terminal t) A M state cells (read_value t (next_token I state).value) (token_taken state) cells)
-      → Ends (Stepped names-left (terminal t) A M state cells) Any (take_terminal lent t state cells)
-  take_ends provides {names-left} {A} {M} t state cells f =
-      subst⁻¹ (Ends (Stepped names-left (terminal t) A M state cells) Any) (take_is setting provides t state cells)
+      → Stepped names_left (terminal t) A M state cells (read_value t (next_token I state).value) (token_taken state) cells)
+      → Ends (Stepped names_left (terminal t) A M state cells) Any (take_terminal lent t state cells)
+  take_ends provides {names_left} {A} {M} t state cells f =
+      subst⁻¹ (Ends (Stepped names_left (terminal t) A M state cells) Any) (take_is setting provides t state cells)
       (go (eqb (next_token I state).kind (kind_of t)) refl)
     where
       go : (test : Bool) → eqb (next_token I state).kind (kind_of t) ≡ test
-          → Ends (Stepped names-left (terminal t) A M state cells) Any
+          → Ends (Stepped names_left (terminal t) A M state cells) Any
           (elim test [
             | true ↦ done (read_value t (next_token I state).value) (token_taken state) cells
             | false ↦ misfit (Rattle.kinds.specs.Kinds.only (kind_of t)) state cells
@@ -175,16 +175,16 @@ module _ {g : List Production} (setting : Setting g) where
       go true e = f (eqb-true (next_token I state).kind (kind_of t) e)
       go false e = tt
 
-  kept_on : {names-left : ℕ} {state : State} {cells : List ℕ} → Kept rows (names-left + 1) state cells → Kept rows names-left (token_taken state) cells
+  kept_on : {names_left : ℕ} {state : State} {cells : List ℕ} → Kept rows (names_left + 1) state cells → Kept rows names_left (token_taken state) cells
   kept_on h = record { room = h.room; fits = h.fits; names = omega (arith, h.names); begun = h.begun }
 
   -- a token taken as the `value`
-  taken_as : {names-left : ℕ} {item : Item} {A kind : ℕ} {M : List Value} {state : State} {cells : List ℕ} (row : ℕ) (value : Value)
+  taken_as : {names_left : ℕ} {item : Item} {A kind : ℕ} {M : List Value} {state : State} {cells : List ℕ} (row : ℕ) (value : Value)
       → (next_token I state).kind ≡ kind → kind < 64
-      → Kept rows (names-left + 1) state cells → Typed value A → Shows spell state.made cells row value
+      → Kept rows (names_left + 1) state cells → Typed value A → Shows spell state.made cells row value
       → ((is : List Item) (M' : List Value) (left : List Token) (i' : ℕ) → Derives g spell (M ++ (value ∷ [])) (drop (state.at + 1) tokens)
       state.fresh is left i' M' → Derives g spell M (next_token I state ∷ drop (state.at + 1) tokens) state.fresh (item ∷ is) left i' M')
-      → Stepped names-left item A M state cells row (token_taken state) cells
+      → Stepped names_left item A M state cells row (token_taken state) cells
   taken_as {item = item} {M = M} {state = state} {cells = cells} row value e l h w z f =
       let h' : drop state.at tokens ≡ next_token I state ∷ drop (state.at + 1) tokens = token_here tokens state.at
       (token_before tokens state.at e l) in
@@ -205,7 +205,7 @@ module _ {g : List Production} (setting : Setting g) where
   at_ide P (suc (suc (suc (suc B)))) l h a b c = absurd (omega arith)
 
   -- the items derived, and the result sorted under their variables
-  pub record Derived (names-left : ℕ) (is : List Item) (result : Template) (B : ℕ) (M : List Value) (state : State) (cells : List ℕ) (xs : List ℕ)
+  pub record Derived (names_left : ℕ) (is : List Item) (result : Template) (B : ℕ) (M : List Value) (state : State) (cells : List ℕ) (xs : List ℕ)
       (state' : State) (cells' : List ℕ) : Type 0 where
     -- the values of all variables, the items' own last
     pub variables : List Value
@@ -226,20 +226,20 @@ module _ {g : List Production} (setting : Setting g) where
     -- rows are added only
     pub grown : Grown state.made cells state'.made cells'
     -- the bounds hold still
-    pub kept : Kept rows names-left state' cells'
+    pub kept : Kept rows names_left state' cells'
 
   -- what the items read, and what a call of theirs does
   module _ {lent : Input} (provides : Provides setting lent) (called : ℕ → List ℕ → Run ℕ) (callee : Callee called) where
     -- an item that is run is derived
-    pub item_sound : (names-left : ℕ) {item : Item} {A : ℕ} {M : List Value} {L xs : List ℕ} (state : State) (cells : List ℕ) → ItemSorted F.scope L item A
+    pub item_sound : (names_left : ℕ) {item : Item} {A : ℕ} {M : List Value} {L xs : List ℕ} (state : State) (cells : List ℕ) → ItemSorted F.scope L item A
         → ItemWithin item → Matches M L
-        → Kept rows (names-left + 1) state cells → ShowAll spell state.made cells xs M
-        → Ends (Stepped names-left item A M state cells) Any (run_item called lent item xs state cells)
-    item_sound names-left state cells (Judgements.by_keyword {k = w} l) z m h a =
+        → Kept rows (names_left + 1) state cells → ShowAll spell state.made cells xs M
+        → Ends (Stepped names_left item A M state cells) Any (run_item called lent item xs state cells)
+    item_sound names_left state cells (Judgements.by_keyword {k = w} l) z m h a =
         take_ends provides (keyword w) state cells
         (λ e. taken_as 0 unit e (omega (arith, l, F.keyword_count)) h typed_unit shows_unit (λ is M' t j d. by_terminal (by_keyword e) d))
-    item_sound names-left {M = M} {xs = xs} state cells (Judgements.by_ide {B = B} l u) z m h a =
-        at_ide (λ B. Ends (Stepped names-left (terminal (ide B)) B M state cells) Any (run_item called lent (terminal (ide B)) xs state cells)) B l u
+    item_sound names_left {M = M} {xs = xs} state cells (Judgements.by_ide {B = B} l u) z m h a =
+        at_ide (λ B. Ends (Stepped names_left (terminal (ide B)) B M state cells) Any (run_item called lent (terminal (ide B)) xs state cells)) B l u
         (take_ends provides (ide Sorts.var) state cells
         (λ e. taken_as _ _ e (omega arith) h typed_var (shows_var (word_named spell (next_token I state).value (setting.small state.at e)))
         (λ is M' t j d. by_terminal (by_ide e as_var) d)))
@@ -248,12 +248,12 @@ module _ {g : List Production} (setting : Setting g) where
         (λ is M' t j d. by_terminal (by_ide e as_binder) d)))
         (take_ends provides (ide Sorts.label) state cells
         (λ e. taken_as _ _ e (omega arith) h typed_label shows_label (λ is M' t j d. by_terminal (by_ide e as_label) d)))
-    item_sound names-left state cells Judgements.by_number z m h a =
+    item_sound names_left state cells Judgements.by_number z m h a =
         take_ends provides number state cells
         (λ e. taken_as _ _ e (omega arith) h typed_num shows_num (λ is M' t j d. by_terminal (by_number e) d))
-    item_sound names-left state cells (Judgements.by_place {B = B} l) z m h a =
+    item_sound names_left state cells (Judgements.by_place {B = B} l) z m h a =
         take_ends provides (place B) state cells (λ e. absurd (omega (arith, e, setting.formula state.at)))
-    item_sound names-left {M = M} state cells Judgements.by_local z m h a =
+    item_sound names_left {M = M} state cells Judgements.by_local z m h a =
         record {
           value = binder (Rattle.terms.specs.Term.fresh state.fresh);
           typed = typed_binder;
@@ -262,15 +262,15 @@ module _ {g : List Production} (setting : Setting g) where
           kept = record { room = h.room; fits = h.fits; names = omega (arith, h.names); begun = h.begun };
           step = λ is M' t j d. by_terminal by_local d;
         }
-    item_sound names-left {A = A} {M = M} {L = L} {xs = xs} state cells (Judgements.by_call {n = n} {S = S} {ts = ts} w f) (call_within l ws) m h a =
+    item_sound names_left {A = A} {M = M} {L = L} {xs = xs} state cells (Judgements.by_call {n = n} {S = S} {ts = ts} w f) (call_within l ws) m h a =
         let vs = give_all_exist spell m ts f in
         ends_after (BuiltAll spell rows (rows_of_all ts) state cells vs.0) (Full rows (state.made + rows_of_all ts))
-        (Stepped names-left (call n ts) A M state cells) Any
+        (Stepped names_left (call n ts) A M state cells) Any
         (build_all ts lent xs state cells) (λ ys. called n ys)
         (build_all_ends spell rows lent provides.rows_are ts state cells vs.1 f (omega (arith, F.outside_count)) h.room h.fits a)
         (λ ys s₁ c₁ b.
-        ends_map (Called names-left n vs.0 s₁ c₁) Any (Stepped names-left (call n ts) A M state cells) Any (called n ys s₁ c₁)
-        (callee names-left n S vs.0 ys s₁ c₁ w (omega arith) vs.2 (kept_less (kept_made h b.0)) b.1)
+        ends_map (Called names_left n vs.0 s₁ c₁) Any (Stepped names_left (call n ts) A M state cells) Any (called n ys s₁ c₁)
+        (callee names_left n S vs.0 ys s₁ c₁ w (omega arith) vs.2 (kept_less (kept_made h b.0)) b.1)
         (λ x s₂ c₂ d.
         record {
           value = d.value;
@@ -286,12 +286,12 @@ module _ {g : List Production} (setting : Setting g) where
         (λ r u. tt)
 
     -- items that are run are derived
-    pub items_sound : (names-left : ℕ) (is : List Item) {result : Template} {B : ℕ} {M : List Value} {L xs : List ℕ} (state : State) (cells : List ℕ)
+    pub items_sound : (names_left : ℕ) (is : List Item) {result : Template} {B : ℕ} {M : List Value} {L xs : List ℕ} (state : State) (cells : List ℕ)
         → Body F.scope L is result B → Each ItemWithin is → Matches M L
-        → Kept rows (names-left + length is) state cells → ShowAll spell state.made cells xs M
-        → Ends (Derived names-left is result B M state cells) Any (run_items called lent is xs state cells)
+        → Kept rows (names_left + length is) state cells → ShowAll spell state.made cells xs M
+        → Ends (Derived names_left is result B M state cells) Any (run_items called lent is xs state cells)
     unfolding run_items
-    items_sound names-left [] {M = M} {L = L} state cells (by_result {A = A} w f) each_none m h a =
+    items_sound names_left [] {M = M} {L = L} state cells (by_result {A = A} w f) each_none m h a =
         record {
           variables = M;
           derived = by_end;
@@ -304,15 +304,15 @@ module _ {g : List Production} (setting : Setting g) where
           grown = grown_not state.made cells;
           kept = record { room = h.room; fits = h.fits; names = omega (arith, h.names); begun = h.begun };
         }
-    items_sound names-left (i ∷ is) {result = result} {B = B} {M = M} {xs = xs} state cells (by_binding {A = A} w b) (each_more z zs) m h a =
-        ends_after (Stepped (names-left + length is) i A M state cells) Any (Derived names-left (i ∷ is) result B M state cells) Any
+    items_sound names_left (i ∷ is) {result = result} {B = B} {M = M} {xs = xs} state cells (by_binding {A = A} w b) (each_more z zs) m h a =
+        ends_after (Stepped (names_left + length is) i A M state cells) Any (Derived names_left (i ∷ is) result B M state cells) Any
         (run_item called lent i xs state cells)
         (λ x. run_items called lent is (xs ++ (x ∷ [])))
-        (item_sound (names-left + length is) state cells w z m (record { room = h.room; fits = h.fits; names = omega (arith, h.names); begun = h.begun }) a)
+        (item_sound (names_left + length is) state cells w z m (record { room = h.room; fits = h.fits; names = omega (arith, h.names); begun = h.begun }) a)
         (λ x s₁ c₁ p.
-        ends_map (Derived names-left is result B (M ++ (p.value ∷ [])) s₁ c₁) Any (Derived names-left (i ∷ is) result B M state cells) Any
+        ends_map (Derived names_left is result B (M ++ (p.value ∷ [])) s₁ c₁) Any (Derived names_left (i ∷ is) result B M state cells) Any
         (run_items called lent is (xs ++ (x ∷ [])) s₁ c₁)
-        (items_sound names-left is s₁ c₁ b zs (matches_and m p.typed) p.kept (all_and (all_later p.grown a) p.shows))
+        (items_sound names_left is s₁ c₁ b zs (matches_and m p.typed) p.kept (all_and (all_later p.grown a) p.shows))
         (λ ys s₂ c₂ q.
         record {
           variables = q.variables;

@@ -64,14 +64,14 @@ halts_here : {A : Type 0} {total first : ℕ} {cells : List ℕ} {cause : Refusa
 halts_here {total = total} {cells = cells} made is = record { cells' = cells; is = is; grows = omega arith; left = left_not total cells }
 
 -- all rows were made
-halts_full : {A : Type 0} {total first : ℕ} {cells cells-after : List ℕ} {cause other : Refusal} → cause ≡ other
-    → Leaves {A = A} total first cells (halt cause cells-after) → HaltsWith {A = A} total first cells other (halt cause cells-after)
-halts_full {total = total} {cells-after = cells-after} same leaves =
+halts_full : {A : Type 0} {total first : ℕ} {cells cells_after : List ℕ} {cause other : Refusal} → cause ≡ other
+    → Leaves {A = A} total first cells (halt cause cells_after) → HaltsWith {A = A} total first cells other (halt cause cells_after)
+halts_full {total = total} {cells_after = cells_after} same leaves =
     record {
-      cells' = cells-after;
+      cells' = cells_after;
       is = cc;
       grows = omega (arith, leaves.1, leaves.2);
-      left = left_trans leaves.2 leaves.3 (left_not total cells-after);
+      left = left_trans leaves.2 leaves.3 (left_not total cells_after);
     }
 
 -- what was done before left the cells, too
@@ -110,13 +110,13 @@ module _ {g : List Production} (setting : Setting g) where
   abbrev rest : State → List Token
   rest s = drop s.at tokens
 
-  -- a state where the tokens `left` are left, i is the next fresh name, `begun` calls are begun and `made-rows` cells made
-  record At (begun made-rows : ℕ) (left : List Token) (i : ℕ) (state : State) : Type 0 where
+  -- a state where the tokens `left` are left, i is the next fresh name, `begun` calls are begun and `made_rows` cells made
+  record At (begun made_rows : ℕ) (left : List Token) (i : ℕ) (state : State) : Type 0 where
     place : rest state ≡ left
     bounded : state.at ≤ length tokens
     counter : state.fresh ≡ i
     calls : state.calls ≡ begun
-    made : state.made ≡ made-rows
+    made : state.made ≡ made_rows
 
   index : {begun made : ℕ} {left : List Token} {i : ℕ} (state : State) → At begun made left i state → next_index tokens left ≡ state.at
   index state p = index_is setting state p.place p.bounded
@@ -124,21 +124,21 @@ module _ {g : List Production} (setting : Setting g) where
   -- a run of these items, begun as the rules are, ends with this refusal
   record Halts (opened begun made : ℕ) (left : List Token) (i : ℕ) (is : List Item) (M : List Value) (cause : Refusal) (total : ℕ) : Type 0 where
     halts : {lent within : Input} → Provides setting lent → Provides setting within
-        → (depth names-left : ℕ) (result : Template) (B : ℕ) (L xs : List ℕ) (state : State) (cells : List ℕ) → depth + opened ≡ most_open
+        → (depth names_left : ℕ) (result : Template) (B : ℕ) (L xs : List ℕ) (state : State) (cells : List ℕ) → depth + opened ≡ most_open
         → Body F.scope L is result B → Each ItemWithin is → At begun made left i state
-        → Kept rows (names-left + length is) state cells → ShowAll spell state.made cells xs M
+        → Kept rows (names_left + length is) state cells → ShowAll spell state.made cells xs M
         → HaltsWith total state.made cells cause (run_items (run_call depth lent) within is xs state cells)
 
   -- so does a run of this call
   record Calls (opened begun made nonterminal : ℕ) (vs : List Value) (left : List Token) (i : ℕ) (cause : Refusal) (total : ℕ) : Type 0 where
-    calls : {lent : Input} → Provides setting lent → (depth names-left : ℕ) (ys : List ℕ) (state : State) (cells : List ℕ) → depth + opened ≡ most_open
+    calls : {lent : Input} → Provides setting lent → (depth names_left : ℕ) (ys : List ℕ) (state : State) (cells : List ℕ) → depth + opened ≡ most_open
         → nonterminal < 64 → At begun made left i state
-        → Kept rows names-left state cells → ShowAll spell state.made cells ys vs
+        → Kept rows names_left state cells → ShowAll spell state.made cells ys vs
         → HaltsWith total state.made cells cause (run_call depth lent nonterminal ys state cells)
 
-  kept_item : (names-left count : ℕ) {state : State} {cells : List ℕ} → Kept rows (names-left + suc count) state cells
-      → Kept rows (names-left + count + 1) state cells
-  kept_item names-left count h = record { room = h.room; fits = h.fits; names = omega (arith, h.names); begun = h.begun }
+  kept_item : (names_left count : ℕ) {state : State} {cells : List ℕ} → Kept rows (names_left + suc count) state cells
+      → Kept rows (names_left + count + 1) state cells
+  kept_item names_left count h = record { room = h.room; fits = h.fits; names = omega (arith, h.names); begun = h.begun }
 
   -- ------------------------------------------------------------------ steps that fail
 
@@ -182,30 +182,30 @@ module _ {g : List Production} (setting : Setting g) where
   unfolding run_call ready_for
   start_fails {opened} {begun} {made} {nonterminal} {i} {left} {vs} (too_deep l) = record { calls = go }
     where
-      go : {lent : Input} → Provides setting lent → (depth names-left : ℕ) (ys : List ℕ) (state : State) (cells : List ℕ) → depth + opened ≡ most_open
+      go : {lent : Input} → Provides setting lent → (depth names_left : ℕ) (ys : List ℕ) (state : State) (cells : List ℕ) → depth + opened ≡ most_open
           → nonterminal < 64 → At begun made left i state
-          → Kept rows names-left state cells → ShowAll spell state.made cells ys vs
+          → Kept rows names_left state cells → ShowAll spell state.made cells ys vs
           → HaltsWith made state.made cells (refusal 19 (next_index tokens left) 0 0) (run_call depth lent nonterminal ys state cells)
-      go provides zero names-left ys state cells e b p h a = halts_here p.made (cc (index state p))
-      go {lent} provides (suc depth) names-left ys state cells e b p h a = absurd (omega arith)
+      go provides zero names_left ys state cells e b p h a = halts_here p.made (cc (index state p))
+      go {lent} provides (suc depth) names_left ys state cells e b p h a = absurd (omega arith)
   start_fails {opened} {begun} {made} {nonterminal} {i} {left} {vs} (too_many_calls l q) = record { calls = go }
     where
-      go : {lent : Input} → Provides setting lent → (depth names-left : ℕ) (ys : List ℕ) (state : State) (cells : List ℕ) → depth + opened ≡ most_open
+      go : {lent : Input} → Provides setting lent → (depth names_left : ℕ) (ys : List ℕ) (state : State) (cells : List ℕ) → depth + opened ≡ most_open
           → nonterminal < 64 → At begun made left i state
-          → Kept rows names-left state cells → ShowAll spell state.made cells ys vs
+          → Kept rows names_left state cells → ShowAll spell state.made cells ys vs
           → HaltsWith made state.made cells (refusal 20 (next_index tokens left) 0 0) (run_call depth lent nonterminal ys state cells)
-      go provides zero names-left ys state cells e b p h a = absurd (omega arith)
-      go {lent} provides (suc depth) names-left ys state cells e b p h a =
+      go provides zero names_left ys state cells e b p h a = absurd (omega arith)
+      go {lent} provides (suc depth) names_left ys state cells e b p h a =
           halts_here p.made
           (cc (call_full depth lent nonterminal ys state cells (le-ltb state.calls most_calls (omega (arith, p.calls))), index state p))
   start_fails {opened} {begun} {made} {nonterminal} {i} {left} {vs} (no_choice {set = set} l q f w) = record { calls = go }
     where
-      go : {lent : Input} → Provides setting lent → (depth names-left : ℕ) (ys : List ℕ) (state : State) (cells : List ℕ) → depth + opened ≡ most_open
+      go : {lent : Input} → Provides setting lent → (depth names_left : ℕ) (ys : List ℕ) (state : State) (cells : List ℕ) → depth + opened ≡ most_open
           → nonterminal < 64 → At begun made left i state
-          → Kept rows names-left state cells → ShowAll spell state.made cells ys vs
+          → Kept rows names_left state cells → ShowAll spell state.made cells ys vs
           → HaltsWith made state.made cells (refusal 17 (next_index tokens left) set (ones set)) (run_call depth lent nonterminal ys state cells)
-      go provides zero names-left ys state cells e b p h a = absurd (omega arith)
-      go {lent} provides (suc depth) names-left ys state cells e b p h a = by (picks_at setting state nonterminal b)
+      go provides zero names_left ys state cells e b p h a = absurd (omega arith)
+      go {lent} provides (suc depth) names_left ys state cells e b p h a = by (picks_at setting state nonterminal b)
         where
           by : Picks g nonterminal (rest state) (choice (ready g) nonterminal (next_kind (rest state)))
               → HaltsWith made state.made cells (refusal 17 (next_index tokens left) set (ones set)) (run_call (suc depth) lent nonterminal ys state cells)
@@ -242,8 +242,8 @@ module _ {g : List Production} (setting : Setting g) where
             }
         by (picks_none z u) = absurd (z p (rw q.place taken))
 
-    begun_kept : {names-left : ℕ} {state : State} {cells : List ℕ} → state.calls < most_calls → Kept rows names-left state cells
-        → Kept rows (names-left + length p.items) (call_begun state) cells
+    begun_kept : {names_left : ℕ} {state : State} {cells : List ℕ} → state.calls < most_calls → Kept rows names_left state cells
+        → Kept rows (names_left + length p.items) (call_begun state) cells
     begun_kept l h =
         record { room = h.room; fits = h.fits; names = omega (arith, h.names, (F.each p (taken_of taken).member).item_count); begun = omega arith }
 
@@ -254,17 +254,17 @@ module _ {g : List Production} (setting : Setting g) where
         → Calls opened begun made nonterminal vs left i cause total
     items_fail {cause} {total} l b H = record { calls = go }
       where
-        go : {lent : Input} → Provides setting lent → (depth names-left : ℕ) (ys : List ℕ) (state : State) (cells : List ℕ) → depth + opened ≡ most_open
+        go : {lent : Input} → Provides setting lent → (depth names_left : ℕ) (ys : List ℕ) (state : State) (cells : List ℕ) → depth + opened ≡ most_open
             → nonterminal < 64 → At begun made left i state
-            → Kept rows names-left state cells → ShowAll spell state.made cells ys vs
+            → Kept rows names_left state cells → ShowAll spell state.made cells ys vs
             → HaltsWith total state.made cells cause (run_call depth lent nonterminal ys state cells)
-        go provides zero names-left ys state cells e z q h a = absurd (omega arith)
-        go {lent} provides (suc depth) names-left ys state cells e z q h a =
+        go provides zero names_left ys state cells e z q h a = absurd (omega arith)
+        go {lent} provides (suc depth) names_left ys state cells e z q h a =
             let f = F.each p (taken_of taken).member in
             enter provides cause depth ys state cells q b
             (halts_after cause (run_items (run_call depth lent) (inner lent state) p.items ys (call_begun state) cells)
             (λ M. build p.result (inner lent state) M)
-            (H.halts provides (provides_inner setting provides state) depth names-left p.result f.signature.result f.signature.params ys
+            (H.halts provides (provides_inner setting provides state) depth names_left p.result f.signature.result f.signature.params ys
             (call_begun state) cells (omega (arith, e)) f.body
             f.items
             (begun_at q)
@@ -277,22 +277,22 @@ module _ {g : List Production} (setting : Setting g) where
         → Calls opened begun made nonterminal vs left i cause total
     result_fails {i' = i'} {M = M} {value = value} {left' = left'} derives A gives (no_row l) = record { calls = go }
       where
-        go : {lent : Input} → Provides setting lent → (depth names-left : ℕ) (ys : List ℕ) (state : State) (cells : List ℕ) → depth + opened ≡ most_open
+        go : {lent : Input} → Provides setting lent → (depth names_left : ℕ) (ys : List ℕ) (state : State) (cells : List ℕ) → depth + opened ≡ most_open
             → nonterminal < 64 → At begun made left i state
-            → Kept rows names-left state cells → ShowAll spell state.made cells ys vs
+            → Kept rows names_left state cells → ShowAll spell state.made cells ys vs
             → HaltsWith rows state.made cells (refusal 21 (next_index tokens left') 0 0) (run_call depth lent nonterminal ys state cells)
-        go provides zero names-left ys state cells e z q h a = absurd (omega (arith, A.few_open))
-        go {lent} provides (suc depth) names-left ys state cells e z q h a =
+        go provides zero names_left ys state cells e z q h a = absurd (omega (arith, A.few_open))
+        go {lent} provides (suc depth) names_left ys state cells e z q h a =
             let f = F.each p (taken_of taken).member in
             let b : state.calls < most_calls = omega (arith, A.few_calls, q.calls) in
             enter provides (refusal 21 (next_index tokens left') 0 0) depth ys state cells q (omega (arith, A.few_calls))
             (by (run_items (run_call depth lent) (inner lent state) p.items ys (call_begun state) cells)
             (ends_both
-            (Reached setting names-left depth (open_in derives) (calls_in derives) (rows_in derives) left' i' M (call_begun state).calls state.made cells)
+            (Reached setting names_left depth (open_in derives) (calls_in derives) (rows_in derives) left' i' M (call_begun state).calls state.made cells)
             (λ zs s₁ c₁. s₁.at ≤ length tokens)
             (Beyond rows depth (open_in derives) ((call_begun state).calls + calls_in derives) (state.made + rows_in derives)) (λ r. Unit {0})
             (run_items (run_call depth lent) (inner lent state) p.items ys (call_begun state) cells)
-            ((items_along setting derives).along provides (provides_inner setting provides state) depth names-left p.result f.signature.result
+            ((items_along setting derives).along provides (provides_inner setting provides state) depth names_left p.result f.signature.result
             f.signature.params ys (call_begun state) cells f.body
             q.place q.counter
             (begun_kept b h) a)
@@ -308,7 +308,7 @@ module _ {g : List Production} (setting : Setting g) where
 
             by : (result : Result (List ℕ))
                 → Ends
-                (λ zs s₁ c₁. Reached setting names-left depth (open_in derives) (calls_in derives) (rows_in derives) left' i' M (call_begun state).calls
+                (λ zs s₁ c₁. Reached setting names_left depth (open_in derives) (calls_in derives) (rows_in derives) left' i' M (call_begun state).calls
                 state.made cells zs s₁ c₁ × (s₁.at ≤ length tokens))
                 (λ r. Beyond rows depth (open_in derives) ((call_begun state).calls + calls_in derives) (state.made + rows_in derives) r × Unit {0}) result
                 → Leaves rows state.made cells result
@@ -341,12 +341,12 @@ module _ {g : List Production} (setting : Setting g) where
   call_fails {opened} {begun} {made} {nonterminal} {i} {left} {ts} {M} {vs} is {cause} {total} gs l C = record { halts = go }
     where
       go : {lent within : Input} → Provides setting lent → Provides setting within
-          → (depth names-left : ℕ) (result : Template) (B : ℕ) (L xs : List ℕ) (state : State) (cells : List ℕ) → depth + opened ≡ most_open
+          → (depth names_left : ℕ) (result : Template) (B : ℕ) (L xs : List ℕ) (state : State) (cells : List ℕ) → depth + opened ≡ most_open
           → Body F.scope L (call nonterminal ts ∷ is) result B
           → Each ItemWithin (call nonterminal ts ∷ is)
-          → At begun made left i state → Kept rows (names-left + length (call nonterminal ts ∷ is)) state cells → ShowAll spell state.made cells xs M
+          → At begun made left i state → Kept rows (names_left + length (call nonterminal ts ∷ is)) state cells → ShowAll spell state.made cells xs M
           → HaltsWith total state.made cells cause (run_items (run_call depth lent) within (call nonterminal ts ∷ is) xs state cells)
-      go {lent} {within} provides inside depth names-left result B L xs state cells e (by_binding (Judgements.by_call w z) b)
+      go {lent} {within} provides inside depth names_left result B L xs state cells e (by_binding (Judgements.by_call w z) b)
           (each_more (call_within y ws) zs) p h a =
           halts_after cause (run_item (run_call depth lent) within (call nonterminal ts) xs state cells)
           (λ x. run_items (run_call depth lent) within is (xs ++ (x ∷ [])))
@@ -354,13 +354,13 @@ module _ {g : List Production} (setting : Setting g) where
           (build_all_ends spell rows within inside.rows_are ts state cells gs z (omega (arith, F.outside_count)) h.room h.fits a)
           (build_all_leaves rows within inside.rows_are ts xs state cells h.fits))
         where
-          by : (given-result : Result (List ℕ)) → Ends (BuiltAll spell rows (rows_of_all ts) state cells vs) (Full rows (state.made + rows_of_all ts)) given-result
-              → Leaves rows state.made cells given-result
-              → HaltsWith total state.made cells cause (after given-result (λ ys. run_call depth lent nonterminal ys))
+          by : (given_result : Result (List ℕ)) → Ends (BuiltAll spell rows (rows_of_all ts) state cells vs) (Full rows (state.made + rows_of_all ts)) given_result
+              → Leaves rows state.made cells given_result
+              → HaltsWith total state.made cells cause (after given_result (λ ys. run_call depth lent nonterminal ys))
           by (halt q c₁) u k = absurd (omega (arith, u.beyond, p.made, l))
           by (done ys s₁ c₁) u k =
               halts_later k.0 k.2
-              (C.calls provides depth (names-left + length is) ys s₁ c₁ e (omega (arith, y))
+              (C.calls provides depth (names_left + length is) ys s₁ c₁ e (omega (arith, y))
               (record {
                 place = cc (u.0.at_kept, p.place);
                 bounded = omega (arith, u.0.at_kept, p.bounded);
@@ -368,7 +368,7 @@ module _ {g : List Production} (setting : Setting g) where
                 calls = u.0.calls_kept ∙ p.calls;
                 made = omega (arith, u.0.made_is, p.made);
               })
-              (kept_less (kept_made (kept_item names-left (length is) h) u.0)) u.1)
+              (kept_less (kept_made (kept_item names_left (length is) h) u.0)) u.1)
 
   arguments_halt : {opened begun made nonterminal i : ℕ} {left : List Token} {ts : Templates} {M vs : List Value} (is : List Item) {cause : Refusal} {total : ℕ}
       → GiveAll spell M ts vs
@@ -378,12 +378,12 @@ module _ {g : List Production} (setting : Setting g) where
   arguments_halt {opened} {begun} {made} {nonterminal} {i} {left} {ts} {M} {vs} is {cause} {total} gs f = record { halts = go }
     where
       go : {lent within : Input} → Provides setting lent → Provides setting within
-          → (depth names-left : ℕ) (result : Template) (B : ℕ) (L xs : List ℕ) (state : State) (cells : List ℕ) → depth + opened ≡ most_open
+          → (depth names_left : ℕ) (result : Template) (B : ℕ) (L xs : List ℕ) (state : State) (cells : List ℕ) → depth + opened ≡ most_open
           → Body F.scope L (call nonterminal ts ∷ is) result B
           → Each ItemWithin (call nonterminal ts ∷ is)
-          → At begun made left i state → Kept rows (names-left + length (call nonterminal ts ∷ is)) state cells → ShowAll spell state.made cells xs M
+          → At begun made left i state → Kept rows (names_left + length (call nonterminal ts ∷ is)) state cells → ShowAll spell state.made cells xs M
           → HaltsWith total state.made cells cause (run_items (run_call depth lent) within (call nonterminal ts ∷ is) xs state cells)
-      go {lent} {within} provides inside depth names-left result B L xs state cells e (by_binding (Judgements.by_call w z) b) ws p h a =
+      go {lent} {within} provides inside depth names_left result B L xs state cells e (by_binding (Judgements.by_call w z) b) ws p h a =
           halts_after cause (run_item (run_call depth lent) within (call nonterminal ts) xs state cells)
           (λ x. run_items (run_call depth lent) within is (xs ++ (x ∷ [])))
           (halts_after cause (build_all ts within xs state cells) (λ ys. run_call depth lent nonterminal ys)
@@ -420,17 +420,17 @@ module _ {g : List Production} (setting : Setting g) where
   past_halts {opened} {begun} {made} {i} {i'} {left} {left'} {item} {is} {M} {M'} {cause} {total} derives A H = record { halts = go }
     where
       go : {lent within : Input} → Provides setting lent → Provides setting within
-          → (depth names-left : ℕ) (result : Template) (B : ℕ) (L xs : List ℕ) (state : State) (cells : List ℕ) → depth + opened ≡ most_open
+          → (depth names_left : ℕ) (result : Template) (B : ℕ) (L xs : List ℕ) (state : State) (cells : List ℕ) → depth + opened ≡ most_open
           → Body F.scope L (item ∷ is) result B
           → Each ItemWithin (item ∷ is)
-          → At begun made left i state → Kept rows (names-left + length (item ∷ is)) state cells → ShowAll spell state.made cells xs M
+          → At begun made left i state → Kept rows (names_left + length (item ∷ is)) state cells → ShowAll spell state.made cells xs M
           → HaltsWith total state.made cells cause (run_items (run_call depth lent) within (item ∷ is) xs state cells)
-      go {lent} {within} provides inside depth names-left result B L xs state cells e (by_binding {A = S} w b) (each_more z zs) p h a =
+      go {lent} {within} provides inside depth names_left result B L xs state cells e (by_binding {A = S} w b) (each_more z zs) p h a =
           by (run_item (run_call depth lent) within item xs state cells)
-          ((items_along setting derives).along provides inside depth (names-left + length is) (make 0x25 none) Sorts.fields L xs state cells
+          ((items_along setting derives).along provides inside depth (names_left + length is) (make 0x25 none) Sorts.fields L xs state cells
           (item_body setting w) p.place
           p.counter
-          (kept_item names-left (length is) h) a)
+          (kept_item names_left (length is) h) a)
           (item_bounded setting inside (run_call depth lent) (call_bounded setting provides depth) xs state cells w z p.bounded)
           (item_leaves rows within inside.rows_are (run_call depth lent) (call_leaves rows lent provides.rows_are depth) item xs state cells h.fits)
         where
@@ -441,7 +441,7 @@ module _ {g : List Production} (setting : Setting g) where
 
           by : (outcome : Result ℕ)
               → Ends
-              (Reached setting (names-left + length is) depth (open_in derives) (calls_in derives) (rows_in derives) left' i' M' state.calls
+              (Reached setting (names_left + length is) depth (open_in derives) (calls_in derives) (rows_in derives) left' i' M' state.calls
               state.made cells)
               (Beyond rows depth (open_in derives) (state.calls + calls_in derives) (state.made + rows_in derives))
               (after outcome (λ y. run_items (run_call depth lent) within [] (xs ++ (y ∷ []))))
@@ -450,7 +450,7 @@ module _ {g : List Production} (setting : Setting g) where
           by (halt q c₁) u n k = absurd (never u)
           by (done outcome s₁ c₁) u n k =
               halts_later k.0 k.2
-              (H.halts provides inside depth names-left result B (L ++ (S ∷ [])) (xs ++ (outcome ∷ [])) s₁ c₁ e b zs
+              (H.halts provides inside depth names_left result B (L ++ (S ∷ [])) (xs ++ (outcome ∷ [])) s₁ c₁ e b zs
               (record {
                 place = u.0.place;
                 bounded = n;

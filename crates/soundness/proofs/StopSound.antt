@@ -122,8 +122,8 @@ module _ {g : List Production} (setting : Setting g) where
   full_row opened begun made {needed} state l h = (_, fails_here state l (no_row h))
 
   -- a call of a state after its arguments is one of the state before them
-  enters_stops : {opened nonterminal : ℕ} {M vs : List Value} {ts : Templates} (is : List Item) {state state₁ : State} {cells cells-after₁ : List ℕ}
-      → GiveAll spell M ts vs → Made rows (rows_of_all ts) state cells state₁ cells-after₁
+  enters_stops : {opened nonterminal : ℕ} {M vs : List Value} {ts : Templates} (is : List Item) {state state₁ : State} {cells cells_after₁ : List ℕ}
+      → GiveAll spell M ts vs → Made rows (rows_of_all ts) state cells state₁ cells_after₁
       → (cause : Refusal) → EntersAt opened nonterminal vs state₁ cause → StopsAt opened M (call nonterminal ts ∷ is) state cause
   enters_stops {opened} {nonterminal} {vs = vs} {ts = ts} is {state = state} {state₁ = state₁} gs b cause e =
       let fits : state.made + rows_of_all ts ≤ rows = omega (arith, b.fits, b.made_is) in (
@@ -137,17 +137,17 @@ module _ {g : List Production} (setting : Setting g) where
 
   module _ {lent within : Input} (provides : Provides setting lent) (inside : Provides setting within) (depth opened : ℕ)
       (left : depth + opened ≡ most_open) (halting : Halting lent depth) where
-    item_halts : (names-left : ℕ) {item : Item} {A : ℕ} {M : List Value} {L xs : List ℕ} (is : List Item) (state : State) (cells : List ℕ)
+    item_halts : (names_left : ℕ) {item : Item} {A : ℕ} {M : List Value} {L xs : List ℕ} (is : List Item) (state : State) (cells : List ℕ)
         → ItemSorted F.scope L item A → ItemWithin item → Matches M L
-        → state.at ≤ length tokens → Kept rows (names-left + 1) state cells → ShowAll spell state.made cells xs M
+        → state.at ≤ length tokens → Kept rows (names_left + 1) state cells → ShowAll spell state.made cells xs M
         → Ends Fine (StopsAt opened M (item ∷ is) state) (run_item (run_call depth lent) within item xs state cells)
-    item_halts names-left {item = terminal t} {M = M} is state cells w z m b h a =
+    item_halts names_left {item = terminal t} {M = M} is state cells w z m b h a =
         sorted_kind F w (λ l. take_halts inside opened M is t state cells (λ cause total f. at_token (reads l) f) b)
         (λ B e.
         subst⁻¹ (λ u. Ends Fine (StopsAt opened M (terminal u ∷ is) state) (take_terminal within u state cells)) e
         (take_halts inside opened M is (place B) state cells (λ cause total f. at_place f) b))
-    item_halts names-left {item = local} is state cells w z m b h a = tt
-    item_halts names-left {item = call _ _} {M = M} {xs = xs} is state cells (Judgements.by_call {n = n} {S = S} {ts = ts} w f) (call_within l ws) m b h a =
+    item_halts names_left {item = local} is state cells w z m b h a = tt
+    item_halts names_left {item = call _ _} {M = M} {xs = xs} is state cells (Judgements.by_call {n = n} {S = S} {ts = ts} w f) (call_within l ws) m b h a =
         let vs = give_all_exist spell m ts f in
         ends_after (λ ys s₁ c₁. BuiltAll spell rows (rows_of_all ts) state cells vs.0 ys s₁ c₁ × (s₁.at ≡ state.at))
         (λ r. Full rows (state.made + rows_of_all ts) r × (r ≡ refusal 21 state.at 0 0))
@@ -158,45 +158,45 @@ module _ {g : List Production} (setting : Setting g) where
         h.fits a) (build_all_stays within ts xs state cells))
         (λ ys s₁ c₁ y.
         ends_map Fine (EntersAt opened n vs.0 s₁) Fine (StopsAt opened M (call n ts ∷ is) state) (run_call depth lent n ys s₁ c₁)
-        (halting opened names-left n S vs.0 ys s₁ c₁ left w (omega arith) vs.2 (omega (arith, y.1)) (kept_less (kept_made h y.0.0)) y.0.1)
+        (halting opened names_left n S vs.0 ys s₁ c₁ left w (omega arith) vs.2 (omega (arith, y.1)) (kept_less (kept_made h y.0.0)) y.0.1)
         (λ x s₂ c₂ u. u) (enters_stops is vs.1 y.0.0))
         (λ r u. let full = full_row opened state.calls state.made state b u.0.beyond in (full.0, at_arguments vs.1 (rw u.1 full.1)))
 
     -- an item derived has cost what its derivation costs
-    item_costs : (names-left : ℕ) {item : Item} {A : ℕ} {M : List Value} {L : List ℕ} (xs : List ℕ) (state : State) (cells : List ℕ)
+    item_costs : (names_left : ℕ) {item : Item} {A : ℕ} {M : List Value} {L : List ℕ} (xs : List ℕ) (state : State) (cells : List ℕ)
         → ItemSorted F.scope L item A
-        → Kept rows (names-left + 1) state cells → ShowAll spell state.made cells xs M → (row : ℕ) (state₁ : State) (cells-after₁ : List ℕ)
-        → run_item (run_call depth lent) within item xs state cells ≡ done row state₁ cells-after₁
+        → Kept rows (names_left + 1) state cells → ShowAll spell state.made cells xs M → (row : ℕ) (state₁ : State) (cells_after₁ : List ℕ)
+        → run_item (run_call depth lent) within item xs state cells ≡ done row state₁ cells_after₁
         → {M₁ : List Value} (derives : Derives g spell M (rest state) state.fresh (item ∷ []) (rest state₁) state₁.fresh M₁)
         → (state₁.calls ≡ state.calls + calls_in derives) × (state₁.made ≡ state.made + rows_in derives) × (open_in derives ≤ depth)
     unfolding run_items
-    item_costs names-left {item} {L = L} xs state cells w h a row state₁ cells-after₁ e {M₁} derives =
-        let q = rw (items_after (run_call depth lent) within item [] xs state cells row state₁ cells-after₁ e) at
-        ((items_along setting derives).along provides inside depth names-left (make 0x25 none) Sorts.fields L xs state cells
+    item_costs names_left {item} {L = L} xs state cells w h a row state₁ cells_after₁ e {M₁} derives =
+        let q = rw (items_after (run_call depth lent) within item [] xs state cells row state₁ cells_after₁ e) at
+        ((items_along setting derives).along provides inside depth names_left (make 0x25 none) Sorts.fields L xs state cells
         (item_body setting w) refl refl h a) in
         (q.0.calls_are, q.0.made_are, q.0.deep)
 
-    items_halt : (names-left : ℕ) (is : List Item) {result : Template} {B : ℕ} {M : List Value} {L xs : List ℕ} (state : State) (cells : List ℕ)
+    items_halt : (names_left : ℕ) (is : List Item) {result : Template} {B : ℕ} {M : List Value} {L xs : List ℕ} (state : State) (cells : List ℕ)
         → Body F.scope L is result B → Each ItemWithin is → Matches M L
-        → state.at ≤ length tokens → Kept rows (names-left + length is) state cells → ShowAll spell state.made cells xs M
+        → state.at ≤ length tokens → Kept rows (names_left + length is) state cells → ShowAll spell state.made cells xs M
         → Ends Fine (StopsAt opened M is state) (run_items (run_call depth lent) within is xs state cells)
     unfolding run_items
-    items_halt names-left [] state cells b z m n h a = tt
-    items_halt names-left (i ∷ is) {M = M} {xs = xs} state cells (by_binding {A = A} w b) (each_more z zs) m n h a =
-        let h' : Kept rows (names-left + length is + 1) state cells = record
+    items_halt names_left [] state cells b z m n h a = tt
+    items_halt names_left (i ∷ is) {M = M} {xs = xs} state cells (by_binding {A = A} w b) (each_more z zs) m n h a =
+        let h' : Kept rows (names_left + length is + 1) state cells = record
         { room = h.room; fits = h.fits; names = omega (arith, h.names); begun = h.begun } in
         after_by Fine (StopsAt opened M (i ∷ is) state) (run_item (run_call depth lent) within i xs state cells)
         (λ x. run_items (run_call depth lent) within is (xs ++ (x ∷ [])))
         (λ x s₁ c₁ e.
-        let p : Stepped setting (names-left + length is) i A M state cells x s₁ c₁ =
-        rw e at (item_sound setting inside (run_call depth lent) (call_sound setting provides depth) (names-left + length is) state cells w z m h' a) in
+        let p : Stepped setting (names_left + length is) i A M state cells x s₁ c₁ =
+        rw e at (item_sound setting inside (run_call depth lent) (call_sound setting provides depth) (names_left + length is) state cells w z m h' a) in
         let D = p.step [] (M ++ (p.value ∷ [])) (rest s₁) s₁.fresh by_end in
-        let q = item_costs (names-left + length is) xs state cells w h' a x s₁ c₁ e D in
+        let q = item_costs (names_left + length is) xs state cells w h' a x s₁ c₁ e D in
         let n₁ : s₁.at ≤ length tokens =
         rw e at (item_bounded setting inside (run_call depth lent) (call_bounded setting provides depth) xs state cells w z n) in
         ends_map Fine (StopsAt opened (M ++ (p.value ∷ [])) is s₁) Fine (StopsAt opened M (i ∷ is) state)
         (run_items (run_call depth lent) within is (xs ++ (x ∷ [])) s₁ c₁)
-        (items_halt names-left is s₁ c₁ b zs (matches_and m p.typed) n₁ p.kept (all_and (all_later p.grown a) p.shows))
+        (items_halt names_left is s₁ c₁ b zs (matches_and m p.typed) n₁ p.kept (all_and (all_later p.grown a) p.shows))
         (λ ys s₂ c₂ u. u)
         (λ r u. (
           u.0,
@@ -204,15 +204,15 @@ module _ {g : List Production} (setting : Setting g) where
               (record { few_open = omega (arith, q.2); few_calls = omega (arith, q.0, p.kept.begun); few_rows = omega (arith, q.1, p.kept.fits) })
               (subst₂ (λ c m. Stops g spell rows tokens opened c m (M ++ (p.value ∷ [])) (rest s₁) s₁.fresh is r u.0) q.0 q.1 u.1),
         )))
-        (λ q c₁ e. rw e at (item_halts (names-left + length is) is state cells w z m n h' a))
+        (λ q c₁ e. rw e at (item_halts (names_left + length is) is state cells w z m n h' a))
 
   -- ------------------------------------------------------------------ calls
 
   module _ {lent : Input} (provides : Provides setting lent) (depth opened : ℕ) (left : suc depth + opened ≡ most_open) (halting : Halting lent depth)
-      (names-left nonterminal : ℕ) (S : Signature) (vs : List Value)
+      (names_left nonterminal : ℕ) (S : Signature) (vs : List Value)
       (xs : List ℕ) (state : State)
       (cells : List ℕ) (newest : Newest F.scope.env nonterminal S) (below : nonterminal < 64) (matches : Matches vs S.params)
-      (bounded : state.at ≤ length tokens) (kept : Kept rows names-left state cells) (show-all : ShowAll spell state.made cells xs vs) where
+      (bounded : state.at ≤ length tokens) (kept : Kept rows names_left state cells) (show_all : ShowAll spell state.made cells xs vs) where
     abbrev Goal : Result ℕ → Type 0
     Goal z = Ends Fine (EntersAt opened nonterminal vs state) z
 
@@ -225,20 +225,20 @@ module _ {g : List Production} (setting : Setting g) where
         let within = inner lent state in
         let inside = provides_inner setting provides state in
         let q = F.each p (taken_of t).member in
-        let h' : Kept rows (names-left + length p.items) (call_begun state) cells =
+        let h' : Kept rows (names_left + length p.items) (call_begun state) cells =
         record { room = kept.room; fits = kept.fits; names = omega (arith, kept.names, q.item_count); begun = omega arith } in
         let body = body_of F (taken_of t) newest in
         let K = EntersAt opened nonterminal vs state in
         after_by Fine K (run_items (run_call depth lent) within p.items xs (call_begun state) cells) (λ ys. build p.result within ys)
         (λ ys s₁ c₁ e.
-        let y : Derived setting names-left p.items p.result S.result vs (call_begun state) cells ys s₁ c₁ =
+        let y : Derived setting names_left p.items p.result S.result vs (call_begun state) cells ys s₁ c₁ =
         rw e at
-        (items_sound setting inside (run_call depth lent) (call_sound setting provides depth) names-left p.items (call_begun state) cells body
-        q.items matches h' show-all) in
+        (items_sound setting inside (run_call depth lent) (call_sound setting provides depth) names_left p.items (call_begun state) cells body
+        q.items matches h' show_all) in
         let D = y.derived in
         let z = rw e at
-        ((items_along setting D).along provides inside depth names-left p.result S.result S.params xs
-        (call_begun state) cells body refl refl h' show-all) in
+        ((items_along setting D).along provides inside depth names_left p.result S.result S.params xs
+        (call_begun state) cells body refl refl h' show_all) in
         let b₁ : s₁.at ≤ length tokens =
         rw e at
         (items_bounded setting inside (run_call depth lent) (call_bounded setting provides depth) p.items xs (call_begun state) cells body
@@ -266,9 +266,9 @@ module _ {g : List Production} (setting : Setting g) where
         (full.0, at_result {made = full.0} {v = v.0} t D A v.1 (rw u.1 full.1))))
         (λ r c₁ e.
         let x : StopsAt (opened + 1) vs p.items (call_begun state) r = rw e at
-        (items_halt provides inside depth (opened + 1) (omega (arith, left)) halting names-left p.items (call_begun state) cells body
+        (items_halt provides inside depth (opened + 1) (omega (arith, left)) halting names_left p.items (call_begun state) cells body
         q.items matches bounded h'
-        show-all) in
+        show_all) in
         (x.0, in_items deeper c t x.1))
 
     call_step : Goal (run_call (suc depth) lent nonterminal xs state cells)
@@ -334,13 +334,13 @@ module _ {g : List Production} (setting : Setting g) where
       (no_arguments setting) (omega arith)
       (record { room = room; fits = omega arith; names = omega arith; begun = omega arith }) show_none)))
     where
-      over : (row : ℕ) (state : State) (cells-after₁ : List ℕ) → run_call most_open J setting.root [] initial_state cells ≡ done row state cells-after₁
-          → Root setting cells row state cells-after₁ → state.at ≤ length tokens
-          → Ends Fine Refused (ended J row state cells-after₁)
-      over row state cells-after₁ q y b = go (ltb state.at (length tokens)) refl
+      over : (row : ℕ) (state : State) (cells_after₁ : List ℕ) → run_call most_open J setting.root [] initial_state cells ≡ done row state cells_after₁
+          → Root setting cells row state cells_after₁ → state.at ≤ length tokens
+          → Ends Fine Refused (ended J row state cells_after₁)
+      over row state cells_after₁ q y b = go (ltb state.at (length tokens)) refl
         where
           go : (test : Bool) → ltb state.at (length tokens) ≡ test
               → Ends {A = ℕ} Fine Refused
-              (elim test as (λ x. Result ℕ) [ true ↦ halt (refusal 18 state.at 0 0) cells-after₁ | false ↦ done row state cells-after₁ ])
-          go true e = leftover cells row state cells-after₁ room q y b (token_here tokens state.at (ltb-true state.at (length tokens) e))
+              (elim test as (λ x. Result ℕ) [ true ↦ halt (refusal 18 state.at 0 0) cells_after₁ | false ↦ done row state cells_after₁ ])
+          go true e = leftover cells row state cells_after₁ room q y b (token_here tokens state.at (ltb-true state.at (length tokens) e))
           go false e = tt

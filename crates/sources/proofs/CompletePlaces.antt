@@ -8,7 +8,7 @@ use native.Mathlib.Omega.{arith}
 use lib.Dec.{eqb, leb}
 use lib.ListN.{length, get_or, take, drop}
 use borrow.Author.Tests.{le-leb, eqb-true}
-use Rattle.spellings.proofs.BytesLaws.{by-test}
+use Rattle.spellings.proofs.BytesLaws.{by_test}
 use Rattle.grammar.specs.Table.{Item}
 use Rattle.grammar.specs.Values.{Field, field, templates_then, item_value, head_value}
 use Rattle.grammar.specs.Written.{WrittenResult, template, text, WrittenAlternative, WrittenDefinition, Written, result_field}
@@ -44,8 +44,8 @@ places_begun S (end at) stand begins nonterminal ps each = each
 places_begun S (cut at) stand begins nonterminal ps each = each
 places_begun S (next at tag v fs) stand begins nonterminal ps each =
     let rest = places_begun S fs stand.2 begins.1 in
-    by-test (eqb tag 4) (λ e. rw (e, places_by) (rest (get_or v 0 0) _ (each_kept (mode_of (get_or v 1 0)) (get_or v 0 0) ps each)))
-    (λ e. by-test (eqb tag 5)
+    by_test (eqb tag 4) (λ e. rw (e, places_by) (rest (get_or v 0 0) _ (each_kept (mode_of (get_or v 1 0)) (get_or v 0 0) ps each)))
+    (λ e. by_test (eqb tag 5)
     (λ f. rw (e, f, places_by)
     (rest nonterminal _
     (each_snoc each (goes_on S (at + 3 + length v) (subst (Complete S.texts) (sym stand.1) (begins.0 (eqb-true tag 5 f)))))))

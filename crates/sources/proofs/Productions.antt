@@ -4,7 +4,7 @@ use mathlib.Core.Path.{◌≡◌, refl, ap, ◌∙◌}
 use mathlib.Core.List.{List, [], ◌∷◌, ◌++◌, map}
 use lib.Dec.{eqb}
 use lib.ListN.{length, get_or}
-use Rattle.spellings.proofs.BytesLaws.{by-test}
+use Rattle.spellings.proofs.BytesLaws.{by_test}
 use Rattle.grammar.specs.Table.{Template, Mode, add, extend, update}
 use Rattle.grammar.specs.Fields.{RawFields, end, cut, next, fields_of}
 use Rattle.decoding.specs.Decode.{mode_of}
@@ -25,7 +25,7 @@ module _ (results : RawFields → Template) (bs : List ℕ) where
   unfolding places_without without
   without_there nonterminal [] = refl
   without_there nonterminal (p ∷ ps) =
-      by-test (eqb p.nonterminal nonterminal) (λ e. rw (e, places_without, without) (without_there nonterminal ps))
+      by_test (eqb p.nonterminal nonterminal) (λ e. rw (e, places_without, without) (without_there nonterminal ps))
       (λ e. rw (e, places_without, without) (ap (◌∷◌ (production_read results bs p)) (without_there nonterminal ps)))
 
   kept_there : (mode : Mode) (nonterminal : ℕ) (ps : List Place) → there (places_kept mode nonterminal ps) ≡ kept mode nonterminal (there ps)
@@ -39,11 +39,11 @@ module _ (results : RawFields → Template) (bs : List ℕ) where
   walked_there (end at) s nonterminal ps = refl
   walked_there (cut at) s nonterminal ps = refl
   walked_there (next at tag v fs) s nonterminal ps =
-      by-test (eqb tag 4)
+      by_test (eqb tag 4)
       (λ e. rw (e, places_by, normalized_with)
       (walked_there fs s.2 (get_or v 0 0) (places_kept (mode_of (get_or v 1 0)) (get_or v 0 0) ps)
       ∙ ap (normalized_with results fs (get_or v 0 0)) (kept_there (mode_of (get_or v 1 0)) (get_or v 0 0) ps)))
-      (λ e. by-test (eqb tag 5)
+      (λ e. by_test (eqb tag 5)
       (λ f. rw (e, f, places_by, normalized_with)
       (walked_there fs s.2 nonterminal (ps ++ (record { nonterminal = nonterminal; start = at + 3 + length v } ∷ []))
       ∙ ap (normalized_with results fs nonterminal)

@@ -12,7 +12,7 @@ use borrow.Author.Tests.{eqb-true, eqb-false}
 use Rattle.spellings.specs.Bytes.{same}
 use Rattle.spellings.specs.Alike.{Bytes, Alike}
 use Rattle.spellings.specs.Eights.{two_at, four_at, eight_at}
-use Rattle.spellings.proofs.BytesLaws.{by-test, differ_same, equal_same}
+use Rattle.spellings.proofs.BytesLaws.{by_test, differ_same, equal_same}
 
 -- ------------------------------------------------------------------ members that agree
 
@@ -29,7 +29,7 @@ module _ {left right : List ℕ} {count : ℕ} (alike : Alike left right count) 
   pub alike_next : get_or left count 0 ≡ get_or right count 0 → Alike left right (count + 1)
   alike_next e =
       record {
-        agree = λ place h. by-test (eqb place count) (λ t. rw (eqb-true place count t) e) (λ t. alike.agree place (omega (arith, eqb-false place count t)));
+        agree = λ place h. by_test (eqb place count) (λ t. rw (eqb-true place count t) e) (λ t. alike.agree place (omega (arith, eqb-false place count t)));
       }
 
   -- where none is left, the lists are equal

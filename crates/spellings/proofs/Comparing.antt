@@ -14,7 +14,7 @@ use Rattle.spellings.specs.Tails.{TailLeft}
 use Rattle.spellings.specs.Eights.{eight_at}
 use Rattle.spellings.specs.Compared.{pieces_from, pieces, comparisons, comparisons_of, compared}
 use Rattle.spellings.specs.declared.Comparison.{Comparison}
-use Rattle.spellings.proofs.BytesLaws.{by-test, differ_same, length_same}
+use Rattle.spellings.proofs.BytesLaws.{by_test, differ_same, length_same}
 use Rattle.spellings.proofs.AlikeLaws.{alike_start, alike_front, alike_next, alike_end, alike_same, differ_at, eight_alike, alike_eight}
 
 -- ------------------------------------------------------------------ how many comparisons
@@ -128,7 +128,7 @@ module _ (left right : List ℕ) (long : length left ≡ length right) where
       record {
         long = as_many;
         within = omega (arith, left_pieces);
-        before = record { agree = λ j l. by-test (ltb j eights) (λ t. in_eights j (ltb-true j eights t)) (λ t. in_tail j l (ltb-false j eights t)) };
+        before = record { agree = λ j l. by_test (ltb j eights) (λ t. in_eights j (ltb-true j eights t)) (λ t. in_tail j l (ltb-false j eights t)) };
         differs = λ e. d (at_place left ∙ e ∙ sym (at_place right));
       }
       ∙ omega arith
@@ -169,7 +169,7 @@ pub passing_start : {left right : List ℕ} → length left ≡ length right →
 passing_start {left} {right} long = record { long = long; within = omega arith; eights = omega arith; alike = alike_start left right }
 
 module _ {left right : List ℕ} {place : ℕ} (passing : Passing left right place) where
-  module _ (more : 8 ≤ length left - place) {one other : ℕ} (one-is : one ≡ eight_at left place) (other-is : other ≡ eight_at right place) where
+  module _ (more : 8 ≤ length left - place) {one other : ℕ} (one_is : one ≡ eight_at left place) (other_is : other ≡ eight_at right place) where
     -- one more eight agrees
     pub passing_next : Bytes left → Bytes right → one ≡ other → Passing left right (place + 8)
     passing_next lefts rights e =
@@ -177,13 +177,13 @@ module _ {left right : List ℕ} {place : ℕ} (passing : Passing left right pla
           long = passing.long;
           within = omega (arith, passing.within);
           eights = omega (arith, passing.eights);
-          alike = alike_eight left right lefts rights passing.alike (sym one-is ∙ e ∙ other-is);
+          alike = alike_eight left right lefts rights passing.alike (sym one_is ∙ e ∙ other_is);
         }
 
     -- an eight that differs is the last that is compared
     pub passing_stop : (one ≡ other → ⊥) → ◌≡◌ {A = Comparison} (record { equal = false; count = place / 8 + 1 }) (compared left right)
     passing_stop d =
-        let differs : eight_at left place ≡ eight_at right place → ⊥ = λ e. d (one-is ∙ e ∙ sym other-is) in
+        let differs : eight_at left place ≡ eight_at right place → ⊥ = λ e. d (one_is ∙ e ∙ sym other_is) in
         answer_is (sym (differ_same left right (λ e. differs (ap (λ s. eight_at s place) e))))
         (sym
         (stop_eight left right passing.long (place / 8) (omega (arith, passing.within)) (rw (← passing.eights) passing.alike)

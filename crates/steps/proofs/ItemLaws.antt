@@ -67,12 +67,12 @@ module _ (kind operand : ℕ) (ts : Templates) where
       value-is : value ≡ (next_token input state).value
       value-is = rw (sym et) at ev
 
-      retaken : (token-kind taken-value : ℕ) (value_of_lem : ℕ → ℕ) → taken-value ≡ value_of_lem (next_token input state).value
-          → Expansion.take_token input token-kind (λ x. taken-value) state cells ≡ Expansion.take_token input token-kind value_of_lem state cells
-      retaken token-kind taken-value value_of_lem e =
+      retaken : (token_kind taken_value : ℕ) (value_of_lem : ℕ → ℕ) → taken_value ≡ value_of_lem (next_token input state).value
+          → Expansion.take_token input token_kind (λ x. taken_value) state cells ≡ Expansion.take_token input token_kind value_of_lem state cells
+      retaken token_kind taken_value value_of_lem e =
           ap
           (λ (x : ℕ).
-          elim (eqb (next_token input state).kind token-kind) [ true ↦ done x (token_taken state) cells | false ↦ misfit (only token-kind) state cells ])
+          elim (eqb (next_token input state).kind token_kind) [ true ↦ done x (token_taken state) cells | false ↦ misfit (only token_kind) state cells ])
           e
 
       -- Kind 5: a pattern place.

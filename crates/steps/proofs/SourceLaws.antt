@@ -20,7 +20,7 @@ use Rattle.decoding.specs.Decode.{item_of}
 use Rattle.productions.specs.Index.{items_of, result_of, Place, places_of, production_at, productions_at}
 use Rattle.productions.specs.Normal.{Production}
 use Rattle.decoding.specs.Within.{Each, each_none, each_more}
-use Rattle.spellings.proofs.BytesLaws.{by-test}
+use Rattle.spellings.proofs.BytesLaws.{by_test}
 use Rattle.templates.specs.Built.{Ahead, template_at}
 use Rattle.steps.specs.HeldTexts.{text_at, TextHangs}
 use Rattle.steps.specs.Source.{Source, source, result_in, alternative_at, production_from, productions_from, IsResult, Complete, size_at, GoesOn}
@@ -192,7 +192,7 @@ unfolding Complete result_in result_of
 plain_result (end at) c = refl
 plain_result (cut at) c = refl
 plain_result (next at tag v fs) c =
-    by-test (eqb tag 6) (λ e. rw (e, result_in, result_of) (plain_result fs (rw (e, Complete) at c).1)) (λ e. plain e (rw (e, Complete) at c))
+    by_test (eqb tag 6) (λ e. rw (e, result_in, result_of) (plain_result fs (rw (e, Complete) at c).1)) (λ e. plain e (rw (e, Complete) at c))
   where
     plain : eqb tag 6 ≡ false → IsResult [] at tag v → result_in [] (next at tag v fs) ≡ result_of (next at tag v fs)
     plain e (inl seven) = rw (e, ne_eqb tag 9 (λ n. omega (arith, n, seven.0)), result_in) refl

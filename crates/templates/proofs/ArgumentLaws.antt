@@ -7,7 +7,7 @@ use native.Mathlib.Omega.{arith}
 use lib.Dec.{ltb}
 use lib.ListN.{length, get_or, drop, drop_of_length-le}
 use lib.Seq.{drop-cons}
-use Rattle.spellings.proofs.BytesLaws.{by-test}
+use Rattle.spellings.proofs.BytesLaws.{by_test}
 use Rattle.grammar.specs.Sorts.{arity}
 use Rattle.grammar.specs.SortTests.{is_constructor}
 use Rattle.grammar.specs.Table.{Template, Templates, variable, none, more}
@@ -50,9 +50,9 @@ some_constructed code (parsed ts) = some_applied code (take_templates (arity cod
 
 some_byte : (byte : ℕ) (read : ReadTemplates) → Some (byte_in_front byte read)
 some_byte byte read =
-    by-test (ltb byte 0x10) (λ e. subst⁻¹ Some (variable_first byte read e) (some_front (variable byte) read))
+    by_test (ltb byte 0x10) (λ e. subst⁻¹ Some (variable_first byte read e) (some_front (variable byte) read))
     (λ e.
-    by-test (is_constructor byte) (λ k. subst⁻¹ Some (constructor_first byte read e k) (some_constructed byte read))
+    by_test (is_constructor byte) (λ k. subst⁻¹ Some (constructor_first byte read e k) (some_constructed byte read))
     (λ k. subst⁻¹ Some (unknown_first byte read e k) tt))
 
 some_name : (byte : ℕ) (bs : List ℕ) → is_name_tag byte ≡ true → Some (templates_of (byte ∷ bs))
@@ -61,7 +61,7 @@ some_name byte (n ∷ bs) e = subst⁻¹ Some (name_first byte n bs e) (some_fro
 
 some_read : (byte : ℕ) (bs : List ℕ) → Some (templates_of (byte ∷ bs))
 some_read byte bs =
-    by-test (is_name_tag byte) (some_name byte bs) (λ e. subst⁻¹ Some (byte_first byte bs e) (some_byte byte (templates_of bs)))
+    by_test (is_name_tag byte) (some_name byte bs) (λ e. subst⁻¹ Some (byte_first byte bs e) (some_byte byte (templates_of bs)))
 
 -- the first template, where bytes are left
 abbrev pub First : List ℕ → ℕ → Templates → Type 0
@@ -80,18 +80,18 @@ first_of bytes at ts h e =
 
 -- ------------------------------------------------------------------ one by one
 
--- `given-count` values are listed, and the templates ahead give with them what all give
-pub record Listing (bytes : List ℕ) (start : ℕ) (env : List ℕ) (m : Making) (cells₀ out cells : List ℕ) (at given-count count : ℕ) : Type 0 where
+-- `given_count` values are listed, and the templates ahead give with them what all give
+pub record Listing (bytes : List ℕ) (start : ℕ) (env : List ℕ) (m : Making) (cells₀ out cells : List ℕ) (at given_count count : ℕ) : Type 0 where
   -- each value took a byte at least
-  pub small : given-count + start ≤ at
+  pub small : given_count + start ≤ at
   -- there are no more values than bytes
-  pub few : given-count ≤ length bytes
+  pub few : given_count ≤ length bytes
   -- the cells are as many as before
   pub as_long : length cells ≡ length cells₀
   -- the values listed
   pub given : List ℕ
   -- they stand in the array
-  pub holds : Holds out given-count given
+  pub holds : Holds out given_count given
   -- the templates left
   pub ahead : Templates
   -- they are read at the offset
@@ -130,8 +130,8 @@ listing_start bytes start env m cells out l w =
 abbrev pub further : Making → ℕ → Making
 further m count = record { count = m.count; rows = m.rows; made = count }
 
-module _ {bytes : List ℕ} {start : ℕ} {env : List ℕ} {m : Making} {cells₀ out cells : List ℕ} {at given-count count : ℕ}
-    (listing : Listing bytes start env m cells₀ out cells at given-count count) where
+module _ {bytes : List ℕ} {start : ℕ} {env : List ℕ} {m : Making} {cells₀ out cells : List ℕ} {at given_count count : ℕ}
+    (listing : Listing bytes start env m cells₀ out cells at given_count count) where
   module _ (less : at < length bytes) where
     -- a template stands ahead
     pub listing_first : First bytes at listing.ahead
@@ -151,23 +151,23 @@ module _ {bytes : List ℕ} {start : ℕ} {env : List ℕ} {m : Making} {cells�
         )
 
     -- what `build` ensures of one template
-    module _ (cells' : List ℕ) (given-built : Built) (builds : Builds bytes at env (further m count) cells given-built cells') where
+    module _ (cells' : List ℕ) (given_built : Built) (builds : Builds bytes at env (further m count) cells given_built cells') where
       -- no row is left: refusal 21
-      pub listing_full : given-built ≡ Full → (input : Input) (state : State) (values : List ℕ) → input.rows ≡ m.rows → Holds env m.count values
+      pub listing_full : given_built ≡ Full → (input : Input) (state : State) (values : List ℕ) → input.rows ≡ m.rows → Holds env m.count values
           → Lists state Overfull out cells' (build_all (found (templates_of (drop start bytes))) input values (with_made state m.made) cells₀)
       listing_full er input state values e g =
           sym (listing_one (built state Full cells') input state values e g (cc (builds.evaluates input state values e g)))
 
       -- a template takes a byte at least
-      pub listing_less : {row after' made' : ℕ} → given-built ≡ Made row after' made' → length bytes - after' < length bytes - at
+      pub listing_less : {row after' made' : ℕ} → given_built ≡ Made row after' made' → length bytes - after' < length bytes - at
       listing_less {row} {after'} {made'} er =
           let q : Behind bytes at (Made row after' made') = subst (Behind bytes at) er builds.behind in
           omega (arith, q.0, q.1)
 
       -- one template more is built
-      pub listing_next : {row after' made' : ℕ} → length cells' ≡ length cells → given-built ≡ Made row after' made' → (out' : List ℕ)
-          → ((values : List ℕ) → Holds out given-count values → Holds out' (given-count + 1) (values ++ (row ∷ [])))
-          → Listing bytes start env m cells₀ out' cells' after' (given-count + 1) made'
+      pub listing_next : {row after' made' : ℕ} → length cells' ≡ length cells → given_built ≡ Made row after' made' → (out' : List ℕ)
+          → ((values : List ℕ) → Holds out given_count values → Holds out' (given_count + 1) (values ++ (row ∷ [])))
+          → Listing bytes start env m cells₀ out' cells' after' (given_count + 1) made'
       listing_next {row} {after'} {made'} el er out' put =
           let q : Behind bytes at (Made row after' made') = subst (Behind bytes at) er builds.behind in
           record {
@@ -196,13 +196,13 @@ module _ {bytes : List ℕ} {start : ℕ} {env : List ℕ} {m : Making} {cells�
       leaf_less = listing_less cells (Made row next count) leaf refl
 
       -- its value is one more
-      pub leaf_next : (out' : List ℕ) → ((values : List ℕ) → Holds out given-count values → Holds out' (given-count + 1) (values ++ (row ∷ [])))
-          → Listing bytes start env m cells₀ out' cells next (given-count + 1) count
+      pub leaf_next : (out' : List ℕ) → ((values : List ℕ) → Holds out given_count values → Holds out' (given_count + 1) (values ++ (row ∷ [])))
+          → Listing bytes start env m cells₀ out' cells next (given_count + 1) count
       leaf_next = listing_next cells (Made row next count) leaf refl refl
 
   -- all templates are built
   pub listing_end : length bytes ≤ at → (input : Input) (state : State) (values : List ℕ) → input.rows ≡ m.rows → Holds env m.count values
-      → Lists state (Listed given-count count) out cells (build_all (found (templates_of (drop start bytes))) input values (with_made state m.made) cells₀)
+      → Lists state (Listed given_count count) out cells (build_all (found (templates_of (drop start bytes))) input values (with_made state m.made) cells₀)
   unfolding build_all templates_of
   listing_end h input state values e g =
       let d : drop at bytes ≡ [] = drop_of_length-le bytes {i = at} h in

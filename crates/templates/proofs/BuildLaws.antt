@@ -46,22 +46,22 @@ node_head {bytes} {at} ahead {byte} eb h small =
 
 -- a variable, or an outside name
 pub variable_head : {bytes : List ℕ} {at : ℕ} (ahead : Ahead bytes at) {byte : ℕ} → byte ≡ get_or bytes at 0 → byte < 16
-    → {env : List ℕ} {variables made-value : ℕ} → ((values : List ℕ) → Holds env variables values → made-value ≡ get_or values byte 0)
-    → ((values : List ℕ) → Holds env variables values → HeadValue bytes at values (Leaf made-value (at + 1))) × Past bytes at (at + 1)
-variable_head {bytes} {at} ahead eb h {env} {variables} {made-value} f =
-    let q = behind_variable bytes at ahead eb h made-value 0 in (
-      λ M g I s cells. sym (variable_built bytes at ahead eb h env variables made-value f I.rows s.made cells I s M refl g),
+    → {env : List ℕ} {variables made_value : ℕ} → ((values : List ℕ) → Holds env variables values → made_value ≡ get_or values byte 0)
+    → ((values : List ℕ) → Holds env variables values → HeadValue bytes at values (Leaf made_value (at + 1))) × Past bytes at (at + 1)
+variable_head {bytes} {at} ahead eb h {env} {variables} {made_value} f =
+    let q = behind_variable bytes at ahead eb h made_value 0 in (
+      λ M g I s cells. sym (variable_built bytes at ahead eb h env variables made_value f I.rows s.made cells I s M refl g),
       record { less = q.0; inside = q.1; read = q.2 },
     )
 
 -- a byte 0x10 to 0x1f and the next one are a name
 pub name_head : {bytes : List ℕ} {at : ℕ} (ahead : Ahead bytes at) {byte : ℕ} → byte ≡ get_or bytes at 0 → 16 ≤ byte → byte < 32 → {number : ℕ}
-    → number ≡ get_or bytes (at + 1) 0 → {made-value : ℕ}
+    → number ≡ get_or bytes (at + 1) 0 → {made_value : ℕ}
     → ((input : Input) (values : List ℕ) (state : State) (cells : List ℕ) → build (name_by (eqb byte 0x10) number) input values state cells
-    ≡ done made-value state cells) → {env : List ℕ} {variables : ℕ}
-    → ((values : List ℕ) → Holds env variables values → HeadValue bytes at values (Leaf made-value (at + 2))) × Past bytes at (at + 2)
-name_head {bytes} {at} ahead eb low high en {made-value} f =
-    let q = behind_name bytes at ahead eb low high en made-value 0 in (
+    ≡ done made_value state cells) → {env : List ℕ} {variables : ℕ}
+    → ((values : List ℕ) → Holds env variables values → HeadValue bytes at values (Leaf made_value (at + 2))) × Past bytes at (at + 2)
+name_head {bytes} {at} ahead eb low high en {made_value} f =
+    let q = behind_name bytes at ahead eb low high en made_value 0 in (
       λ M g I s cells. cc (at_name bytes at ahead eb low high en, f I M s cells),
       record { less = q.0; inside = q.1; read = q.2 },
     )
@@ -167,20 +167,20 @@ pub record Looping (whole : Whole) (turn : Turn) (needed : ℕ) : Type 0 where
 
 -- the outermost constructor is open
 pub building_start : {bytes : List ℕ} {from code : ℕ} (takes : Takes bytes from code) (env : List ℕ) (m : Making) (cells stack : List ℕ)
-    {packed-head needed : ℕ} → length bytes ≤ length stack
-    → packed-head ≡ code + 256 * 0
+    {packed_head needed : ℕ} → length bytes ≤ length stack
+    → packed_head ≡ code + 256 * 0
     → needed ≡ arity code
     → Looping
-    (record { v = bytes; from = from; env = env; m = m; cells = cells; size = length (set stack 0 packed-head) })
-    (record { cells = cells; stack = set stack 0 packed-head; at = from + 1; made = m.made; pos = 1; top = 1 })
+    (record { v = bytes; from = from; env = env; m = m; cells = cells; size = length (set stack 0 packed_head) })
+    (record { cells = cells; stack = set stack 0 packed_head; at = from + 1; made = m.made; pos = 1; top = 1 })
     needed
 unfolding lefts Filling resume
-building_start {bytes} {from} {code} takes env m cells stack {packed-head} {needed} h ew en =
+building_start {bytes} {from} {code} takes env m cells stack {packed_head} {needed} h ew en =
     record {
       building = record {
         as_long = refl;
         stack_long = refl;
-        wide = omega (arith, length-set stack 0 packed-head);
+        wide = omega (arith, length-set stack 0 packed_head);
         past = omega arith;
         inside = omega (arith, takes.inside);
         inner = opened code takes.own;
@@ -217,20 +217,20 @@ building_pos c =
     (omega (arith, c.stands.pos_is), omega (arith, t), omega (arith, c.stands.fits, c.stack_long))
 
 -- the number of the innermost constructor is read, with its code
-pub record Looked {whole : Whole} {turn : Turn} (building : Building whole turn) (packed-head code : ℕ) : Type 0 where
+pub record Looked {whole : Whole} {turn : Turn} (building : Building whole turn) (packed_head code : ℕ) : Type 0 where
   -- the number read is the one below the arguments
-  pub number : packed-head ≡ get_or turn.stack (turn.pos - 1) 0
+  pub number : packed_head ≡ get_or turn.stack (turn.pos - 1) 0
   -- its low byte is the code
-  pub code_is : code ≡ packed-head % 256
+  pub code_is : code ≡ packed_head % 256
 
-module _ {whole : Whole} {turn : Turn} {building : Building whole turn} {packed-head code : ℕ} (looked : Looked building packed-head code) where
-  number_is : packed-head ≡ building.inner.code + 256 * place building.around
+module _ {whole : Whole} {turn : Turn} {building : Building whole turn} {packed_head code : ℕ} (looked : Looked building packed_head code) where
+  number_is : packed_head ≡ building.inner.code + 256 * place building.around
   number_is = looked.number ∙ stands_number building.stands
 
   its_code : code ≡ building.inner.code
   its_code = omega (arith, number_is, looked.code_is, building.small)
 
-  its_place : packed-head / 256 ≡ place building.around
+  its_place : packed_head / 256 ≡ place building.around
   its_place = omega (arith, number_is, building.small)
 
   -- the loop goes on with a constructor whose code is read
@@ -286,31 +286,31 @@ module _ {whole : Whole} {turn : Turn} {needed : ℕ} (looping : Looping whole t
         )
 
     -- it begins with a value
-    pub building_leaf : (head : Head) {made-value next : ℕ} → head ≡ Leaf made-value next
+    pub building_leaf : (head : Head) {made_value next : ℕ} → head ≡ Leaf made_value next
         → ((values : List ℕ) → Holds whole.env whole.m.count values → HeadValue whole.v turn.at values head)
         → Heads whole.v turn.at head
         → Looping whole
-        (record { cells = turn.cells; stack = set turn.stack turn.top made-value; at = next; made = turn.made; pos = turn.pos; top = turn.top + 1 })
+        (record { cells = turn.cells; stack = set turn.stack turn.top made_value; at = next; made = turn.made; pos = turn.pos; top = turn.top + 1 })
         needed
-    building_leaf head {made-value} {next} er l hd =
+    building_leaf head {made_value} {next} er l hd =
         let q : Past whole.v turn.at next = subst (Heads whole.v turn.at) er hd in
         record {
           building = record {
             as_long = c.as_long;
-            stack_long = length-set turn.stack turn.top made-value ∙ c.stack_long;
+            stack_long = length-set turn.stack turn.top made_value ∙ c.stack_long;
             wide = c.wide;
             past = omega (arith, c.past, q.less);
             inside = q.inside;
-            inner = fed c.inner made-value next-left.1;
+            inner = fed c.inner made_value next-left.1;
             around = c.around;
-            stands = stands_fed c.stands building_inside made-value next-left.1;
+            stands = stands_fed c.stands building_inside made_value next-left.1;
             many = simp length-append (omega (arith, one_counted));
             small = c.small;
             filling = c.filling;
             read = q.read ∙ ap parsed (others_are whole.v turn.at building_ahead);
             rest =
                 λ I s M e g.
-                sym (takes_value I M (waits c.inner next-left.1) (with_made s turn.made) turn.cells c.around made-value)
+                sym (takes_value I M (waits c.inner next-left.1) (with_made s turn.made) turn.cells c.around made_value)
                 ∙ ap (resume I M later) (sym (subst (HeadValue whole.v turn.at M) er (l M g) I (with_made s turn.made) turn.cells))
                 ∙ waiting I s M e g;
           };
@@ -318,14 +318,14 @@ module _ {whole : Whole} {turn : Turn} {needed : ℕ} (looping : Looping whole t
         }
 
     -- it is a constructor
-    pub building_node : (head : Head) {byte : ℕ} → head ≡ Node byte → Heads whole.v turn.at head → {packed-head' : ℕ}
-        → packed-head' ≡ byte + 256 * turn.pos
+    pub building_node : (head : Head) {byte : ℕ} → head ≡ Node byte → Heads whole.v turn.at head → {packed_head' : ℕ}
+        → packed_head' ≡ byte + 256 * turn.pos
         → {needed' : ℕ}
         → needed' ≡ arity byte
         → Looping whole
         (record {
           cells = turn.cells;
-          stack = set turn.stack turn.top packed-head';
+          stack = set turn.stack turn.top packed_head';
           at = turn.at + 1;
           made = turn.made;
           pos = turn.top + 1;
@@ -333,12 +333,12 @@ module _ {whole : Whole} {turn : Turn} {needed : ℕ} (looping : Looping whole t
         })
         needed'
     unfolding lefts Filling
-    building_node head {byte} er hd {packed-head'} ew' en =
+    building_node head {byte} er hd {packed_head'} ew' en =
         let q : Takes whole.v turn.at byte = subst (Heads whole.v turn.at) er hd in
         record {
           building = record {
             as_long = c.as_long;
-            stack_long = length-set turn.stack turn.top packed-head' ∙ c.stack_long;
+            stack_long = length-set turn.stack turn.top packed_head' ∙ c.stack_long;
             wide = c.wide;
             past = omega (arith, c.past);
             inside = omega (arith, q.inside);
@@ -489,11 +489,11 @@ pub node_takes : {bytes : List ℕ} {at byte : ℕ} (head : Head) → head ≡ N
 node_takes {bytes} {at} head e h = subst (Heads bytes at) e h
 
 -- a template with no argument is built at once
-pub leaf_built : (bytes : List ℕ) (at : ℕ) {env : List ℕ} (m : Making) {made-value next : ℕ} (head : Head) → head ≡ Leaf made-value next
+pub leaf_built : (bytes : List ℕ) (at : ℕ) {env : List ℕ} (m : Making) {made_value next : ℕ} (head : Head) → head ≡ Leaf made_value next
     → ((values : List ℕ) → Holds env m.count values → HeadValue bytes at values head)
     → Heads bytes at head
     → (cells : List ℕ)
-    → Builds bytes at env m cells (Made made-value next m.made) cells
+    → Builds bytes at env m cells (Made made_value next m.made) cells
 leaf_built bytes at m {next = next} head e l h cells =
     let q : Past bytes at next = subst (Heads bytes at) e h in
     record {
@@ -502,5 +502,5 @@ leaf_built bytes at m {next = next} head e l h cells =
     }
 
 -- it takes a byte at least
-pub leaf_past : {bytes : List ℕ} {at made-value next : ℕ} (head : Head) → head ≡ Leaf made-value next → Heads bytes at head → Past bytes at next
+pub leaf_past : {bytes : List ℕ} {at made_value next : ℕ} (head : Head) → head ≡ Leaf made_value next → Heads bytes at head → Past bytes at next
 leaf_past {bytes} {at} head e h = subst (Heads bytes at) e h

@@ -224,14 +224,14 @@ module _ {stack : List ℕ} {pos top : ℕ} {pending : Pending} {ps : List Pendi
         }
 
     -- one constructor more
-    pub stands_opened : {packed-head code : ℕ} → packed-head ≡ code + 256 * pos → (us ts : Templates)
-        → Stands (set stack top packed-head) (top + 1) (top + 1) (opened code ts) (waits pending us ∷ ps)
+    pub stands_opened : {packed_head code : ℕ} → packed_head ≡ code + 256 * pos → (us ts : Templates)
+        → Stands (set stack top packed_head) (top + 1) (top + 1) (opened code ts) (waits pending us ∷ ps)
     unfolding place image
-    stands_opened {packed-head} {code} e us ts =
+    stands_opened {packed_head} {code} e us ts =
         record {
-          fits = omega (arith, length-set stack top packed-head);
+          fits = omega (arith, length-set stack top packed_head);
           held =
-              cc (one_more packed-head, stands.pos_is, image_opened pending ps code us ts);
+              cc (one_more packed_head, stands.pos_is, image_opened pending ps code us ts);
           pos_is = cc (length-take-le top stack stands.fits, stands.held);
         }
 
@@ -245,12 +245,12 @@ stands_closed {stack} {pos} {top} {pending} {other} {qs} h row =
     rw z at (stands_fed around (omega (arith, stands_top h, place_is h, h.fits)) row other.left)
 
 -- the first constructor
-pub stands_start : (stack : List ℕ) → 0 < length stack → {packed-head code : ℕ} → packed-head ≡ code + 256 * 0 → (ts : Templates)
-    → Stands (set stack 0 packed-head) 1 1 (opened code ts) []
+pub stands_start : (stack : List ℕ) → 0 < length stack → {packed_head code : ℕ} → packed_head ≡ code + 256 * 0 → (ts : Templates)
+    → Stands (set stack 0 packed_head) 1 1 (opened code ts) []
 unfolding image place
-stands_start stack h {packed-head} {code} e ts =
+stands_start stack h {packed_head} {code} e ts =
     record {
-      fits = omega (arith, length-set stack 0 packed-head);
-      held = cc (take-suc-set stack 0 packed-head h);
+      fits = omega (arith, length-set stack 0 packed_head);
+      held = cc (take-suc-set stack 0 packed_head h);
       pos_is = refl;
     }

@@ -10,7 +10,7 @@ use lib.Dec.{eqb}
 use lib.ListN.{length, get_or, drop, drop_of_length-le}
 use lib.Seq.{drop-cons}
 use borrow.Author.Tests.{lt-ltb, le-ltb, lt-leb, ne_eqb}
-use Rattle.spellings.proofs.BytesLaws.{by-test}
+use Rattle.spellings.proofs.BytesLaws.{by_test}
 use Rattle.grammar.specs.Sorts.{arity}
 use Rattle.grammar.specs.SortTests.{is_constructor}
 use Rattle.grammar.specs.Table.{Template, Templates, variable, make, more}
@@ -118,7 +118,7 @@ module _ (bytes : List ℕ) (at : ℕ) (ahead : Ahead bytes at) where
 
     -- a constructor
     pub makes : 32 ≤ byte → Makes byte (templates_of (drop (at + 1) bytes)) ahead.template ahead.others
-    makes h = by-test (is_constructor byte) known (λ c. absurd (unknown c))
+    makes h = by_test (is_constructor byte) known (λ c. absurd (unknown c))
       where
         other : templates_of (byte ∷ drop (at + 1) bytes) ≡ byte_in_front byte (templates_of (drop (at + 1) bytes))
         other = byte_first byte (drop (at + 1) bytes) (no_name byte (λ e. omega arith) (λ e. omega arith))
@@ -140,7 +140,7 @@ module _ (bytes : List ℕ) (at : ℕ) (ahead : Ahead bytes at) where
 
       name_tag : (bs : List ℕ) → templates_of (byte ∷ bs) ≡ parsed (more ahead.template ahead.others) → is_name_tag byte ≡ true
       name_tag bs e =
-          by-test (is_name_tag byte) (λ t. t)
+          by_test (is_name_tag byte) (λ t. t)
           (λ f.
           absurd
           (fault_read ahead.template ahead.others
@@ -178,18 +178,18 @@ module _ (bytes : List ℕ) (at : ℕ) (ahead : Ahead bytes at) where
 -- ------------------------------------------------------------------ the arguments of a constructor, one by one
 
 -- values that are given, and those of the templates ahead, handed on together
-module _ {B : Type 0} (then-run : List ℕ → Run B) (given : List ℕ) where
+module _ {B : Type 0} (then_run : List ℕ → Run B) (given : List ℕ) where
   -- values in front of others, grouped in another way
   pub regroup : (row : ℕ) (result : Result (List ℕ))
-      → after result (λ ys. then-run ((given ++ (row ∷ [])) ++ ys)) ≡ after (after result (λ ys. return (row ∷ ys))) (λ ys. then-run (given ++ ys))
+      → after result (λ ys. then_run ((given ++ (row ∷ [])) ++ ys)) ≡ after (after result (λ ys. return (row ∷ ys))) (λ ys. then_run (given ++ ys))
   regroup row (done ys s cs) = cc (append_assoc given (row ∷ []) ys)
   regroup row (halt r cs) = refl
 
   -- a template is built, and then the others
   pub first_built : (input : Input) (values : List ℕ) (template : Template) (ts : Templates) (result : Result ℕ) (state : State) (cells : List ℕ)
       → result ≡ build template input values state cells
-      → after (after result (λ x. build_all ts input values >>= λ ys. return (x ∷ ys))) (λ ys. then-run (given ++ ys))
-      ≡ after (build_all (more template ts) input values state cells) (λ ys. then-run (given ++ ys))
+      → after (after result (λ x. build_all ts input values >>= λ ys. return (x ∷ ys))) (λ ys. then_run (given ++ ys))
+      ≡ after (build_all (more template ts) input values state cells) (λ ys. then_run (given ++ ys))
   unfolding build build_all
   first_built input values template ts result state cells h =
       cc

@@ -8,7 +8,7 @@ use native.Mathlib.Nat.{zero-add}
 use native.Mathlib.Numerals.{add-one}
 use native.Mathlib.Omega.{arith}
 use Rattle.spellings.specs.Bytes.{same}
-use Rattle.spellings.proofs.BytesLaws.{by-test, same_true, same_refl}
+use Rattle.spellings.proofs.BytesLaws.{by_test, same_true, same_refl}
 use Rattle.terms.specs.Term.{Term, Fields, variable, function, apply, rcd, dot, number, nil, cons, size, size_fields}
 use Rattle.terms.specs.Loose.{Walk, loose, reached, and_then}
 use Rattle.terms.specs.Labels.{is_among, label_walk, label_walk_fields}
@@ -21,7 +21,7 @@ among_stood : (label : List ℕ) (earlier : List (List ℕ)) → is_among label 
 unfolding is_among
 among_stood label [] h = absurd (false≢true h)
 among_stood label (m ∷ ms) h =
-    by-test (same label m) (λ e. rw (sym (same_true label m e)) stood_last) (λ e. stood_before (among_stood label ms (rw e at h)))
+    by_test (same label m) (λ e. rw (sym (same_true label m e)) stood_last) (λ e. stood_before (among_stood label ms (rw e at h)))
 
 stood_among : {label : List ℕ} {earlier : List (List ℕ)} → Stood label earlier → is_among label earlier ≡ true
 unfolding is_among
@@ -127,7 +127,7 @@ mutual
       → Says (λ q. RepeatedAtFields earlier p f q) end (label_walk_fields earlier p f)
   says_fields earlier p end nil e = rw (← e, add-one) (nowhere (λ r h. inside_fields h))
   says_fields earlier p end (cons l t f) e =
-      by-test (is_among l earlier)
+      by_test (is_among l earlier)
       (λ a. rw a (lowest (this_one (among_stood l earlier a)) (λ r h. (within_fields h).0)))
       (λ n.
       rw n

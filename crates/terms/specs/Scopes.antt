@@ -68,6 +68,6 @@ numbered_from c (b ∷ bs) =
 -- Variable by variable from the left: one that has no binder by origin is printed as written.
 pub data UnboundAsWritten : List Occurrence → List (List ℕ) → Type 0 where
   no_variable : UnboundAsWritten [] []
-  next-variable :
+  next_variable :
       {o : Occurrence} {x : List ℕ} {os : List Occurrence} {xs : List (List ℕ)}
       → (o.owner ≡ unbound → x ≡ written o.name) → UnboundAsWritten os xs → UnboundAsWritten (o ∷ os) (x ∷ xs)

@@ -65,8 +65,8 @@ module _ {N : ℕ} {L : List ℕ} (few : N ≤ name_base) (short : length L ≤ 
         ∙ ap (λ code. make code (column_templates (constructor code).params (λ q. row_template k cells q) cells row 1)) e
         ∙ ap (make c) (columns_back ts {row = row} {depth = k} (omega arith) (omega arith) cs w)
 
-    columns_back : (ts : Templates) {row depth column-number : ℕ} {Bs : List ℕ} → row ≤ depth → depth ≤ name_base → ColumnsShow cells row column-number ts
-        → Fill N L ts Bs → column_templates Bs (λ q. row_template depth cells q) cells row column-number ≡ ts
+    columns_back : (ts : Templates) {row depth column_number : ℕ} {Bs : List ℕ} → row ≤ depth → depth ≤ name_base → ColumnsShow cells row column_number ts
+        → Fill N L ts Bs → column_templates Bs (λ q. row_template depth cells q) cells row column_number ≡ ts
     columns_back none l d no_column fill_none = refl
     columns_back (more t ts) {depth = depth} l d (one_column h e s cs) (fill_more {B = B} w f ws) =
         ap₂ more (ap (λ y. value_template B (λ q. row_template depth cells q) y) e ∙ read_back t l d s w f) (columns_back ts l d cs ws)

@@ -7,7 +7,7 @@ use native.Mathlib.Omega.{arith}
 use lib.Dec.{eqb}
 use lib.ListN.{drop}
 use borrow.Author.Tests.{eqb-false, ne_eqb}
-use Rattle.spellings.proofs.BytesLaws.{by-test}
+use Rattle.spellings.proofs.BytesLaws.{by_test}
 use Rattle.kinds.specs.Kinds.{word_kind, number_kind, keyword_kind, no_kind}
 use Rattle.kinds.specs.TextKinds.{variable_kind, outside_kind, sort_of_kind}
 use Rattle.grammar.specs.Limits.{most}
@@ -83,7 +83,7 @@ ide_leaf (suc (suc (suc (suc B)))) l h = absurd (omega arith)
 
 -- a variable is no row, at any sort
 no_row : (sort x : ℕ) → is_variable_name x ≡ true → is_row_at sort x ≡ false
-no_row sort x e = by-test (is_row_sort sort) (λ r. rw (r, e) refl) (λ r. rw r refl)
+no_row sort x e = by_test (is_row_sort sort) (λ r. rw (r, e) refl) (λ r. rw r refl)
 
 variable_leaf : {cells : List ℕ} {made B x : ℕ} → is_variable_name x ≡ true → ShowsSize cells made B x 0
 variable_leaf {B = B} {x = x} e = size_leaf {sort = B} {x = x} (no_row B x e)
@@ -106,7 +106,7 @@ module _ (N : ℕ) (binders : Bool) (tokens : List Token) (rows : ℕ) (known : 
       → Ends (Step (loose_values N binders) tokens rows (terminal (ide B)) B s cells) Any (take_terminal input (ide B) s cells)
   unfolding rows_of
   ide_ends B l h s cells kept =
-      by-test (meets_ide (next_token input s).kind B)
+      by_test (meets_ide (next_token input s).kind B)
       (λ e.
       subst⁻¹ (Ends (Step (loose_values N binders) tokens rows (terminal (ide B)) B s cells) Any) (terminal_met input (ide B) s cells e)
       (found (meets_rule (next_token input s).kind B e)))
@@ -178,7 +178,7 @@ module _ (N : ℕ) (binders : Bool) (tokens : List Token) (rows : ℕ) (known : 
       → (B ≡ binder → binders ≡ true) → (x : ℕ) × (take_terminal input (ide B) s cells ≡ done x (token_taken s) cells)
   word_taken B s cells {t} e w h = by binders refl
     where
-      by : (given-binders : Bool) → binders ≡ given-binders → (x : ℕ) × (take_terminal input (ide B) s cells ≡ done x (token_taken s) cells)
+      by : (given_binders : Bool) → binders ≡ given_binders → (x : ℕ) × (take_terminal input (ide B) s cells ≡ done x (token_taken s) cells)
       by true q =
           let k : (next_token input s).kind ≡ word_kind = next_kind_lem s e ∙ ap (λ b. (seen b t).kind) q ∙ w in (
             read_value (ide B) (next_token input s).value,

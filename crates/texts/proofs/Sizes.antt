@@ -8,7 +8,7 @@ use native.Mathlib.Omega.{arith}
 use lib.Dec.{eqb}
 use lib.ListN.{length, get_or, length-append}
 use lib.Seq.{get_or_at}
-use Rattle.spellings.proofs.BytesLaws.{by-test}
+use Rattle.spellings.proofs.BytesLaws.{by_test}
 use Rattle.grammar.specs.Sorts.{unit, var, binder, constructor}
 use Rattle.grammar.specs.Table.{Template, Templates, variable, outside_var, outside_label, make, none, more}
 use Rattle.grammar.specs.Table as Table
@@ -92,11 +92,11 @@ size_bound (show_more h hs) (has_later k) = size_bound hs k
 leaf_size : (rows : ℕ → Template) (sort x : ℕ) → is_row_at sort x ≡ false → rows_of (value_template sort rows x) ≡ 0
 unfolding rows_of
 leaf_size rows sort x e =
-    by-test (is_variable_name x) (λ v. ap rows_of (at_variable rows sort x v))
+    by_test (is_variable_name x) (λ v. ap rows_of (at_variable rows sort x v))
     (λ v.
     let r = no_row_sort sort x e v in
-    by-test (eqb sort var || eqb sort binder) (λ n. ap rows_of (at_name rows sort x v r n))
-    (λ n. by-test (eqb sort unit) (λ u. ap rows_of (at_unit rows sort x v r n u)) (λ u. ap rows_of (at_plain rows sort x v r n u))))
+    by_test (eqb sort var || eqb sort binder) (λ n. ap rows_of (at_name rows sort x v r n))
+    (λ n. by_test (eqb sort unit) (λ u. ap rows_of (at_unit rows sort x v r n u)) (λ u. ap rows_of (at_plain rows sort x v r n u))))
 
 module _ (cells : List ℕ) where
   mutual

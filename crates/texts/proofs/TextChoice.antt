@@ -9,7 +9,7 @@ use native.Mathlib.Omega.{arith}
 use lib.Dec.{eqb}
 use lib.ListN.{get_or, drop}
 use borrow.Author.Tests.{eqb-true, ltb-true, ltb-false}
-use Rattle.spellings.proofs.BytesLaws.{by-test}
+use Rattle.spellings.proofs.BytesLaws.{by_test}
 use Rattle.answers.specs.Checked.{ok}
 use Rattle.kinds.specs.Kinds.{word_kind, no_kind, has_kind}
 use Rattle.kinds.specs.TextKinds.{variable_kind, outside_kind, sort_of_kind}
@@ -65,9 +65,9 @@ taken_of (taken_nullable o h i z) = o
 
 module _ (g : List Production) where
   -- what a choice answers: the rule of the production taken, or that none is
-  pub data TextPicks (nonterminal : ℕ) (s : List Token) (given-choice : Choice) : Type 0 where
-    picks : (p : Production) → TextTaken g nonterminal s p → given-choice ≡ chosen (rule g p) → TextPicks nonterminal s given-choice
-    picks_none : ((p : Production) → TextTaken g nonterminal s p → ⊥) → given-choice ≡ unfit → TextPicks nonterminal s given-choice
+  pub data TextPicks (nonterminal : ℕ) (s : List Token) (given_choice : Choice) : Type 0 where
+    picks : (p : Production) → TextTaken g nonterminal s p → given_choice ≡ chosen (rule g p) → TextPicks nonterminal s given_choice
+    picks_none : ((p : Production) → TextTaken g nonterminal s p → ⊥) → given_choice ≡ unfit → TextPicks nonterminal s given_choice
 
   -- three searches, one behind the other, where tests tell what is opened and what has a place
   module _ (s : List Token) (opens places : Rule → Bool) (opened_passes : (p : Production) → TextOpened g s p → opens (rule g p) ≡ true)
@@ -154,7 +154,7 @@ module _ (g : List Production) where
   passes_opened : (s : List Token) → next_kind s < outside_kind → (p : Production)
       → is_opened (next_kind s) (rule g p).first (patterns_in g p.items) ≡ true → TextOpened g s p
   passes_opened s small p h =
-      by-test (is_text_kind (next_kind s))
+      by_test (is_text_kind (next_kind s))
       (λ e.
       let l = ltb-true no_kind (next_kind s) e in
       ide_opened s (sort_of_kind (next_kind s)) (omega arith) p
@@ -179,7 +179,7 @@ module _ (g : List Production) where
   passes_placed : (s : List Token) → next_kind s < outside_kind → (p : Production) → is_placed (next_kind s) (patterns_in g p.items) ≡ true → TextPlaced g s p
   unfolding opens_place
   passes_placed s small p h =
-      by-test (is_text_kind (next_kind s))
+      by_test (is_text_kind (next_kind s))
       (λ e.
       let l = ltb-true no_kind (next_kind s) e in
       record {
@@ -203,7 +203,7 @@ module _ (g : List Production) where
   outside_choice : (nonterminal : ℕ) (t : Token) → choice (ready_text g) nonterminal (as_outside t).kind ≡ choice (ready_text g) nonterminal t.kind
   unfolding is_opened is_placed
   outside_choice nonterminal t =
-      by-test (eqb t.kind word_kind)
+      by_test (eqb t.kind word_kind)
       (λ e.
       let q : t.kind ≡ word_kind = eqb-true t.kind word_kind e in
       let a : (as_outside t).kind ≡ outside_kind = rw (e, as_outside) refl in
@@ -272,8 +272,8 @@ module _ (g : List Production) where
     taken_one {other = other} (taken_nullable o h i z) (taken_place k j y) = absurd (i other k y)
     taken_one {nonterminal} {s} {p} {other} (taken_nullable o h i z) (taken_nullable k j l y) = (one_production g passed nonterminal p other o k).2 z y
 
-    taken_chosen : {nonterminal : ℕ} {s : List Token} {p : Production} {given-choice : Choice} → TextTaken g nonterminal s p
-        → TextPicks nonterminal s given-choice → given-choice ≡ chosen (rule g p)
+    taken_chosen : {nonterminal : ℕ} {s : List Token} {p : Production} {given_choice : Choice} → TextTaken g nonterminal s p
+        → TextPicks nonterminal s given_choice → given_choice ≡ chosen (rule g p)
     taken_chosen t (picks q u e) = e ∙ ap (λ r. chosen (rule g r)) (taken_one u t)
     taken_chosen {p = p} t (picks_none f e) = absurd (f p t)
 

@@ -7,7 +7,7 @@ use native.Mathlib.Omega.{arith}
 use lib.Dec.{eqb}
 use lib.ListN.{length, drop}
 use borrow.Author.Tests.{eqb-false, eq-eqb, ne_eqb}
-use Rattle.spellings.proofs.BytesLaws.{by-test}
+use Rattle.spellings.proofs.BytesLaws.{by_test}
 use Rattle.kinds.specs.Kinds.{word_kind, number_kind, keyword_kind, no_kind}
 use Rattle.kinds.specs.TextKinds.{variable_kind, outside_kind, sort_of_kind}
 use Rattle.grammar.specs.Sorts.{Signature, var, binder, label, num}
@@ -176,7 +176,7 @@ module _ {G : Scope} {g : List Production} (setting : TextSetting G g) where
 
     ide_ends : (B : ℕ) → var ≤ B → B ≤ label → Ends (Stepped (terminal (ide B)) B s cells) Any (take_terminal input (ide B) s cells)
     ide_ends B l h =
-        by-test (meets_ide (next_token input s).kind B)
+        by_test (meets_ide (next_token input s).kind B)
         (λ e.
         subst⁻¹ (Ends (Stepped (terminal (ide B)) B s cells) Any) (terminal_met input (ide B) s cells e) (found (meets_rule (next_token input s).kind B e)))
         (λ e.

@@ -7,7 +7,7 @@ use native.Mathlib.Omega.{arith}
 use lib.Dec.{eqb}
 use lib.ListN.{length, get_or}
 use borrow.Author.Tests.{eqb-true, eqb-false, eq-eqb, ne_eqb}
-use Rattle.spellings.proofs.BytesLaws.{by-test}
+use Rattle.spellings.proofs.BytesLaws.{by_test}
 use Rattle.kinds.specs.Kinds.{word_kind, number_kind, no_kind}
 use Rattle.kinds.specs.TextKinds.{outside_kind}
 use Rattle.grammar.specs.Limits.{most}
@@ -81,24 +81,24 @@ outside_token t h = let e = eq-eqb t.kind word_kind h in rw (e, as_outside) refl
 
 -- Its value stays.
 pub same_value : (t : Token) → (as_outside t).value ≡ t.value
-same_value t = by-test (eqb t.kind word_kind) (λ e. rw (e, as_outside) refl) (λ e. rw (e, as_outside) refl)
+same_value t = by_test (eqb t.kind word_kind) (λ e. rw (e, as_outside) refl) (λ e. rw (e, as_outside) refl)
 
 -- A token that has another kind than an outside name's had it before,
 pub kind_before : (t : Token) {kind : ℕ} → (as_outside t).kind ≡ kind → (kind ≡ outside_kind → ⊥) → t.kind ≡ kind
 kind_before t e h =
-    by-test (eqb t.kind word_kind) (λ w. absurd (h (sym e ∙ outside_token t (eqb-true t.kind word_kind w))))
+    by_test (eqb t.kind word_kind) (λ w. absurd (h (sym e ∙ outside_token t (eqb-true t.kind word_kind w))))
     (λ w. ap (λ u. u.kind) (sym (kept_token t (eqb-false t.kind word_kind w))) ∙ e)
 
 -- one that is an outside name was a word,
 pub was_word : (t : Token) → t.kind < outside_kind → (as_outside t).kind ≡ outside_kind → t.kind ≡ word_kind
 was_word t l h =
-    by-test (eqb t.kind word_kind) (λ w. eqb-true t.kind word_kind w)
+    by_test (eqb t.kind word_kind) (λ w. eqb-true t.kind word_kind w)
     (λ w. absurd (omega (arith, ap (λ u. u.kind) (sym (kept_token t (eqb-false t.kind word_kind w))) ∙ h)))
 
 -- and none is a word any more.
 pub no_word : (t : Token) → (as_outside t).kind ≡ word_kind → ⊥
 no_word t h =
-    by-test (eqb t.kind word_kind) (λ w. omega (arith, sym (outside_token t (eqb-true t.kind word_kind w)) ∙ h))
+    by_test (eqb t.kind word_kind) (λ w. omega (arith, sym (outside_token t (eqb-true t.kind word_kind w)) ∙ h))
     (λ w. eqb-false t.kind word_kind w (kind_before t h (λ z. omega arith)))
 
 -- ------------------------------------------------------------------ what an ide gives
@@ -110,7 +110,7 @@ outside_value B v = elim (eqb B label) [ true ↦ v | false ↦ outside_name v ]
 -- An outside name is read as a name, at Label as its number,
 pub outside_value_lem : (kind B v : ℕ) → is_outside_kind kind ≡ true → ide_value kind B v ≡ outside_value B v
 unfolding ide_value
-outside_value_lem kind B v o = by-test (eqb B label) (λ e. rw (o, e, ide_value, outside_value) refl) (λ e. rw (o, e, ide_value, outside_value) refl)
+outside_value_lem kind B v o = by_test (eqb B label) (λ e. rw (o, e, ide_value, outside_value) refl) (λ e. rw (o, e, ide_value, outside_value) refl)
 
 -- and a variable as itself.
 pub variable_value : (kind B v : ℕ) → is_outside_kind kind ≡ false → ide_value kind B v ≡ v

@@ -9,7 +9,7 @@ use lib.Dec.{eqb, ltb}
 use lib.ListN.{length, get_or, drop, drop_of_length-le, get_or-eq_default}
 use lib.Seq.{drop-cons}
 use borrow.Author.Tests.{eqb-true, eqb-false, eq-eqb, ne_eqb, ltb-true, ltb-false, lt-ltb}
-use Rattle.spellings.proofs.BytesLaws.{by-test}
+use Rattle.spellings.proofs.BytesLaws.{by_test}
 use Rattle.kinds.specs.Kinds.{only, word_kind, number_kind, no_kind}
 use Rattle.kinds.specs.TextKinds.{variable_kind, outside_kind, sort_of_kind}
 use Rattle.grammar.specs.Sorts.{binder}
@@ -148,14 +148,14 @@ module _ (tokens : List Token) (s : State) where
   -- It is the first of those left, if there is one,
   pub from_here : (here.kind ≡ no_kind → ⊥) → drop s.at tokens ≡ here ∷ drop (s.at + 1) tokens
   from_here h =
-      by-test (ltb s.at (length tokens))
+      by_test (ltb s.at (length tokens))
       (λ b. let l = ltb-true s.at (length tokens) b in rw (add-one s.at) (drop-cons tokens s.at end_token l))
       (λ b. absurd (h (ap (λ t. t.kind) (get_or-eq_default tokens end_token (ltb-false s.at (length tokens) b)))))
 
   -- and the first of those left is the next token.
   pub first_left : {t : Token} {ts : List Token} → drop s.at tokens ≡ t ∷ ts → (here ≡ t) × (drop (s.at + 1) tokens ≡ ts)
   first_left {t} {ts} e =
-      by-test (ltb s.at (length tokens))
+      by_test (ltb s.at (length tokens))
       (λ b.
       let l = ltb-true s.at (length tokens) b in
       let q : here ∷ drop (s.at + 1) tokens ≡ t ∷ ts = rw (add-one s.at) (sym (drop-cons tokens s.at end_token l)) ∙ e in

@@ -62,8 +62,8 @@ abbrev pub TakenOnce : List Production → Type 0
 TakenOnce g = (n : ℕ) (s : List Token) (p q : Production) → TextTaken g n s p → TextTaken g n s q → p ≡ q
 
 -- A choice that picks what the tokens take then picks it.
-pub once_chosen : {g : List Production} {n : ℕ} {s : List Token} {p : Production} {given-choice : Choice} → TakenOnce g → TextTaken g n s p
-    → TextPicks g n s given-choice → given-choice ≡ chosen (rule g p)
+pub once_chosen : {g : List Production} {n : ℕ} {s : List Token} {p : Production} {given_choice : Choice} → TakenOnce g → TextTaken g n s p
+    → TextPicks g n s given_choice → given_choice ≡ chosen (rule g p)
 once_chosen {g} {n} {s} {p} once t (picks q u e) = e ∙ ap (λ r. chosen (rule g r)) (once n s q p u t)
 once_chosen {p = p} once t (picks_none f e) = absurd (f p t)
 

@@ -33,11 +33,11 @@ pub data Cause (first : Bool) (strict lenient : Readings) (no_other fitting : Bo
       → Cause first strict lenient no_other fitting 11
 
 -- What is answered: the strict reading, which is small, or a refusal that has a cause.
-pub data Outcome (first : Bool) (strict lenient : Readings) (no_other fitting : Bool) (at : ℕ) (given-answer : Checked TextRead) : Type 0 where
-  passes : (r : Reading) (read : TextRead) → first ≡ true → strict ≡ reading r → is_small r ≡ true → given-answer ≡ ok read
-      → Outcome first strict lenient no_other fitting at given-answer
-  refuses : (number : ℕ) → given-answer ≡ bad (refusal number at 0 0) → Cause first strict lenient no_other fitting number
-      → Outcome first strict lenient no_other fitting at given-answer
+pub data Outcome (first : Bool) (strict lenient : Readings) (no_other fitting : Bool) (at : ℕ) (given_answer : Checked TextRead) : Type 0 where
+  passes : (r : Reading) (read : TextRead) → first ≡ true → strict ≡ reading r → is_small r ≡ true → given_answer ≡ ok read
+      → Outcome first strict lenient no_other fitting at given_answer
+  refuses : (number : ℕ) → given_answer ≡ bad (refusal number at 0 0) → Cause first strict lenient no_other fitting number
+      → Outcome first strict lenient no_other fitting at given_answer
 
 module _ (used at : ℕ) where
   -- a text that is read, by what is tested behind its reading

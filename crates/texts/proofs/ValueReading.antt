@@ -304,8 +304,8 @@ module _ {G : Scope} {g : List Production} {values : Values G.outsides} (reader 
     where
       go : (s.calls < most_calls → (p : Production) → TextTaken g n (from s) p
           → Ends (Called (suc depth) n S.result vs s cells) Any (RunOf depth input xs s cells p.items p.result))
-          → (test : Bool) → ltb s.calls most_calls ≡ test → (picked-choice : Choice)
-          → choice input.grammar n (next_token input s).kind ≡ picked-choice
+          → (test : Bool) → ltb s.calls most_calls ≡ test → (picked_choice : Choice)
+          → choice input.grammar n (next_token input s).kind ≡ picked_choice
           → Ends (Called (suc depth) n S.result vs s cells) Any (run_call (suc depth) input n xs s cells)
       go f false e c h = subst⁻¹ (Ends (Called (suc depth) n S.result vs s cells) Any) (call_full depth input n xs s cells e) tt
       go f true e unfit h = subst⁻¹ (Ends (Called (suc depth) n S.result vs s cells) Any) (call_unfit depth input n xs s cells e h) tt

@@ -62,11 +62,11 @@ large : (scan house (bytes "a 00999999999")).answer ≡ Tokens 2 1
 unfolding house bytes longest_run same index_of value_from found_in is_dollar is_variable lexeme_of kind_of spelling_of step_of words_with lex_from scan
 large = refl
 
-tooLarge :
+too_large :
     scan house (bytes "a 1000000000")
     ≡ record { answer = Unscanned (refusal 15 2 0 0); tokens = token 0 0 1 64 ∷ []; words = bytes "a" ∷ [] }
 unfolding house bytes longest_run same index_of value_from found_in is_dollar is_variable lexeme_of kind_of spelling_of step_of words_with lex_from scan
-tooLarge = refl
+too_large = refl
 
 -- byte 127 is no symbol
 bad_byte : (scan house (40 ∷ 127 ∷ [])).answer ≡ Unscanned (refusal 15 1 0 0)

@@ -12,7 +12,7 @@ use borrow.Author.Tests.{lt-ltb, le-ltb, leb-true, leb-false}
 use Rattle.answers.specs.declared.Refusal.{Refusal}
 use Rattle.answers.specs.Refusals.{refusal}
 use Rattle.spellings.specs.Bytes.{is_separator}
-use Rattle.spellings.proofs.BytesLaws.{by-test}
+use Rattle.spellings.proofs.BytesLaws.{by_test}
 use Rattle.grammar.specs.Table.{Lexicon}
 use Rattle.tokens.specs.declared.Token.{Token}
 use Rattle.tokens.specs.declared.Step.TheVariants.{Skip, Stop, Emit}
@@ -198,7 +198,7 @@ module _ (lex : Lexicon) (few : length lex.outsides ≤ 64) (formula : List ℕ)
   scan_unscans : Refused (scan lex formula).answer (Unscans lex formula)
   unfolding StoppedFrom
   scan_unscans =
-      by-test (leb (length formula) longest_formula)
+      by_test (leb (length formula) longest_formula)
       (λ e.
       let short : length formula ≤ longest_formula = leb-true (length formula) longest_formula e in
       refused (scan lex formula).answer (λ r. stops_unscans short) (scan_kept lex few formula StoppedFrom stopped_kept))

@@ -7,7 +7,7 @@ use lib.Dec.{ltb}
 use lib.ListN.{length}
 use borrow.Author.Tests.{lt-ltb, le-ltb, ltb-true, ltb-false}
 use Rattle.spellings.specs.Bytes.{index_of}
-use Rattle.spellings.proofs.BytesLaws.{by-test, index_le, index_found, index-first, index_at, same_false}
+use Rattle.spellings.proofs.BytesLaws.{by_test, index_le, index_found, index-first, index_at, same_false}
 use Rattle.grammar.specs.declared.Found.{Found}
 use Rattle.grammar.specs.declared.Found.TheVariants.{At, Absent}
 use Rattle.grammar.specs.Found.{found_in}
@@ -17,7 +17,7 @@ module _ {sought : List ℕ} {vs : List (List ℕ)} where
   -- the place of a spelling is the one where it stands first
   pub first_index : {index : ℕ} → FirstAt sought vs index → index_of sought vs ≡ index
   first_index {index} f =
-      by-test (ltb (index_of sought vs) index)
+      by_test (ltb (index_of sought vs) index)
       (λ e.
       let l : index_of sought vs < index = ltb-true (index_of sought vs) index e in
       absurd (f.none_before (index_of sought vs) l (index_found sought vs (omega (arith, f.there)))))
@@ -26,7 +26,7 @@ module _ {sought : List ℕ} {vs : List (List ℕ)} where
   -- the place of a spelling that stands nowhere is the list's length
   pub none_index : NotIn sought vs → index_of sought vs ≡ length vs
   none_index f =
-      by-test (ltb (index_of sought vs) (length vs))
+      by_test (ltb (index_of sought vs) (length vs))
       (λ e.
       let l : index_of sought vs < length vs = ltb-true (index_of sought vs) (length vs) e in
       absurd (f.none (index_of sought vs) l (index_found sought vs l)))
@@ -61,7 +61,7 @@ FoundBy s vs Absent = NotIn s vs
 
 found_rule : (sought : List ℕ) (vs : List (List ℕ)) → FoundBy sought vs (found_in sought vs)
 found_rule sought vs =
-    by-test (ltb (index_of sought vs) (length vs))
+    by_test (ltb (index_of sought vs) (length vs))
     (λ e.
     let f : FirstAt sought vs (index_of sought vs) = index_is_first sought vs (ltb-true (index_of sought vs) (length vs) e) in
     subst (FoundBy sought vs) (first_found f) f)

@@ -8,7 +8,7 @@ use lib.Dec.{leb}
 use lib.ListN.{length, get_or}
 use borrow.Author.Tests.{ne_eqb, le-leb, lt-leb, leb-true, not-true}
 use Rattle.spellings.specs.Bytes.{is_letter, is_digit, is_word_byte, is_separator, is_symbol, longest_run, largest, value_of}
-use Rattle.spellings.proofs.BytesLaws.{by-test}
+use Rattle.spellings.proofs.BytesLaws.{by_test}
 use Rattle.tokens.specs.Variables.{dollar, is_variable, VariableFront}
 use Rattle.tokens.specs.Scan.{Separator, Word, Number, Variable, Symbol, Fault}
 use Rattle.tokens.specs.Scan.{number_lexeme, lexeme_of}
@@ -30,7 +30,7 @@ separator_low byte h =
     refl
 
 letter_high : (byte : ℕ) → is_letter byte ≡ true → 65 ≤ byte
-letter_high byte e = by-test (leb 65 byte) (λ h. leb-true 65 byte h) later
+letter_high byte e = by_test (leb 65 byte) (λ h. leb-true 65 byte h) later
   where
     later : leb 65 byte ≡ false → 65 ≤ byte
     later h =
@@ -38,7 +38,7 @@ letter_high byte e = by-test (leb 65 byte) (λ h. leb-true 65 byte h) later
         omega (arith, leb-true 97 byte (both (leb 97 byte) (leb byte 122) f).0)
 
 letter_low : (byte : ℕ) → is_letter byte ≡ true → byte ≤ 126
-letter_low byte e = by-test (leb 65 byte && leb byte 90) (λ h. omega (arith, leb-true byte 90 (both (leb 65 byte) (leb byte 90) h).1)) later
+letter_low byte e = by_test (leb 65 byte && leb byte 90) (λ h. omega (arith, leb-true byte 90 (both (leb 65 byte) (leb byte 90) h).1)) later
   where
     later : (leb 65 byte && leb byte 90) ≡ false → byte ≤ 126
     later h =
@@ -82,14 +82,14 @@ symbol_only byte e =
 -- a byte outside of 33 to 126 is none of them
 module _ (byte : ℕ) (out : 33 ≤ byte → byte ≤ 126 → ⊥) where
   outside_letter : is_letter byte ≡ false
-  outside_letter = by-test (is_letter byte) (λ e. absurd (out (omega (arith, letter_high byte e)) (letter_low byte e))) (λ e. e)
+  outside_letter = by_test (is_letter byte) (λ e. absurd (out (omega (arith, letter_high byte e)) (letter_low byte e))) (λ e. e)
 
   outside_digit : is_digit byte ≡ false
   outside_digit =
-      by-test (is_digit byte) (λ e. let r = digit_range byte e in absurd (out (omega (arith, r.0)) (omega (arith, r.1)))) (λ e. e)
+      by_test (is_digit byte) (λ e. let r = digit_range byte e in absurd (out (omega (arith, r.0)) (omega (arith, r.1)))) (λ e. e)
 
   outside_symbol : is_symbol byte ≡ false
-  outside_symbol = by-test (is_symbol byte) (λ e. let o = symbol_only byte e in absurd (out o.high o.low)) (λ e. e)
+  outside_symbol = by_test (is_symbol byte) (λ e. let o = symbol_only byte e in absurd (out o.high o.low)) (λ e. e)
 
 -- ------------------------------------------------------------------ the lexeme that the bytes at the front tell
 

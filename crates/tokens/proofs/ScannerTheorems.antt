@@ -10,7 +10,7 @@ use lib.Dec.{leb, ltb}
 use lib.ListN.{length, get_or, get_or-eq_default}
 use borrow.Author.Tests.{leb-true, leb-false, ltb-true, ltb-false}
 use Rattle.spellings.specs.Bytes.{is_letter, is_digit, is_word_byte, is_separator, is_symbol, longest_run, is_word}
-use Rattle.spellings.proofs.BytesLaws.{by-test}
+use Rattle.spellings.proofs.BytesLaws.{by_test}
 use Rattle.kinds.specs.Kinds.{word_kind, no_kind}
 use Rattle.answers.specs.declared.Refusal.{Refusal}
 use Rattle.answers.specs.Refusals.{refusal}
@@ -38,7 +38,7 @@ module _ (lex : Lexicon) (few : length lex.outsides ≤ 64) (formula : List ℕ)
   -- a scan that is not refused is of a formula that is not too long
   not_long : {many count : ℕ} → (scan lex formula).answer ≡ Tokens many count → length formula ≤ longest_formula
   not_long {many} {count} e =
-      by-test (leb (length formula) longest_formula) (λ h. leb-true (length formula) longest_formula h)
+      by_test (leb (length formula) longest_formula) (λ h. leb-true (length formula) longest_formula h)
       (λ h.
       let l : (scan lex formula).answer ≡ Unscanned (refusal 14 0 0 0)
       = cc (scan_long lex formula (leb-false (length formula) longest_formula h)) in
@@ -72,7 +72,7 @@ module _ (lex : Lexicon) (few : length lex.outsides ≤ 64) (formula : List ℕ)
   word_at : (place : ℕ) → (token_at (scan lex formula).tokens place).kind ≡ word_kind
       → Spelled lex formula (scan lex formula).words (token_at (scan lex formula).tokens place)
   word_at place k =
-      by-test (ltb place (length (scan lex formula).tokens))
+      by_test (ltb place (length (scan lex formula).tokens))
       (λ e. every_at _ (scan lex formula).tokens place _ (scan_spelled lex few formula) (ltb-true place _ e) k)
       (λ e.
       let z : token_at (scan lex formula).tokens place ≡ end_token
@@ -121,7 +121,7 @@ pub formula_kinds : (lex : Lexicon) → length lex.outsides ≤ 64 → length le
     (place : ℕ)
     → (token_at (scan lex formula).tokens place).kind ≤ no_kind
 formula_kinds lex few keywords none formula place =
-    by-test (ltb place (length (scan lex formula).tokens))
+    by_test (ltb place (length (scan lex formula).tokens))
     (λ e. every_at _ (scan lex formula).tokens place _ (scan_kinds lex few keywords none formula) (ltb-true place _ e))
     (λ e.
     let z : token_at (scan lex formula).tokens place ≡ end_token

@@ -9,7 +9,7 @@ use lib.Dec.{ltb}
 use lib.ListN.{length, get_or, take, drop, length-append}
 use borrow.Author.Tests.{ltb-true, ltb-false, le-leb, le-ltb, lt-ltb, ne_eqb, eq-eqb}
 use Rattle.spellings.specs.Bytes.{is_letter, is_word_byte, longest_run, is_word, index_of}
-use Rattle.spellings.proofs.BytesLaws.{by-test, run_taken, every_run, letter_word_byte, index_le, index_found, index_front, index_rest, index_self}
+use Rattle.spellings.proofs.BytesLaws.{by_test, run_taken, every_run, letter_word_byte, index_le, index_found, index_front, index_rest, index_self}
 use Rattle.grammar.specs.declared.Found.{Found}
 use Rattle.grammar.specs.declared.Found.TheVariants.{At, Absent}
 use Rattle.grammar.specs.Table.{Lexicon}
@@ -87,7 +87,7 @@ old_is count token k v = rw (eq-eqb token.kind word_kind k, ne_eqb token.value (
 
 placed : (words : List (List ℕ)) (spelling : List ℕ) (token : Token) → token.kind ≡ word_kind → token.value ≡ 64 + index_of spelling words
     → Placed words (words_with words spelling token) spelling
-placed words spelling token k v = by-test (ltb (index_of spelling words) (length words)) old new
+placed words spelling token k v = by_test (ltb (index_of spelling words) (length words)) old new
   where
     old : ltb (index_of spelling words) (length words) ≡ true → Placed words (words_with words spelling token) spelling
     old e =
@@ -125,7 +125,7 @@ module _ (lex : Lexicon) (few : length lex.outsides ≤ 64) where
 
   grown : (words : List (List ℕ)) (spelling : List ℕ) (token : Token) → (extra : List (List ℕ)) × (words_with words spelling token ≡ words ++ extra)
   grown words spelling token =
-      by-test (is_new (length words) token) (λ e. (spelling ∷ [], with_new words spelling token e))
+      by_test (is_new (length words) token) (λ e. (spelling ∷ [], with_new words spelling token e))
       (λ e. ([], with_old words spelling token e ∙ sym (append-nil words)))
 
   module _ (formula : List ℕ) where

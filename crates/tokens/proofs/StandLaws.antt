@@ -32,25 +32,25 @@ use Rattle.tokens.proofs.StepLaws.{Fits, lexeme_fits, step_by_lem, token_word, t
 
 -- ------------------------------------------------------------------ the words after a token
 
-module _ (met : List (List ℕ)) (spelling : List ℕ) (read-token : Token) where
+module _ (met : List (List ℕ)) (spelling : List ℕ) (read_token : Token) where
   -- no word
-  with_other : (read-token.kind ≡ word_kind → ⊥) → words_with met spelling read-token ≡ met
-  with_other h = with_old met spelling read-token (rw (ne_eqb read-token.kind word_kind h) refl)
+  with_other : (read_token.kind ≡ word_kind → ⊥) → words_with met spelling read_token ≡ met
+  with_other h = with_old met spelling read_token (rw (ne_eqb read_token.kind word_kind h) refl)
 
-  module _ (is_IsWord : read-token.kind ≡ word_kind) where
+  module _ (is_is_word : read_token.kind ≡ word_kind) where
     -- a word whose number is not the next one
-    with_known : (read-token.value ≡ 64 + length met → ⊥) → words_with met spelling read-token ≡ met
-    with_known h = with_old met spelling read-token (rw (eq-eqb read-token.kind word_kind is_IsWord, ne_eqb read-token.value (64 + length met) h) refl)
+    with_known : (read_token.value ≡ 64 + length met → ⊥) → words_with met spelling read_token ≡ met
+    with_known h = with_old met spelling read_token (rw (eq-eqb read_token.kind word_kind is_is_word, ne_eqb read_token.value (64 + length met) h) refl)
 
-    with_next : read-token.value ≡ 64 + length met → words_with met spelling read-token ≡ met ++ (spelling ∷ [])
-    with_next h = with_new met spelling read-token (rw (eq-eqb read-token.kind word_kind is_IsWord, eq-eqb read-token.value (64 + length met) h) refl)
+    with_next : read_token.value ≡ 64 + length met → words_with met spelling read_token ≡ met ++ (spelling ∷ [])
+    with_next h = with_new met spelling read_token (rw (eq-eqb read_token.kind word_kind is_is_word, eq-eqb read_token.value (64 + length met) h) refl)
 
 -- ------------------------------------------------------------------ the token of a spelling, by what is found
 
 -- a token made of a spelling, and the words after it
-record Makes (made : Token) (met : List (List ℕ)) (spelling : List ℕ) (read-token : Token) (met' : List (List ℕ)) : Type 0 where
-  token_is : read-token ≡ made
-  words_are : words_with met spelling read-token ≡ met'
+record Makes (made : Token) (met : List (List ℕ)) (spelling : List ℕ) (read_token : Token) (met' : List (List ℕ)) : Type 0 where
+  token_is : read_token ≡ made
+  words_are : words_with met spelling read_token ≡ met'
 
 module _ (lex : Lexicon) (few : length lex.outsides ≤ 64) (met : List (List ℕ)) (at : ℕ) (spelling : List ℕ) (other : ℕ) where
   made : Token
@@ -116,8 +116,8 @@ word_taken {rest} w = cc (w.whole, run_prefix is_word_byte rest)
 -- ------------------------------------------------------------------ from a step to the rules
 
 -- a token and the words after it, as a rule tells them
-stands_made : {lex : Lexicon} {at : ℕ} {rest : List ℕ} {met met' : List (List ℕ)} {spelling : List ℕ} {read-token other : Token}
-    → Stands lex at rest met read-token met' → Makes other met spelling read-token met'
+stands_made : {lex : Lexicon} {at : ℕ} {rest : List ℕ} {met met' : List (List ℕ)} {spelling : List ℕ} {read_token other : Token}
+    → Stands lex at rest met read_token met' → Makes other met spelling read_token met'
     → Stands lex at rest met other (words_with met spelling other)
 stands_made {met = met} {spelling = spelling} st m =
     let w : words_with met spelling _ ≡ _ = ap (words_with met spelling) (sym m.token_is) ∙ m.words_are in
@@ -165,13 +165,13 @@ module _ (lex : Lexicon) (few : length lex.outsides ≤ 64) (met : List (List �
           stands_made (a_symbol y f) (makes_symbol lex few met at spelling no_kind (λ z. omega (arith, z)) f)
 
 -- what a step that emits a token tells of it
-pub record Emits (lex : Lexicon) (words : List (List ℕ)) (at : ℕ) (rest : List ℕ) (read-token : Token) : Type 0 where
+pub record Emits (lex : Lexicon) (words : List (List ℕ)) (at : ℕ) (rest : List ℕ) (read_token : Token) : Type 0 where
   -- it stands at the offset
-  pub placed : read-token.at ≡ at
+  pub placed : read_token.at ≡ at
   -- it stands there by the rules, with the words met
-  pub stands : Stands lex at rest words read-token (words_with words (take read-token.size rest) read-token)
+  pub stands : Stands lex at rest words read_token (words_with words (take read_token.size rest) read_token)
   -- a word's value is its spelling number
-  pub valued : read-token.kind ≡ word_kind → read-token.value ≡ spelling_of lex words (take read-token.size rest)
+  pub valued : read_token.kind ≡ word_kind → read_token.value ≡ spelling_of lex words (take read_token.size rest)
 
 -- what a step tells of the bytes at the front
 abbrev pub Told : Lexicon → List (List ℕ) → ℕ → List ℕ → Step → Type 0
@@ -250,18 +250,18 @@ module _ (lex : Lexicon) (few : length lex.outsides ≤ 64) (words : List (List 
 -- ------------------------------------------------------------------ from the rules to a step
 
 -- the token that a step emits, and the words after it
-pub record Steps (lex : Lexicon) (met : List (List ℕ)) (at : ℕ) (rest : List ℕ) (read-token : Token) (met' : List (List ℕ)) : Type 0 where
+pub record Steps (lex : Lexicon) (met : List (List ℕ)) (at : ℕ) (rest : List ℕ) (read_token : Token) (met' : List (List ℕ)) : Type 0 where
   -- the step is this token
-  pub emits : Emit read-token ≡ step_of lex met at rest
+  pub emits : Emit read_token ≡ step_of lex met at rest
   -- the words met after it
-  pub words : words_with met (take read-token.size rest) read-token ≡ met'
+  pub words : words_with met (take read_token.size rest) read_token ≡ met'
 
 module _ {lex : Lexicon} (few : length lex.outsides ≤ 64) {at : ℕ} {rest : List ℕ} {met : List (List ℕ)} where
-  word_steps : {spelling : List ℕ} {read-token : Token} {met' : List (List ℕ)} → WordFront rest spelling → read-token.size ≡ length spelling
-      → Makes (made lex few met at spelling word_kind) met spelling read-token met'
-      → Steps lex met at rest read-token met'
+  word_steps : {spelling : List ℕ} {read_token : Token} {met' : List (List ℕ)} → WordFront rest spelling → read_token.size ≡ length spelling
+      → Makes (made lex few met at spelling word_kind) met spelling read_token met'
+      → Steps lex met at rest read_token met'
   unfolding made
-  word_steps {spelling} {read-token} w z m =
+  word_steps {spelling} {read_token} w z m =
       let e : take (length (longest_run is_word_byte rest)) rest ≡ spelling = sym (run_prefix is_word_byte rest) ∙ sym w.whole in
       let l = lexeme_word _ rest w.begins (omega (arith, w.short, ap length w.whole)) in
       record {
@@ -271,13 +271,13 @@ module _ {lex : Lexicon} (few : length lex.outsides ≤ 64) {at : ℕ} {rest : L
         words = cc (word_taken w, m.words_are);
       }
 
-  symbol_steps : {spelling : List ℕ} {read-token : Token} {met' : List (List ℕ)} → 0 < length rest → SymbolFront (length lex.variables) rest spelling
-      → read-token.size ≡ length spelling → Makes (made lex few met at spelling no_kind) met spelling read-token met'
-      → Steps lex met at rest read-token met'
+  symbol_steps : {spelling : List ℕ} {read_token : Token} {met' : List (List ℕ)} → 0 < length rest → SymbolFront (length lex.variables) rest spelling
+      → read_token.size ≡ length spelling → Makes (made lex few met at spelling no_kind) met spelling read_token met'
+      → Steps lex met at rest read_token met'
   unfolding made
-  symbol_steps {spelling} {read-token} h y z m =
+  symbol_steps {spelling} {read_token} h y z m =
       let e : take 1 rest ≡ spelling = one_byte rest h ∙ sym y.whole in
-      let n : read-token.size ≡ 1 = z ∙ ap length y.whole in
+      let n : read_token.size ≡ 1 = z ∙ ap length y.whole in
       record {
         emits =
             ap Emit (cc m.token_is)
@@ -286,8 +286,8 @@ module _ {lex : Lexicon} (few : length lex.outsides ≤ 64) {at : ℕ} {rest : L
       }
 
   -- a token that stands there by the rules is the one that the step emits
-  pub stands_steps : {read-token : Token} {met' : List (List ℕ)} → 0 < length rest → Stands lex at rest met read-token met'
-      → Steps lex met at rest read-token met'
+  pub stands_steps : {read_token : Token} {met' : List (List ℕ)} → 0 < length rest → Stands lex at rest met read_token met'
+      → Steps lex met at rest read_token met'
   stands_steps h (a_keyword {s = s} w f) = word_steps w refl (makes_keyword lex few met at s word_kind f)
   stands_steps h (a_keyword_symbol {s = s} y f) = symbol_steps h y refl (makes_keyword lex few met at s no_kind f)
   stands_steps h (an_outside_name {s = s} w n f) = word_steps w refl (makes_outside lex few met at s word_kind refl n f)

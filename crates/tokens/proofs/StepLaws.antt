@@ -157,10 +157,10 @@ part_within formula at size e =
     omega (arith, ap length e, length-take size (drop at formula), length-drop at formula)
 
 -- a symbol's token is the one that the step emits
-pub emit_symbol : (lex : Lexicon) (words : List (List ℕ)) (at : ℕ) {spelling other : List ℕ} {read-token : Token}
-    → read-token ≡ token (kind_of lex spelling no_kind) at (length spelling) 0
+pub emit_symbol : (lex : Lexicon) (words : List (List ℕ)) (at : ℕ) {spelling other : List ℕ} {read_token : Token}
+    → read_token ≡ token (kind_of lex spelling no_kind) at (length spelling) 0
     → spelling ≡ other
-    → Emit read-token ≡ Emit (spelled_token lex words at other (kind_of lex other no_kind))
+    → Emit read_token ≡ Emit (spelled_token lex words at other (kind_of lex other no_kind))
 emit_symbol lex words at {spelling} e f =
     ap Emit
     (cc (token_other lex words at spelling no_kind refl (lexemes.word_only lex spelling no_kind (λ z. omega (arith, z)))))

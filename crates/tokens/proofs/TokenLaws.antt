@@ -11,7 +11,7 @@ use borrow.Author.Tests.{ltb-true, ltb-false, leb-true, leb-false}
 use Rattle.answers.specs.declared.Refusal.{Refusal}
 use Rattle.answers.specs.Refusals.{refusal}
 use Rattle.spellings.specs.Bytes.{is_separator}
-use Rattle.spellings.proofs.BytesLaws.{by-test}
+use Rattle.spellings.proofs.BytesLaws.{by_test}
 use Rattle.grammar.specs.Table.{Lexicon}
 use Rattle.tokens.specs.declared.Token.{Token}
 use Rattle.tokens.specs.declared.Step.{Step}
@@ -90,7 +90,7 @@ module _ (lex : Lexicon) (few : length lex.outsides ≤ 64) (formula : List ℕ)
       (rw (drop-drop 1 at formula) (rec (at + 1) many words (omega arith) (omega arith) m))
   kept_step fuel at many words Stop h m enough e told lies rec = keeps.stops at many words (refusal 15 at 0 0) (at_fault h m told)
   kept_step fuel at many words (Emit t) h m enough e told lies rec =
-      by-test (ltb many most_tokens)
+      by_test (ltb many most_tokens)
       (λ more.
       rw (more) (kept_emit fuel at many words t h more told (lies.1, omega (arith, lies.2, length-drop at formula))
       (rec (at + t.size) (many + 1) _ (omega (arith, lies.1)) (omega (arith, lies.2, length-drop at formula))
@@ -102,7 +102,7 @@ module _ (lex : Lexicon) (few : length lex.outsides ≤ 64) (formula : List ℕ)
       → P at many words (lex_from fuel lex at (drop at formula) many words)
   kept zero at many words enough h m = at-end zero at many words m (omega arith)
   kept (suc fuel) at many words enough h m =
-      by-test (ltb at (length formula))
+      by_test (ltb at (length formula))
       (λ more.
       let l : at < length formula = ltb-true at (length formula) more in
       let some : 0 < length (drop at formula) = omega (arith, length-drop at formula) in
@@ -116,7 +116,7 @@ module _ (lex : Lexicon) (few : length lex.outsides ≤ 64) (formula : List ℕ)
   -- a fact that each step hands on holds of the whole scan
   pub scan_kept : P 0 0 [] (scan lex formula)
   scan_kept =
-      by-test (leb (length formula) longest_formula)
+      by_test (leb (length formula) longest_formula)
       (λ fits.
       subst (P 0 0 []) (sym (scan_short lex formula (leb-true (length formula) longest_formula fits)))
       (kept (length formula) 0 0 [] (omega arith) (omega arith) (omega arith)))

@@ -9,7 +9,7 @@ use lib.Dec.{eqb, ltb}
 use lib.ListN.{get_or, drop}
 use borrow.Author.Tests.{eq-eqb, eqb-true, lt-ltb, le-ltb, ltb-true}
 use Rattle.spellings.specs.Bytes.{is_digit, value_of}
-use Rattle.spellings.proofs.BytesLaws.{by-test}
+use Rattle.spellings.proofs.BytesLaws.{by_test}
 use Rattle.tokens.specs.Variables.{dollar, dollar_digits, is_dollar, is_variable, dollars_below, DollarFront, VariableFront}
 use Rattle.tokens.proofs.WordLaws.{both}
 
@@ -18,7 +18,7 @@ pub no_variables : (rest : List ℕ) → is_variable 0 rest ≡ false
 unfolding is_variable
 no_variables rest =
     let over : ltb (value_of (dollar_digits rest)) 0 ≡ false = le-ltb (value_of (dollar_digits rest)) 0 (omega arith) in
-    by-test (is_dollar rest) (λ e. rw (e, over, is_variable) refl) (λ e. rw (e, is_variable) refl)
+    by_test (is_dollar rest) (λ e. rw (e, over, is_variable) refl) (λ e. rw (e, is_variable) refl)
 
 module _ {rest : List ℕ} where
   -- the test finds `$` and the digits behind it
@@ -54,7 +54,7 @@ module _ {rest : List ℕ} where
 
     -- where none stands, the test finds none
     pub none_found : ((digits : List ℕ) → VariableFront count rest digits → ⊥) → is_variable count rest ≡ false
-    none_found none = by-test (is_variable count rest) (λ e. absurd (none (dollar_digits rest) (variable_front e))) (λ e. e)
+    none_found none = by_test (is_variable count rest) (λ e. absurd (none (dollar_digits rest) (variable_front e))) (λ e. e)
 
 -- digits worth `count` or more name none
 pub none_above : (count : ℕ) (rest : List ℕ) → count ≤ value_of (dollar_digits rest) → is_variable count rest ≡ false

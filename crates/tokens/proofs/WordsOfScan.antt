@@ -9,7 +9,7 @@ use lib.ListN.{length, get_or, length-append, get_or-append}
 use lib.Seq.{get_or_at}
 use borrow.Author.Tests.{ltb-true, ltb-false}
 use Rattle.spellings.specs.Bytes.{is_word}
-use Rattle.spellings.proofs.BytesLaws.{by-test}
+use Rattle.spellings.proofs.BytesLaws.{by_test}
 use Rattle.grammar.specs.Table.{Lexicon}
 use Rattle.tokens.specs.declared.Token.{Token}
 use Rattle.tokens.specs.Scan.{Lexed, scan}
@@ -38,8 +38,8 @@ no_words lex =
     }
 
 -- one more word, that stands nowhere yet
-module _ {lex : Lexicon} {words : List (List ℕ)} {spelling : List ℕ} (plain-words : PlainWords lex words) (is_IsWord : is_word spelling ≡ true)
-    (no-keyword-there : NotIn spelling lex.keywords) (not-outside : NotIn spelling lex.outsides) (not-met : NotIn spelling words) where
+module _ {lex : Lexicon} {words : List (List ℕ)} {spelling : List ℕ} (plain_words : PlainWords lex words) (is_is_word : is_word spelling ≡ true)
+    (no_keyword_there : NotIn spelling lex.keywords) (not_outside : NotIn spelling lex.outsides) (not_met : NotIn spelling words) where
   longer : length (words ++ (spelling ∷ [])) ≡ length words + 1
   longer = length-append words (spelling ∷ [])
 
@@ -51,26 +51,26 @@ module _ {lex : Lexicon} {words : List (List ℕ)} {spelling : List ℕ} (plain-
 
   by_place : {A : Type 0} (index : ℕ) → (index < length words → A) → (length words ≤ index → A) → A
   by_place index a b =
-      by-test (ltb index (length words)) (λ e. a (ltb-true index (length words) e)) (λ e. b (ltb-false index (length words) e))
+      by_test (ltb index (length words)) (λ e. a (ltb-true index (length words) e)) (λ e. b (ltb-false index (length words) e))
 
   one_word_more : PlainWords lex (words ++ (spelling ∷ []))
   one_word_more =
       record {
-        are_words = λ i b. by_place i (λ l. ap is_word (front i l) ∙ plain-words.are_words i l) (λ l. ap is_word (last i b l) ∙ is_IsWord);
+        are_words = λ i b. by_place i (λ l. ap is_word (front i l) ∙ plain_words.are_words i l) (λ l. ap is_word (last i b l) ∙ is_is_word);
         once =
             λ i j a b e.
             by_place i
             (λ l.
-            by_place j (λ m. plain-words.once i j l m (sym (front i l) ∙ e ∙ front j m))
-            (λ m. absurd (not-met.none i l (sym (front i l) ∙ e ∙ last j b m))))
+            by_place j (λ m. plain_words.once i j l m (sym (front i l) ∙ e ∙ front j m))
+            (λ m. absurd (not_met.none i l (sym (front i l) ∙ e ∙ last j b m))))
             (λ l.
-            by_place j (λ m. absurd (not-met.none j m (sym (front j m) ∙ sym e ∙ last i a l))) (λ m. omega (arith, longer)));
+            by_place j (λ m. absurd (not_met.none j m (sym (front j m) ∙ sym e ∙ last i a l))) (λ m. omega (arith, longer)));
         no_keyword =
             λ i j a b e.
-            by_place j (λ m. plain-words.no_keyword i j a m (e ∙ front j m)) (λ m. no-keyword-there.none i a (e ∙ last j b m));
+            by_place j (λ m. plain_words.no_keyword i j a m (e ∙ front j m)) (λ m. no_keyword_there.none i a (e ∙ last j b m));
         no_outside =
             λ i j a b e.
-            by_place j (λ m. plain-words.no_outside i j a m (e ∙ front j m)) (λ m. not-outside.none i a (e ∙ last j b m));
+            by_place j (λ m. plain_words.no_outside i j a m (e ∙ front j m)) (λ m. not_outside.none i a (e ∙ last j b m));
       }
 
 stands_plain : {lex : Lexicon} {at : ℕ} {rest : List ℕ} {met met' : List (List ℕ)} {token : Token} → Stands lex at rest met token met'

@@ -53,9 +53,9 @@ module _ (lent : Input) (nonterminal : ℕ) (vs : List ℕ) (state : State) (cel
   call_by (suc depth) f false e = rw (e, run_call) refl
   call_by (suc depth) f true e = rw (sub-one (suc depth)) (rw (e, run_call) (by (choice lent.grammar nonterminal (next_token lent state).kind)))
     where
-      by : (given-choice : Choice)
-          → entered depth lent nonterminal vs state cells given-choice
-          ≡ elim given-choice [
+      by : (given_choice : Choice)
+          → entered depth lent nonterminal vs state cells given_choice
+          ≡ elim given_choice [
             | unfit ↦ misfit (get_or lent.grammar.firsts nonterminal 0) state cells
             | chosen r ↦ after (run_items (run_call depth lent) lent r.items vs (call_begun state) cells) (λ M. build r.result lent M)
           ]
@@ -93,12 +93,12 @@ starts_refused : {lent : Input} {S : Source} {depth nonterminal given : ℕ} {st
 starts_refused e h due m =
     record { begins = λ vs cells. rw e (h vs cells); refuses = e ∙ due; enters = tt; entered_chosen = tt; remembers = m }
 
-module _ {S : Source} {room : List ℕ} (ready-room : Ready S room) (tokens : List ℕ) (rows depth nonterminal given : ℕ) (state : State) where
+module _ {S : Source} {room : List ℕ} (ready_room : Ready S room) (tokens : List ℕ) (rows depth nonterminal given : ℕ) (state : State) where
   abbrev input : Input
   input = lent_input S tokens rows
 
   abbrev held : HeldFor S.patterns S.bytes room
-  held = ready-room.held
+  held = ready_room.held
 
   abbrev Ends : Begun → List ℕ → Type 0
   Ends b memory = Starts input S depth nonterminal given state b memory
@@ -136,8 +136,8 @@ module _ {S : Source} {room : List ℕ} (ready-room : Ready S room) (tokens : Li
           ap (λ (g : List Production). (ready_for S.patterns g).firsts) productions_are
           ∙ ap (λ (g : Grammar). g.firsts) (ready_with held results)
 
-      by_choice : {given-choice : Choice} → choice (ready_for S.patterns productions) nonterminal kind ≡ given-choice → (vs cells : List ℕ)
-          → entered (depth - 1) input nonterminal vs state cells given-choice ≡ run_call depth input nonterminal vs state cells
+      by_choice : {given_choice : Choice} → choice (ready_for S.patterns productions) nonterminal kind ≡ given_choice → (vs cells : List ℕ)
+          → entered (depth - 1) input nonterminal vs state cells given_choice ≡ run_call depth input nonterminal vs state cells
       by_choice e vs cells =
           ap (entered (depth - 1) input nonterminal vs state cells)
           (sym
@@ -168,7 +168,7 @@ module _ {S : Source} {room : List ℕ} (ready-room : Ready S room) (tokens : Li
             refuses = tt;
             enters =
                 record {
-                  goes_on = rw es (chosen_each held nonterminal kind ch.place_is l (GoesOn S) ready-room.begun);
+                  goes_on = rw es (chosen_each held nonterminal kind ch.place_is l (GoesOn S) ready_room.begun);
                   placed = l;
                   may_open = positive depth may_open;
                   may_call = may_call;

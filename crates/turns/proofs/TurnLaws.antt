@@ -137,7 +137,7 @@ module _ {input : Input} {S : Source} {frames vars : List ℕ} {cursor : Cursor}
   -- ---------------------------------------------------------------- the item that stands at the cursor
 
   module _ {step : ItemStep} {args cells' : List ℕ} (stepped : Stepped input S vars cursor cells step args cells') where
-    steps : {item-step : ItemStep} → step ≡ item-step → Steps S cursor.call.next input going.M cursor.state cells item-step args cells'
+    steps : {item_step : ItemStep} → step ≡ item_step → Steps S cursor.call.next input going.M cursor.state cells item_step args cells'
     steps e = rw e at (stepped.does going.M going.holds)
 
     -- The item refuses.
@@ -153,7 +153,7 @@ module _ {input : Input} {S : Source} {frames vars : List ℕ} {cursor : Cursor}
     step_finished e = rw (steps e) going
 
     -- The item gives a value.
-    module _ {made-value next : ℕ} {state' : State} (equal : step ≡ Taken made-value next state') where
+    module _ {made_value next : ℕ} {state' : State} (equal : step ≡ Taken made_value next state') where
       taken_onward : Onward S cursor.call.next next cursor.state state'
       taken_onward = subst (Advances S cursor.call.next cursor.state) equal stepped.advances
 
@@ -162,7 +162,7 @@ module _ {input : Input} {S : Source} {frames vars : List ℕ} {cursor : Cursor}
       taken_few = omega (arith, going.counted, taken_onward.stands.less, taken_onward.stands.goes_on.inside)
 
       -- The value is its next variable, and it goes on behind the item.
-      pub step_taken : {vars' : List ℕ} {other : Cursor} → Values vars cursor made-value next state' vars' other
+      pub step_taken : {vars' : List ℕ} {other : Cursor} → Values vars cursor made_value next state' vars' other
           → (cursor.level + 2) * frame_size ≤ length frames
           → Turns input S (left S cursor) result frames vars' cells' other
       step_taken {vars'} v spare =
@@ -179,8 +179,8 @@ module _ {input : Input} {S : Source} {frames vars : List ℕ} {cursor : Cursor}
                 fits = going.fits;
                 stacked = going.stacked;
                 light = onward_light o (owed S going.waiting) going.light;
-                M = going.M ++ (made-value ∷ []);
-                holds = holds_more made-value v.vars_are going.M going.holds;
+                M = going.M ++ (made_value ∷ []);
+                holds = holds_more made_value v.vars_are going.M going.holds;
                 rest = instead (sym ((steps equal).rest callee));
               },
               spare,
@@ -232,13 +232,13 @@ module _ {input : Input} {S : Source} {frames vars : List ℕ} {cursor : Cursor}
     pub closed_halted : {refusal : Refusal} → outcome ≡ Halted refusal → ran outcome cells' ≡ result
     closed_halted e = rw e (halted (given_by e))
 
-    module _ {made-value : ℕ} {next : State} (equal : outcome ≡ Value made-value next) where
+    module _ {made_value : ℕ} {next : State} (equal : outcome ≡ Value made_value next) where
       -- No call waits.
-      pub closed_root : cursor.level ≡ 0 → done made-value next cells' ≡ result
+      pub closed_root : cursor.level ≡ 0 → done made_value next cells' ≡ result
       unfolding resume
       closed_root z = by going.waiting refl
         where
-          by : (fs : List Frame) → going.waiting ≡ fs → done made-value next cells' ≡ result
+          by : (fs : List Frame) → going.waiting ≡ fs → done made_value next cells' ≡ result
           by [] ef = rw ef at (instead (given_by equal))
           by (f ∷ fs) ef = absurd (omega (arith, going.many, ap length ef))
 
@@ -279,7 +279,7 @@ module _ {input : Input} {S : Source} {frames vars : List ℕ} {cursor : Cursor}
           at_few = omega (arith, waits_next top_frame.4, waits_count top_frame.4, top_frame.4.counted, top_frame.6)
 
           closed_going : {vars₂ : List ℕ}
-              → ((values : List ℕ) → Holds vars₁ at_top.call.count values → Holds vars₂ (at_top.call.count + 1) (values ++ (made-value ∷ [])))
+              → ((values : List ℕ) → Holds vars₁ at_top.call.count values → Holds vars₂ (at_top.call.count + 1) (values ++ (made_value ∷ [])))
               → Going input S frames vars₂ (moved at_top at_top.call.next next) cells' result
           unfolding resume owed
           closed_going put =
@@ -297,21 +297,21 @@ module _ {input : Input} {S : Source} {frames vars : List ℕ} {cursor : Cursor}
                 light =
                     light_below (ahead S cursor.call.next) (owed S going.waiting) (ahead S at_top.call.next) (owed S fs) weight_same
                     (ap (owed S) top_frame.2 ∙ ap (λ (a : ℕ). ahead S a + owed S fs) (sym (waits_next w))) going.light;
-                M = f.values ++ (made-value ∷ []);
+                M = f.values ++ (made_value ∷ []);
                 holds = put f.values (waits_holds w resumes.loaded);
                 rest =
                     rw (waits_next w, sym top_frame.3) (rw top_frame.2 at (instead (given_by equal)));
               }
 
         -- The value is its next variable, and it goes on where it waited.
-        pub closed_on : {vars₂ : List ℕ} {other : Cursor} → Returns frames (cursor.level - 1) made-value next vars₂ other → length S.bytes ≤ most.bytes
+        pub closed_on : {vars₂ : List ℕ} {other : Cursor} → Returns frames (cursor.level - 1) made_value next vars₂ other → length S.bytes ≤ most.bytes
             → Turns input S (left S cursor) result frames vars₂ cells' other
         closed_on r small =
             let v = r.resumes.cursor_is in
             rw (r.values.cursor_is, v)
             (record {
               stands = (
-                closed_going r.resumes (holds_more made-value (rw v at r.values.vars_are)),
+                closed_going r.resumes (holds_more made_value (rw v at r.values.vars_are)),
                 omega (arith, going.fits.inside),
               );
               less =

@@ -12,7 +12,7 @@ use Rattle.spellings.specs.Alike.{Bytes, Alike, FirstDifference}
 use Rattle.spellings.specs.Compared.{comparisons_of}
 use Rattle.spellings.specs.Eights.{eight_at}
 use Rattle.spellings.proofs.AlikeLaws.{alike_front, alike_eight}
-use Rattle.spellings.proofs.BytesLaws.{by-test}
+use Rattle.spellings.proofs.BytesLaws.{by_test}
 use Rattle.spellings.proofs.Comparing.{stop_eight, stop_tail}
 
 module _ {left right : List ℕ} {place : ℕ} (first : FirstDifference left right place) where
@@ -36,7 +36,7 @@ equal_or_differ [] [] long = inl refl
 equal_or_differ [] (y ∷ ys) long = absurd (omega arith)
 equal_or_differ (x ∷ xs) [] long = absurd (omega arith)
 equal_or_differ (x ∷ xs) (y ∷ ys) long =
-    by-test (eqb x y) (λ t. behind (eqb-true x y t) (equal_or_differ xs ys (omega arith))) (λ t. inr (
+    by_test (eqb x y) (λ t. behind (eqb-true x y t) (equal_or_differ xs ys (omega arith))) (λ t. inr (
       0,
       record { long = long; within = omega arith; before = record { agree = λ j h. absurd (omega arith) }; differs = eqb-false x y t },
     ))

@@ -134,7 +134,7 @@ module _ (write : Term Name → List ℕ) (table formula cells text : List ℕ) 
     cells_kept = rw by_syntax (exactly.cells_kept write passes.table (passing_of passes) formula cells text)
 
     -- Acceptance, 22, 23 and 24 leave the cells behind those that the term costs.
-    pub cells_behind : {meant : Term Name} (means-within : MeansWithin syntax formula cells meant) → Left (cells_of means-within) cells X.cells
+    pub cells_behind : {meant : Term Name} (means_within : MeansWithin syntax formula cells meant) → Left (cells_of means_within) cells X.cells
     cells_behind within = rw by_syntax (exactly.cells_behind write passes.table (passing_of passes) formula cells text within)
 
     -- 17 to 21 leave the cells behind those that are made where the rules stop.

@@ -94,10 +94,10 @@ module _ (table formulas ends answers₀ cells₀ text₀ : List ℕ) where
     rest-is : mid_of at (length text - at) text ≡ drop at text
     rest-is = take_all (length text - at) (drop at text) (omega (arith, length-drop at text))
 
-    module _ {formula : List ℕ} (own-bytes : formula ≡ formula_in formulas from (get_or ends i 0)) {answer : Answer} {cells' part : List ℕ}
+    module _ {formula : List ℕ} (own_bytes : formula ≡ formula_in formulas from (get_or ends i 0)) {answer : Answer} {cells' part : List ℕ}
         (given : expanded answer cells' part ≡ expand table formula cells (mid_of at (length text - at) text)) {size : ℕ} (long : size ≡ written answer) where
       is : expanded answer cells' part ≡ expand table (formula_in formulas from (get_or ends i 0)) cells (drop at text)
-      is = rw (own-bytes, rest-is) at given
+      is = rw (own_bytes, rest-is) at given
 
       keeps : Keeps cells (drop at text) (expanded answer cells' part)
       keeps = rw (← is) at (expand_keeps cells (drop at text) text_of table (formula_in formulas from (get_or ends i 0)))

@@ -6,7 +6,7 @@ use mathlib.Core.List.{List}
 use native.Mathlib.Omega.{arith}
 use lib.Dec.{leb}
 use borrow.Author.Tests.{leb-true, le-leb}
-use Rattle.spellings.proofs.BytesLaws.{by-test}
+use Rattle.spellings.proofs.BytesLaws.{by_test}
 use Rattle.answers.specs.declared.Refusal.{Refusal}
 use Rattle.answers.specs.declared.Answer.{Answer}
 use Rattle.answers.specs.declared.Answer.TheVariants.{Refusing}
@@ -39,7 +39,7 @@ counts_told written wanted h = rw (le-leb 1 written h.0, le-leb written most_por
 -- and all others are.
 pub counts_not : (written wanted : ℕ) → ((0 < written) × (written ≤ most_portions) × (0 < wanted) × (wanted ≤ most_portions) → ⊥)
     → are_counts written wanted ≡ false
-counts_not written wanted n = by-test (are_counts written wanted) (λ e. absurd (n (counts_are written wanted e))) (λ e. e)
+counts_not written wanted n = by_test (are_counts written wanted) (λ e. absurd (n (counts_are written wanted e))) (λ e. e)
 
 module _ (written wanted : ℕ) (table formula cells list : List ℕ) where
   -- With other counts the call is refused, and all that was lent is as found.

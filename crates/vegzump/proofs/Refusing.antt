@@ -26,12 +26,12 @@ module _ (table : List ℕ) (bytes : (at : ℕ) → get_or table at 0 < 256) whe
       → NotPassed table cells text answer cells' text'
   call_refuses write formula {cells} {text} e fails =
       let (cause, given, left) = not_passed write table bytes formula cells text fails in
-      let by-rules = (refused_exactly table bytes cause).0 given in
+      let by_rules = (refused_exactly table bytes cause).0 given in
       let is = e ∙ left in
       record {
         cause = cause;
-        refused = by-rules;
-        only = λ other h. refused_once table bytes other cause h by-rules;
+        refused = by_rules;
+        only = λ other h. refused_once table bytes other cause h by_rules;
         answered = ap (λ (x : Expanded). x.answer) is;
         same_cells = ap (λ (x : Expanded). x.cells) is;
         same_text = ap (λ (x : Expanded). x.text) is;

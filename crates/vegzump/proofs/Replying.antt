@@ -9,6 +9,6 @@ use Rattle.meaning.specs.Expand.{Expanded, expanded}
 use Rattle.vegzump.specs.Replies.{reply, Replied, replied, reply_of}
 
 -- A reply made of an answer, beside the same cells and text.
-pub beside : {given-reply : Reply} {answer : Answer} {cells text : List ℕ} {given-expanded : Expanded} → given-reply ≡ reply (numbered answer)
-    → expanded answer cells text ≡ given-expanded → replied given-reply cells text ≡ reply_of given-expanded
+pub beside : {given_reply : Reply} {answer : Answer} {cells text : List ℕ} {given_expanded : Expanded} → given_reply ≡ reply (numbered answer)
+    → expanded answer cells text ≡ given_expanded → replied given_reply cells text ≡ reply_of given_expanded
 beside {cells = cells} {text} e h = ap (λ (o : Reply). replied o cells text) e ∙ ap reply_of h

@@ -8,7 +8,7 @@ use lib.Dec.{eqb}
 use lib.ListN.{length, get_or}
 use borrow.Author.Tests.{eqb-true, eqb-false}
 use Rattle.spellings.specs.Bytes.{bytes, decimal, digits_then}
-use Rattle.spellings.proofs.BytesLaws.{by-test}
+use Rattle.spellings.proofs.BytesLaws.{by_test}
 use Rattle.terms.specs.Cells.{column}
 use Rattle.terms.specs.Term.{Name}
 use Rattle.terms.specs.Rows.{name_of, term_at, field_list_at}
@@ -62,7 +62,7 @@ module _ (pool : List ℕ) (value : ℕ) {shown : ℕ} (old : shown ≤ 0) where
   -- a name as written
   pub plain_name : (value / 0x1000000 ≡ 2 → ⊥) → {spelling : List ℕ} → spelling ≡ spell_in pool (value % 0x1000000) → spelling ≡ name_text pool value shown
   plain_name d es =
-      by-test (eqb (value / 0x1000000) 1)
+      by_test (eqb (value / 0x1000000) 1)
       (λ e. es ∙ sym (not_new shown (name_of (spell_in pool) value) old ∙ ap written (as_word (spell_in pool) value (eqb-true (value / 0x1000000) 1 e))))
       (λ e. es ∙ sym (not_new shown (name_of (spell_in pool) value) old ∙ ap written (as_outside (spell_in pool) value (eqb-false (value / 0x1000000) 1 e) d)))
 

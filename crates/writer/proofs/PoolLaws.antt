@@ -12,7 +12,7 @@ use lib.ListN.{length-append, length-take, length-drop, drop_of_length-le, get_o
 use lib.Seq.{sets, sets-eq, length-sets, get_or-set_other, ext_get_or}
 use lib.Seq.{length-take-le, take_all, drop-drop, get_or-take, get_or-drop, drop_at, get_or_at, take-append_seam}
 use borrow.Author.Tests.{eq-eqb, ne_eqb, eqb-true, eqb-false, lt-ltb, le-ltb, ltb-true, ltb-false}
-use Rattle.spellings.proofs.BytesLaws.{by-test}
+use Rattle.spellings.proofs.BytesLaws.{by_test}
 use Rattle.grammar.specs.declared.Front.{Front}
 use Rattle.grammar.specs.declared.Front.TheVariants.{Nothing, Short, Field}
 use Rattle.grammar.specs.Table.{Lexicon}
@@ -89,7 +89,7 @@ module _ (pool spelling : List ℕ) (place : ℕ) (short : length spelling < spe
       → get_or stored at_byte 0 ≡ get_or pool at_byte 0
   unfolding stored
   apart_from number at_byte d a b =
-      by-test (ltb number place)
+      by_test (ltb number place)
       (λ e. get_d_sets_other (length spelling ∷ spelling) pool (place * spelling_room) at_byte (inl (omega (arith, ltb-true number place e))))
       (λ e. get_d_sets_other (length spelling ∷ spelling) pool (place * spelling_room) at_byte (inr (omega (arith, ltb-false number place e))))
 
@@ -103,24 +103,24 @@ module _ (pool spelling : List ℕ) (place : ℕ) (short : length spelling < spe
             (λ j b. apart_from number (number * spelling_room + 1 + j) d (omega arith) (omega arith)),
       )
 
-  module _ {spell-before spell-after : ℕ → List ℕ} (pooled : Pooled pool spell-before) (here : spell-after place ≡ spelling)
-      (there : (number : ℕ) → (number ≡ place → ⊥) → spell-after number ≡ spell-before number) where
+  module _ {spell_before spell_after : ℕ → List ℕ} (pooled : Pooled pool spell_before) (here : spell_after place ≡ spelling)
+      (there : (number : ℕ) → (number ≡ place → ⊥) → spell_after number ≡ spell_before number) where
     small_by : (number : ℕ) → get_or stored (number * spelling_room) 0 < spelling_room
     small_by number =
-        by-test (eqb number place)
+        by_test (eqb number place)
         (λ e. rw (eqb-true number place e, length_there) short)
         (λ e. rw (apart_from number (number * spelling_room) (eqb-false number place e) (omega arith) (omega arith)) (pooled.small number))
 
-    spelled_by_lem : (number : ℕ) → spell_in stored number ≡ spell-after number
+    spelled_by_lem : (number : ℕ) → spell_in stored number ≡ spell_after number
     spelled_by_lem number =
-        by-test (eqb number place)
-        (λ e. ap (spell_in stored) (eqb-true number place e) ∙ spelled_here ∙ sym here ∙ ap spell-after (sym (eqb-true number place e)))
+        by_test (eqb number place)
+        (λ e. ap (spell_in stored) (eqb-true number place e) ∙ spelled_here ∙ sym here ∙ ap spell_after (sym (eqb-true number place e)))
         (λ e. spelled_there number (eqb-false number place e) (pooled.small number) ∙ pooled.spelled number ∙ sym (there number (eqb-false number place e)))
 
-    pooled_by : Pooled stored spell-after
+    pooled_by : Pooled stored spell_after
     pooled_by = record { small = small_by; spelled = spelled_by_lem }
 
-    pooled_store : {pool' : List ℕ} → pool' ≡ sets pool (place * spelling_room) (length spelling ∷ spelling) → Pooled pool' spell-after
+    pooled_store : {pool' : List ℕ} → pool' ≡ sets pool (place * spelling_room) (length spelling ∷ spelling) → Pooled pool' spell_after
     unfolding stored
     pooled_store e = rw e pooled_by
 
@@ -202,7 +202,7 @@ gives_next {spell} {spell'} {place} {s} {ss} g =
           ap spell' z ∙ g.stored_at (suc index) (omega arith);
       before_them =
           λ number l.
-          by-test (eqb number place)
+          by_test (eqb number place)
           (λ e.
           let at : number ≡ place = eqb-true number place e in
           let first : place + 0 ≡ place = omega arith in
@@ -223,7 +223,7 @@ stored_pooled [] place pool p g short fits =
       small = p.small;
       spelled =
           λ m.
-          by-test (ltb m place)
+          by_test (ltb m place)
           (λ e. p.spelled m ∙ sym (g.before_them m (ltb-true m place e)))
           (λ e. p.spelled m ∙ sym (g.behind_them m (omega (arith, ltb-false m place e))));
     }
@@ -423,7 +423,7 @@ module _ (outs : List (List ℕ)) (formula room : List ℕ) where
 words_short : (formula room : List ℕ) (count : ℕ) → ((index : ℕ) → index < count → length (spanned formula room index) < spelling_room) → (index : ℕ)
     → length (get_or (words_from formula room 0 count) index []) < spelling_room
 words_short formula room count hs index =
-    by-test (ltb index count)
+    by_test (ltb index count)
     (λ e.
     let l : index < count = ltb-true index count e in
     let z : 0 + index ≡ index = omega arith in
@@ -447,12 +447,12 @@ pub filled_end : (lex : Lexicon) (formula room : List ℕ) {count : ℕ} (list :
     → filled_to lex.outsides formula room count number ≡ spelled lex list number
 filled_end lex formula room {count} list w number =
     let outs = lex.outsides in
-    by-test (ltb number first_word)
+    by_test (ltb number first_word)
     (λ e. near outs formula room count number (ltb-true number first_word e) ∙ sym (rw (e, spelled) refl))
     (λ e.
     let far : first_word ≤ number = omega (arith, ltb-false number first_word e) in
     let there : spelled lex list number ≡ get_or list (number - first_word) [] = rw (e, spelled) refl in
-    by-test (ltb (number - first_word) count)
+    by_test (ltb (number - first_word) count)
     (λ t.
     stored_word outs formula room count number far (ltb-true (number - first_word) count t)
     ∙ sym (w.each (number - first_word) (ltb-true (number - first_word) count t))

@@ -8,7 +8,7 @@ use lib.Dec.{ltb, leb}
 use lib.ListN.{length, get_or}
 use borrow.Author.Tests.{lt-ltb, le-ltb, ltb-true, ltb-false, leb-true}
 use Rattle.spellings.specs.Bytes.{is_word, is_letter, is_word_byte, every}
-use Rattle.spellings.proofs.BytesLaws.{by-test}
+use Rattle.spellings.proofs.BytesLaws.{by_test}
 use Rattle.grammar.specs.Table.{Lexicon}
 use Rattle.grammar.specs.Lookup.{lexicon_of}
 use Rattle.grammar.proofs.ReaderLaws.{get_d_past}
@@ -34,7 +34,7 @@ word_length (b ∷ bs) e =
 pub spelled_below : (table formula words : List ℕ) (count number : ℕ) → is_word (spelled_by table formula words count number) ≡ true
     → number < first_word + count
 spelled_below table formula words count number w =
-    by-test (ltb number (first_word + count)) (λ e. ltb-true number (first_word + count) e)
+    by_test (ltb number (first_word + count)) (λ e. ltb-true number (first_word + count) e)
     (λ e.
     let far : first_word + count ≤ number = ltb-false number (first_word + count) e in
     absurd (no_word (rw (further (lexicon_of table).outsides formula words count number (omega arith) (omega arith)) at w)))
@@ -43,7 +43,7 @@ spelled_below table formula words count number w =
 pub short_words : (words : List (List ℕ)) → ((number : ℕ) → number < length words → is_word (get_or words number []) ≡ true) → (number : ℕ)
     → length (one_of words number) < spelling_room
 short_words words h number =
-    by-test (ltb number (length words)) (λ e. word_length (get_or words number []) (h number (ltb-true number (length words) e)))
+    by_test (ltb number (length words)) (λ e. word_length (get_or words number []) (h number (ltb-true number (length words) e)))
     (λ e. rw (get_d_past words number [] (omega (arith, ltb-false number (length words) e))) (omega arith))
 
 -- a list has a spelling once
@@ -52,10 +52,10 @@ Once l = (i j : ℕ) → i < length l → j < length l → get_or l i [] ≡ get
 
 inside : (words : List (List ℕ)) (index : ℕ) → is_word (get_or words index []) ≡ true → index < length words
 inside words index w =
-    by-test (ltb index (length words)) (λ e. ltb-true index (length words) e)
+    by_test (ltb index (length words)) (λ e. ltb-true index (length words) e)
     (λ e. absurd (no_word (ap is_word (sym (get_d_past words index [] (omega (arith, ltb-false index (length words) e)))) ∙ w)))
 
-module _ (lex : Lexicon) (words : List (List ℕ)) (once-outs : Once lex.outsides) (once-words : Once words)
+module _ (lex : Lexicon) (words : List (List ℕ)) (once_outs : Once lex.outsides) (once_words : Once words)
     (other : (index later : ℕ) → index < length lex.outsides → later < length words → get_or lex.outsides index [] ≡ get_or words later [] → ⊥) where
   near : (number : ℕ) → number < first_word → spelled lex words number ≡ get_or lex.outsides number []
   near number h = rw (lt-ltb number first_word h, spelled) refl
@@ -70,7 +70,7 @@ module _ (lex : Lexicon) (words : List (List ℕ)) (once-outs : Once lex.outside
   one number second a b w e =
       let e' : get_or lex.outsides number [] ≡ get_or lex.outsides second [] = sym (near number a) ∙ e ∙ near second b in
       let wm : is_word (get_or lex.outsides number []) ≡ true = ap is_word (sym (near number a)) ∙ w in
-      once-outs number second (inside lex.outsides number wm) (inside lex.outsides second (ap is_word (sym e') ∙ wm)) e'
+      once_outs number second (inside lex.outsides number wm) (inside lex.outsides second (ap is_word (sym e') ∙ wm)) e'
 
   two : (number second : ℕ) → number < first_word → first_word ≤ second → is_word (S number) ≡ true → S number ≡ S second → ⊥
   two number second a b w e =
@@ -82,19 +82,19 @@ module _ (lex : Lexicon) (words : List (List ℕ)) (once-outs : Once lex.outside
   both number second a b w e =
       let e' : get_or words (number - first_word) [] ≡ get_or words (second - first_word) [] = sym (far number a) ∙ e ∙ far second b in
       let wm : is_word (get_or words (number - first_word) []) ≡ true = ap is_word (sym (far number a)) ∙ w in
-      let z : number - first_word ≡ second - first_word = once-words (number - first_word) (second - first_word) (inside words (number - first_word) wm)
+      let z : number - first_word ≡ second - first_word = once_words (number - first_word) (second - first_word) (inside words (number - first_word) wm)
       (inside words (second - first_word) (ap is_word (sym e') ∙ wm)) e' in
       omega arith
 
   -- Words have one number each, if no list has a spelling twice and the two share none.
   pub apart_lists : Distinct (spelled lex words)
   apart_lists m n w e =
-      by-test (ltb m first_word)
+      by_test (ltb m first_word)
       (λ p.
-      by-test (ltb n first_word) (λ q. one m n (ltb-true m first_word p) (ltb-true n first_word q) w e)
+      by_test (ltb n first_word) (λ q. one m n (ltb-true m first_word p) (ltb-true n first_word q) w e)
       (λ q. absurd (two m n (ltb-true m first_word p) (omega (arith, ltb-false n first_word q)) w e)))
       (λ p.
-      by-test (ltb n first_word)
+      by_test (ltb n first_word)
       (λ q. absurd (two n m (ltb-true n first_word q) (omega (arith, ltb-false m first_word p)) (ap is_word (sym e) ∙ w) (sym e)))
       (λ q. both m n (omega (arith, ltb-false m first_word p)) (omega (arith, ltb-false n first_word q)) w e))
 

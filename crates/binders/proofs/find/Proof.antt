@@ -41,38 +41,38 @@ cast-column c =
 
 returns : tie.Need-returns invariant-loop decreases-loop
 returns c =
-    let turn-test = c.before.before in
-    let at-loop = turn-test.before in
+    let turn_test = c.before.before in
+    let at-loop = turn_test.before in
     let entry = at-start at-loop in (
-      laws.chasing_found entry.pre _ at-loop.loop.invariant.0 turn-test.loop-test.true c.before.column.ensures
+      laws.chasing_found entry.pre _ at-loop.loop.invariant.0 turn_test.loop-test.true c.before.column.ensures
           c.if1.true,
-      omega (arith, laws.chasing_inside entry.pre _ at-loop.loop.invariant.0 turn-test.loop-test.true),
+      omega (arith, laws.chasing_inside entry.pre _ at-loop.loop.invariant.0 turn_test.loop-test.true),
     )
 
 add-link-at : tie.Need-overflow-add-link-at invariant-loop decreases-loop
 add-link-at c =
-    let turn-test = in-loop c in
+    let turn_test = in-loop c in
     let turn = at-loop c in
     let entry = at-start turn in
-    omega (arith, laws.chasing_inside entry.pre _ turn.loop.inv.0 turn-test.loop-test.taken)
+    omega (arith, laws.chasing_inside entry.pre _ turn.loop.inv.0 turn_test.loop-test.taken)
 
 loop-less : tie.Need-loop-smaller invariant-loop decreases-loop
 loop-less c =
-    let column-place = c.before.before in
-    let turn-test = column-place.before in
-    let turn = turn-test.before in
+    let column_place = c.before.before in
+    let turn_test = column_place.before in
+    let turn = turn_test.before in
     let entry = at-start turn in
-    laws.chasing_less entry.pre _ turn.loop.invariant.0 turn-test.loop-test.true
-    column-place.column.ensures c.before.if1.false c.link-at2.ensures
+    laws.chasing_less entry.pre _ turn.loop.invariant.0 turn_test.loop-test.true
+    column_place.column.ensures c.before.if1.false c.link-at2.ensures
 
 loop-again : tie.Need-loop-preserved invariant-loop decreases-loop
 loop-again c =
-    let column-place = c.before.before in
-    let turn-test = column-place.before in
-    let at-loop = turn-test.before in
+    let column_place = c.before.before in
+    let turn_test = column_place.before in
+    let at-loop = turn_test.before in
     let entry = at-start at-loop in (
-      laws.chasing_next entry.pre _ at-loop.loop.invariant.0 turn-test.loop-test.true
-          column-place.column.ensures c.before.if1.false c.link-at2.ensures,
+      laws.chasing_next entry.pre _ at-loop.loop.invariant.0 turn_test.loop-test.true
+          column_place.column.ensures c.before.if1.false c.link-at2.ensures,
       at-loop.loop.invariant.1,
     )
 

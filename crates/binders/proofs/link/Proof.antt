@@ -54,20 +54,20 @@ find-requires c κs = (at-loop c.before.before.before).loop.inv.linked
 
 add-requires : tie.Need-add-requires invariant-loop decreases-loop
 add-requires c κs =
-    let at-loop-test = in-loop' c in
-    let at-loop = at-loop-test.before in
+    let at_loop_test = in-loop' c in
+    let at-loop = at_loop_test.before in
     let entry = at-start at-loop in (
-      laws.row_fits at-loop.loop.inv entry.pre.few entry.pre.room at-loop-test.loop-test.taken,
+      laws.row_fits at-loop.loop.inv entry.pre.few entry.pre.room at_loop_test.loop-test.taken,
       laws.row_small
-          at-loop.loop.inv entry.pre.few entry.pre.room at-loop-test.loop-test.taken,
+          at-loop.loop.inv entry.pre.few entry.pre.room at_loop_test.loop-test.taken,
     )
 
 add_row : tie.Need-overflow-add-row invariant-loop decreases-loop
 add_row c =
-    let at-loop-test = in-loop' c.before.before.before in
-    let at-loop = at-loop-test.before in
+    let at_loop_test = in-loop' c.before.before.before in
+    let at-loop = at_loop_test.before in
     let entry = at-start at-loop in
-    omega (arith, laws.row_small at-loop.loop.inv entry.pre.few entry.pre.room at-loop-test.loop-test.taken)
+    omega (arith, laws.row_small at-loop.loop.inv entry.pre.few entry.pre.room at_loop_test.loop-test.taken)
 
 loop-less : tie.Need-loop-smaller invariant-loop decreases-loop
 loop-less c = omega arith
@@ -76,26 +76,26 @@ loop-again : tie.Need-loop-preserved invariant-loop decreases-loop
 loop-again c =
     let add-place = c.before.before in
     let then2 = add-place.before.before in
-    let find-place = then2.before in
-    let at-if1 = find-place.before.before in
-    let at-column2 = at-if1.before in
-    let at_column = at-column2.before in
-    let at-loop-test = in-loop find-place in
+    let find_place = then2.before in
+    let at_if1 = find_place.before.before in
+    let at_column2 = at_if1.before in
+    let at_column = at_column2.before in
+    let at_loop_test = in-loop find_place in
     let at-loop = at-loop at_column in
     let entry = at-start at-loop in
-    laws.add_row at-loop.loop.inv entry.pre.few entry.pre.room at-loop-test.loop-test.taken at_column.column.ensures
-    at-column2.column2.ensures at-if1.if1.true find-place.find.ensures.0
+    laws.add_row at-loop.loop.inv entry.pre.few entry.pre.room at_loop_test.loop-test.taken at_column.column.ensures
+    at_column2.column2.ensures at_if1.if1.true find_place.find.ensures.0
     then2.if2.true add-place.add.ensures
 
 add-row-2 : tie.Need-overflow-add-row-2 invariant-loop decreases-loop
 add-row-2 c =
-    let turn-test = in-loop c.before in
-    let at-loop = turn-test.before in
+    let turn_test = in-loop c.before in
+    let at-loop = turn_test.before in
     let entry = at-start at-loop in
     omega (
       arith,
       laws.row_small at-loop.loop.inv entry.pre.few entry.pre.room
-          turn-test.loop-test.taken,
+          turn_test.loop-test.taken,
     )
 
 loop-less-2 : tie.Need-loop-smaller-2 invariant-loop decreases-loop
@@ -103,23 +103,23 @@ loop-less-2 c = omega arith
 
 loop-again-2 : tie.Need-loop-preserved-2 invariant-loop decreases-loop
 loop-again-2 c =
-    let column2-place = c.before.before.before.before in
-    let turn-test = in-loop c.before in
-    let at-loop = turn-test.before in
+    let column2_place = c.before.before.before.before in
+    let turn_test = in-loop c.before in
+    let at-loop = turn_test.before in
     let entry = at-start at-loop in
     laws.skip_found at-loop.loop.inv entry.pre.few entry.pre.room
-    turn-test.loop-test.taken column2-place.column2.ensures
+    turn_test.loop-test.taken column2_place.column2.ensures
     c.before.find.ensures.0 c.if2.false
 
 add-row-3 : tie.Need-overflow-add-row-3 invariant-loop decreases-loop
 add-row-3 c =
-    let turn-test = c.before.before.before in
-    let turn = turn-test.before in
+    let turn_test = c.before.before.before in
+    let turn = turn_test.before in
     let entry = at-start turn in
     omega (
       arith,
       laws.row_small turn.loop.invariant entry.pre.few entry.pre.room
-          turn-test.loop-test.true,
+          turn_test.loop-test.true,
     )
 
 loop-less-3 : tie.Need-loop-smaller-3 invariant-loop decreases-loop
@@ -127,12 +127,12 @@ loop-less-3 c = omega arith
 
 loop-again-3 : tie.Need-loop-preserved-3 invariant-loop decreases-loop
 loop-again-3 c =
-    let column-place = c.before.before in
-    let turn-test = column-place.before in
-    let turn = at-loop column-place in
+    let column_place = c.before.before in
+    let turn_test = column_place.before in
+    let turn = at-loop column_place in
     let entry = at-start turn in
     laws.skip_code turn.loop.inv entry.pre.few entry.pre.room
-    turn-test.loop-test.true column-place.column.ensures c.if1.false
+    turn_test.loop-test.true column_place.column.ensures c.if1.false
 
 same_length : tie.Need-same-length invariant-loop decreases-loop
 same_length c = c.before.loop.invariant.long

@@ -59,11 +59,11 @@ returns c = λ P bs h. found c.before h c.if1.true
 
 loop-less : tie.Need-loop-smaller invariant-loop decreases-loop
 loop-less c =
-    let has-kind-place = c.before.before in
+    let has_kind_place = c.before.before in
     omega (
       arith,
-      (onward has-kind-place (entry has-kind-place).requires.0.held c.before.if1.false c.next_place.ensures).0,
-      (test has-kind-place).loop-test.true,
+      (onward has_kind_place (entry has_kind_place).requires.0.held c.before.if1.false c.next_place.ensures).0,
+      (test has_kind_place).loop-test.true,
     )
 
 loop-again : tie.Need-loop-preserved invariant-loop decreases-loop
@@ -72,8 +72,8 @@ loop-again c = λ P bs h. (onward c.before.before h c.before.if1.false c.next_pl
 returns-2 : tie.Need-returns-2 invariant-loop decreases-loop
 returns-2 c =
     λ P bs h.
-    let entry_IsPlace = c.before.before.before in
-    laws.walk_end h entry_IsPlace.requires.1 (holds_kind entry_IsPlace.args.kind) (c.before.loop.invariant P bs h) c.loop-test.false
+    let entry_is_place = c.before.before.before in
+    laws.walk_end h entry_is_place.requires.1 (holds_kind entry_is_place.args.kind) (c.before.loop.invariant P bs h) c.loop-test.false
 
 -- the function meets its contract
 pub opened-spec : {M : Type 1} → statement M

@@ -58,11 +58,11 @@ returns c = λ P bs h. found c.before h c.if1.true
 
 loop-less : tie.Need-loop-smaller invariant-loop decreases-loop
 loop-less c =
-    let tested-place = c.before.before in
+    let tested_place = c.before.before in
     omega (
       arith,
-      (onward tested-place (entry tested-place).requires.0.held c.before.if1.false c.next_place.ensures).0,
-      (test tested-place).loop-test.true,
+      (onward tested_place (entry tested_place).requires.0.held c.before.if1.false c.next_place.ensures).0,
+      (test tested_place).loop-test.true,
     )
 
 loop-again : tie.Need-loop-preserved invariant-loop decreases-loop
@@ -71,8 +71,8 @@ loop-again c = λ P bs h. (onward c.before.before h c.before.if1.false c.next_pl
 returns-2 : tie.Need-returns-2 invariant-loop decreases-loop
 returns-2 c =
     λ P bs h.
-    let entry_IsPlace = c.before.before.before in
-    laws.walk_end h entry_IsPlace.requires.1 (opens_sort entry_IsPlace.args.placed entry_IsPlace.args.sort) (c.before.loop.invariant P bs h) c.loop-test.false
+    let entry_is_place = c.before.before.before in
+    laws.walk_end h entry_is_place.requires.1 (opens_sort entry_is_place.args.placed entry_is_place.args.sort) (c.before.loop.invariant P bs h) c.loop-test.false
 
 -- the function meets its contract
 pub opened-by-spec : {M : Type 1} → statement M

@@ -9,18 +9,18 @@ use Rattle.choices.proofs.search.Tie as tie
 returns : tie.Need-returns
 returns c =
     λ P bs h.
-    let tested-place = c.before.before in
-    let pre = tested-place.before.before.requires in
-    let tested = sym (rw tested-place.before.first-set.ensures at tested-place.has-kind.ensures) in
-    let opened-is = c.opened.ensures P bs h in
-    laws.place_opened h pre.1 pre.2 opened-is (rw opened-is (laws.opens_some h pre.1 _ tested c.before.if1.true))
+    let tested_place = c.before.before in
+    let pre = tested_place.before.before.requires in
+    let tested = sym (rw tested_place.before.first-set.ensures at tested_place.has-kind.ensures) in
+    let opened_is = c.opened.ensures P bs h in
+    laws.place_opened h pre.1 pre.2 opened_is (rw opened_is (laws.opens_some h pre.1 _ tested c.before.if1.true))
 
 returns-2 : tie.Need-returns-2
 returns-2 c =
     λ P bs h.
-    let tested-place = c.before.before in
-    let pre = tested-place.before.before.requires in
-    let tested = sym (rw tested-place.before.first-set.ensures at tested-place.has-kind.ensures) in
+    let tested_place = c.before.before in
+    let pre = tested_place.before.before.requires in
+    let tested = sym (rw tested_place.before.first-set.ensures at tested_place.has-kind.ensures) in
     laws.place_nullable h pre.1 pre.2 (laws.opens_none h pre.1 _ tested c.before.if1.false) (omega arith) c.nullable-place.ensures
 
 -- the function meets its contract

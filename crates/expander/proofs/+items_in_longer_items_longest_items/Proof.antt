@@ -29,10 +29,10 @@ abbrev μ-in : Measures 8 items-in-kinds.ps ℕ
 μ-in κs a = 3 * (all_frames - length a.1.1.0.now) + 2
 
 abbrev μ-longer : Measures 8 longer-items-kinds.ps ℕ
-μ-longer κs a = let from-room = a.1.1.1.1.1 in 3 * (all_frames - length from-room.1.1.0.now) + 1
+μ-longer κs a = let from_room = a.1.1.1.1.1 in 3 * (all_frames - length from_room.1.1.0.now) + 1
 
 abbrev μ-longest : Measures 8 longest-items-kinds.ps ℕ
-μ-longest κs a = let from-room = a.1.1.1.1.1 in 3 * (all_frames - length from-room.1.1.0.now)
+μ-longest κs a = let from_room = a.1.1.1.1.1 in 3 * (all_frames - length from_room.1.1.0.now)
 
 abbrev in_at : ℕ → In 8 items-in-kinds.ps
 in_at t = and 8 items-in-kinds.ps (is 8 items-in-kinds.ps μ-in t) items-in.Pre
@@ -85,14 +85,14 @@ in_enum_known_2 t c = search rules
 
 in-longer-items-requires : (t : ℕ) → in-lts.Need-longer-items-requires (in_claims t) (in_at t) items-in.Post
 in-longer-items-requires t c κs =
-    let progress-place = c.before.before.before.before.before in
-    let q = in_items progress-place.before.before in
+    let progress_place = c.before.before.before.before.before in
+    let q = in_items progress_place.before.before in
     let entry = in_entry q in
     let may = entry.pre.1.holds in (
       omega (arith, entry.pre.0, q.items.kept.1.1.0),
       record {
         patterns = _;
-        holds = laws.may_go_on (q.items.ensures _ may) progress-place.progress2.given.1 (cells_kept q) may.stands (stack_kept q);
+        holds = laws.may_go_on (q.items.ensures _ may) progress_place.progress2.given.1 (cells_kept q) may.stands (stack_kept q);
       },
     )
 
@@ -121,14 +121,14 @@ in-returns t c =
 
 in-returns-2 : (t : ℕ) → in-lts.Need-returns-2 (in_claims t) (in_at t) items-in.Post
 in-returns-2 t c =
-    let longer-place = c.before.before.before.before in
-    let progress-place = longer-place.before.before.before.before.before.before in
-    let q = in_items progress-place.before.before in
-    let paused = progress-place.progress2.given.1 in
+    let longer_place = c.before.before.before.before in
+    let progress_place = longer_place.before.before.before.before.before.before in
+    let q = in_items progress_place.before.before in
+    let paused = progress_place.progress2.given.1 in
     λ patterns may.
     let went = q.items.ensures patterns may in
     laws.ends_later went paused (cells_kept q)
-    (longer-place.longer-items.ensures patterns (laws.may_go_on went paused (cells_kept q) may.stands (stack_kept q)))
+    (longer_place.longer-items.ensures patterns (laws.may_go_on went paused (cells_kept q) may.stands (stack_kept q)))
 
 -- ------------------------------------------------------------------ in a longer room
 

@@ -95,26 +95,26 @@ items-requires c κs =
 
 longer-items-requires : tie.Need-longer-items-requires
 longer-items-requires c κs =
-    let progress-place = c.before.before.before.before.before in
-    let match-place = progress-place.before in
-    let q = match-place.before.before.before.before.before.before in
-    record { patterns = _; holds = goes_on q (entry (at-save q)).pre.holds progress-place.progress2.given.1 }
+    let progress_place = c.before.before.before.before.before in
+    let match_place = progress_place.before in
+    let q = match_place.before.before.before.before.before.before in
+    record { patterns = _; holds = goes_on q (entry (at-save q)).pre.holds progress_place.progress2.given.1 }
 
 returns : tie.Need-returns
 returns c =
-    let match-place = c.before.before in
-    let q = match-place.before.before.before.before.before.before in
+    let match_place = c.before.before in
+    let q = match_place.before.before.before.before.before.before in
     λ patterns may. (laws.ends-here (went q may) c.before.progress.given.1).ends (result (at-save q) may) (standing (at-save q) may)
 
 returns-2 : tie.Need-returns-2
 returns-2 c =
-    let longer-place = c.before.before.before.before in
-    let progress-place = longer-place.before.before.before.before.before.before in
-    let match-place = progress-place.before in
-    let q = match-place.before.before.before.before.before.before in
-    let paused = progress-place.progress2.given.1 in
+    let longer_place = c.before.before.before.before in
+    let progress_place = longer_place.before.before.before.before.before.before in
+    let match_place = progress_place.before in
+    let q = match_place.before.before.before.before.before.before in
+    let paused = progress_place.progress2.given.1 in
     λ patterns may.
-    (laws.ends_later (went q may) paused (cells_kept q) (longer-place.longer-items.ensures patterns (goes_on q may paused))).ends
+    (laws.ends_later (went q may) paused (cells_kept q) (longer_place.longer-items.ensures patterns (goes_on q may paused))).ends
     (result (at-save q) may) (standing (at-save q) may)
 
 -- the function meets its contract

@@ -64,9 +64,9 @@ begin-root-requires c κs =
 
 root-items-requires : tie.Need-root-items-requires
 root-items-requires c κs =
-    let begun-place = c.before.before.before.before in
-    let p = begun-place.before.before in
-    record { patterns = _; holds = begins p (entry p).requires.holds begun-place.begun2.given.1 }
+    let begun_place = c.before.before.before.before in
+    let p = begun_place.before.before in
+    record { patterns = _; holds = begins p (entry p).requires.holds begun_place.begun2.given.1 }
 
 returns : tie.Need-returns
 returns c =
@@ -78,10 +78,10 @@ returns c =
 returns-2 : tie.Need-returns-2
 returns-2 c =
     let root_place = c.before.before.before.before.before in
-    let begun-place = root_place.before.before.before.before.before in
-    let p = begun-place.before.before in
+    let begun_place = root_place.before.before.before.before.before in
+    let p = begun_place.before.before in
     let lent = (entry p).args in
-    let equal = begun-place.begun2.given.1 in
+    let equal = begun_place.begun2.given.1 in
     λ patterns may.
     laws.expands lent.cells.now
     (c.ended.ensures (input p may) root_place.root-items.new.0 (token_count lent.tokens.now _)

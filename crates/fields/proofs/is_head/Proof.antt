@@ -9,10 +9,10 @@ use Rattle.fields.proofs.is_head.Tie as tie
 returns : tie.Need-returns
 returns c =
     let p = c.before in
-    laws.head-by _ p.before.byte.ensures p.byte2.ensures false (not-true _ c.if1.true)
+    laws.head_by _ p.before.byte.ensures p.byte2.ensures false (not-true _ c.if1.true)
 
 returns-2 : tie.Need-returns-2
-returns-2 c = cc (laws.head-by _ c.before.before.before.byte.ensures c.before.before.byte2.ensures true (not-false _ c.before.if1.false))
+returns-2 c = cc (laws.head_by _ c.before.before.before.byte.ensures c.before.before.byte2.ensures true (not-false _ c.before.if1.false))
 
 -- the function meets its contract
 pub is-head-spec : {M : Type 1} → statement M

@@ -20,7 +20,7 @@ returns-5 : tie.Need-returns-5
 returns-5 c = search laws.item_call
 
 returns-6 : tie.Need-returns-6
-returns-6 c = search laws.item-none
+returns-6 c = search laws.item_none
 
 -- the function meets its contract
 pub is-item-spec : {M : Type 1} → statement M

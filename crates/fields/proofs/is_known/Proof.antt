@@ -29,7 +29,7 @@ returns-8 : tie.Need-returns-8
 returns-8 c = cc (laws.known_root _ c.before.match.keys8)
 
 returns-9 : tie.Need-returns-9
-returns-9 c = laws.known-none _ c.match.rest
+returns-9 c = laws.known_none _ c.match.rest
 
 -- the function meets its contract
 pub is-known-spec : {M : Type 1} → statement M

@@ -12,7 +12,7 @@ use Rattle.layout.specs.declared.Checking.TheVariants.{Further}
 use Rattle.decoding.specs.Layout.{check_field}
 use Rattle.layout.specs.Before.{fields_before, checking}
 use Rattle.layout.specs.Index.{bucket_hash, Remembered}
-use Rattle.layout.proofs.RememberedLaws.{remembered_start, keyword_room, outside_room, remembered-next}
+use Rattle.layout.proofs.RememberedLaws.{remembered_start, keyword_room, outside_room, remembered_next}
 use Rattle.layout.proofs.LawsFields as laws
 use native.Mathlib.Omega.{arith}
 use Rattle.layout.proofs.check_layout.Statement.{statement}
@@ -145,7 +145,7 @@ loop-again c =
     let p = field (accepted q) in
     let e = c.remember.ensures in (
       laws.turn_next (turn p).loop.inv.0 (stands p) (further q),
-      remembered-next (turn p).loop.inv.0 (turn p).loop.inv.1 (stands p) (further q) e.keywords_are e.outsides_are,
+      remembered_next (turn p).loop.inv.0 (turn p).loop.inv.1 (stands p) (further q) e.keywords_are e.outsides_are,
     )
 
 -- the function meets its contract

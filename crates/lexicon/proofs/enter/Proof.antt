@@ -19,16 +19,16 @@ at-start p = p.before.before.before.before
 
 seek-requires : tie.Need-seek-requires
 seek-requires c κs =
-    let hash-place = c.before.before in
-    let start = at-start hash-place.before in
-    (laws.entered_planted start.pre.0, hash-place.hash.ensures)
+    let hash_place = c.before.before in
+    let start = at-start hash_place.before in
+    (laws.entered_planted start.pre.0, hash_place.hash.ensures)
 
 settle-requires : tie.Need-settle-requires
 settle-requires c κs =
     let sought = c.before.before in
-    let hash-place = after-hash sought in
-    let start = at-start hash-place.before in
-    ((laws.entered_planted start.pre.0, hash-place.hash.ensures), sought.seek.ensures)
+    let hash_place = after-hash sought in
+    let start = at-start hash_place.before in
+    ((laws.entered_planted start.pre.0, hash_place.hash.ensures), sought.seek.ensures)
 
 slice-write-room-2 : tie.Need-slice-write-room-2
 slice-write-room-2 c =
@@ -46,15 +46,15 @@ link-requires c κs =
 
 returns : tie.Need-returns
 returns c =
-    let link-place = c.before.before in
-    let found = link-place.before.before in
+    let link_place = c.before.before in
+    let found = link_place.before.before in
     let read = (after-hash (after-seek found)).before in
     let start = at-start read in
     let place = place_stored start.args.room.now (start.args.e * 2) start.args.from start.args.size in (
       place,
       rw place
           (laws.enter_one _ _ _ _ found.settle.result start.pre.0 read.part.ensures found.settle.ensures
-          link-place.link.ensures),
+          link_place.link.ensures),
     )
 
 -- the function meets its contract

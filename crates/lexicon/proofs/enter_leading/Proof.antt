@@ -49,9 +49,9 @@ returns-2 c =
 
 returns-3 : tie.Need-returns-3 invariant-loop decreases-loop
 returns-3 c =
-    let front-place = c.before.before in
-    let looked = after-front-at front-place in
-    laws.entering_stop (at-loop looked).loop.inv (Field _ _) (sym front-place.front.given.1 ∙ looked.front_at.ensures)
+    let front_place = c.before.before in
+    let looked = after-front-at front_place in
+    laws.entering_stop (at-loop looked).loop.inv (Field _ _) (sym front_place.front.given.1 ∙ looked.front_at.ensures)
     c.if1.true
 
 sub-kept-size : tie.Need-overflow-sub-kept-size invariant-loop decreases-loop
@@ -64,49 +64,49 @@ kept-size-requires c κs =
 
 add-enter : tie.Need-overflow-add-enter invariant-loop decreases-loop
 add-enter c =
-    let front-place = after_front c.before in
-    let looked = after-front-at front-place in
-    omega (arith, laws.field_fits (at-loop looked).loop.inv (sym front-place.front.given.1 ∙ looked.front_at.ensures))
+    let front_place = after_front c.before in
+    let looked = after-front-at front_place in
+    omega (arith, laws.field_fits (at-loop looked).loop.inv (sym front_place.front.given.1 ∙ looked.front_at.ensures))
 
 enter-requires : tie.Need-enter-requires invariant-loop decreases-loop
 enter-requires c κs =
     let told = c.before.before in
-    let front-place = after_front told.before in
-    let looked = after-front-at front-place in
-    let turn-test = looked.before in
+    let front_place = after_front told.before in
+    let looked = after-front-at front_place in
+    let turn_test = looked.before in
     let inv = (at-loop looked).loop.inv in
     let args = (at-loop looked).before.before.before.before.args in (
-      laws.entering_one inv turn-test.loop-test.taken,
+      laws.entering_one inv turn_test.loop-test.taken,
       omega (
         arith,
-        laws.field_fits inv (sym front-place.front.given.1 ∙ looked.front_at.ensures),
-        kept_less args.every args.kinds ((at-loop looked).loop.e - args.first) front-place.front.given.0.1.0 told.kept-size.ensures,
+        laws.field_fits inv (sym front_place.front.given.1 ∙ looked.front_at.ensures),
+        kept_less args.every args.kinds ((at-loop looked).loop.e - args.first) front_place.front.given.0.1.0 told.kept-size.ensures,
       ),
     )
 
 add_at : tie.Need-overflow-add-at invariant-loop decreases-loop
 add_at c =
     let told = else1 c in
-    let front-place = after_front told in
-    let looked = after-front-at front-place in
-    omega (arith, laws.field_fits (at-loop looked).loop.inv (sym front-place.front.given.1 ∙ looked.front_at.ensures))
+    let front_place = after_front told in
+    let looked = after-front-at front_place in
+    omega (arith, laws.field_fits (at-loop looked).loop.inv (sym front_place.front.given.1 ∙ looked.front_at.ensures))
 
 add-at-2 : tie.Need-overflow-add-at-2 invariant-loop decreases-loop
 add-at-2 c =
     let told = else1 c in
-    let front-place = after_front told in
-    let looked = after-front-at front-place in
-    omega (arith, laws.field_fits (at-loop looked).loop.inv (sym front-place.front.given.1 ∙ looked.front_at.ensures))
+    let front_place = after_front told in
+    let looked = after-front-at front_place in
+    omega (arith, laws.field_fits (at-loop looked).loop.inv (sym front_place.front.given.1 ∙ looked.front_at.ensures))
 
 loop-again : tie.Need-loop-preserved invariant-loop decreases-loop
 loop-again c =
     let entered = c.before.before.before.before in
     let told = else1 c in
-    let front-place = after_front told in
-    let looked = after-front-at front-place in
-    let turn-test = looked.before in
-    laws.entering_next (at-loop looked).loop.inv turn-test.loop-test.taken
-    (sym front-place.front.given.1 ∙ looked.front_at.ensures)
+    let front_place = after_front told in
+    let looked = after-front-at front_place in
+    let turn_test = looked.before in
+    laws.entering_next (at-loop looked).loop.inv turn_test.loop-test.taken
+    (sym front_place.front.given.1 ∙ looked.front_at.ensures)
     told.if1.left
     (after_kept c).kept-size.ensures
     entered.enter.ensures.0

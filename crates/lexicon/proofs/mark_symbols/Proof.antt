@@ -18,11 +18,11 @@ loop-holds c =
 loop-again : tie.Need-loop-preserved invariant-loop decreases-loop
 loop-again c =
     let marked = c.before.before in
-    let part-place = marked.before in
-    let size = part-place.before.before in
+    let part_place = marked.before in
+    let size = part_place.before.before in
     let at = size.before.before in
     let test = at.before.before in
-    laws.marking_next test.before.loop.invariant test.loop-test.true at.wide-number.ensures size.wide-number2.ensures part-place.part.ensures
+    laws.marking_next test.before.loop.invariant test.loop-test.true at.wide-number.ensures size.wide-number2.ensures part_place.part.ensures
     marked.mark.ensures
 
 returns : tie.Need-returns invariant-loop decreases-loop

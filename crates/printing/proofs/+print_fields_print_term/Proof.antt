@@ -204,14 +204,14 @@ fields_same_length_2 t c = laws.kept (cons_from (cons_others c.before.before)).p
 
 fields-write-byte-requires-4 : (t : ℕ) → fields-lts.Need-write-byte-requires-4 (fields_claims t) (fields_at_lem t) print-fields.Post
 fields-write-byte-requires-4 t c κs =
-    let is-nil = c.before in
-    laws.nil_close_fits (fields_row t is-nil.before) is-nil.if2.false
+    let is_nil = c.before in
+    laws.nil_close_fits (fields_row t is_nil.before) is_nil.if2.false
 
 fields-returns-3 : (t : ℕ) → fields-lts.Need-returns-3 (fields_claims t) (fields_at_lem t) print-fields.Post
 fields-returns-3 t c =
     let closed = c.before.before in
-    let is-nil = closed.before.before in
-    laws.nil_printed (fields_row t is-nil.before) is-nil.if2.false closed.write-byte4.ensures
+    let is_nil = closed.before.before in
+    laws.nil_printed (fields_row t is_nil.before) is_nil.if2.false closed.write-byte4.ensures
 
 -- ------------------------------------------------------------------ terms
 

@@ -9,11 +9,11 @@ use Rattle.reports.proofs.lay_number.Tie as tie
 
 returns : tie.Need-returns
 returns c =
-    let lay-place = c.before.before in
-    let decimal-place = lay-place.before.before.before in
-    let made = decimal-place.decimal.ensures in
+    let lay_place = c.before.before in
+    let decimal_place = lay_place.before.before.before in
+    let made = decimal_place.decimal.ensures in
     let same = made.1.1 ∙ digits_decimal _ _ made.1.0 in
-    (rw same at lay-place.lay.ensures, decimal_bound 19 _ (omega arith))
+    (rw same at lay_place.lay.ensures, decimal_bound 19 _ (omega arith))
 
 -- the function meets its contract
 pub lay-number-spec : {M : Type 1} → statement M

@@ -12,9 +12,9 @@ slice-aggregate-copy-into c = sym (length-take-le _ _ (omega arith))
 
 returns : tie.Need-returns
 returns c =
-    let copy-into-place = c.before.before in
-    let from_place = copy-into-place.before.before.before.before in
-    copied _ _ _ from_place.least.ensures copy-into-place.before.before.before.least2.ensures copy-into-place.copy-into.ensures.1
+    let copy_into_place = c.before.before in
+    let from_place = copy_into_place.before.before.before.before in
+    copied _ _ _ from_place.least.ensures copy_into_place.before.before.before.least2.ensures copy_into_place.copy-into.ensures.1
 
 -- the function meets its contract
 pub lay-spec : {M : Type 1} → statement M

@@ -30,9 +30,9 @@ cast-k c =
     let found = after-settle c.before in
     let read = found.before.before in
     let start = at-start read in
-    let found-there = found.settle.ensures in
+    let found_there = found.settle.ensures in
     let counted = read.wide-number.ensures in
-    omega (arith, laws.node_fits start.pre.0.held start.args.s.now counted found.settle.result found-there c.before.spot.given.1)
+    omega (arith, laws.node_fits start.pre.0.held start.args.s.now counted found.settle.result found_there c.before.spot.given.1)
 
 returns : tie.Need-returns
 returns c = search laws.node_keyword

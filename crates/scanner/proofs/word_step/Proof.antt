@@ -49,27 +49,27 @@ own-word-requires c κs =
 
 returns-2 : tie.Need-returns-2
 returns-2 c =
-    let name-place = c.before.before in
-    let named = name-place.before.before in
+    let name_place = c.before.before in
+    let named = name_place.before.before in
     let part = named.before in
     let short = part.before in
     let read = short.before in
     let start = at-start read in
     let asked = start.pre.1 in
     let here = laws.word_here asked.0 asked.2 read.word_at.ensures short.if1.false part.part.ensures in
-    laws.keyword_made here start.pre.0.lexical.held.few_outsides named.class_of.ensures name-place.name.given.1 c.emit.ensures
+    laws.keyword_made here start.pre.0.lexical.held.few_outsides named.class_of.ensures name_place.name.given.1 c.emit.ensures
 
 returns-3 : tie.Need-returns-3
 returns-3 c =
-    let name2-place = c.before.before in
-    let named = name2-place.before.before in
+    let name2_place = c.before.before in
+    let named = name2_place.before.before in
     let part = named.before in
     let short = part.before in
     let read = short.before in
     let start = at-start read in
     let asked = start.pre.1 in
     let here = laws.word_here asked.0 asked.2 read.word_at.ensures short.if1.false part.part.ensures in
-    laws.outside_made here start.pre.0.lexical.held.few_outsides named.class_of.ensures name2-place.name2.given.1 c.emit2.ensures
+    laws.outside_made here start.pre.0.lexical.held.few_outsides named.class_of.ensures name2_place.name2.given.1 c.emit2.ensures
 
 returns-4 : tie.Need-returns-4
 returns-4 c =

@@ -26,7 +26,7 @@ returns : tie.Need-returns
 returns c = search laws.step_block
 
 returns-2 : tie.Need-returns-2
-returns-2 c = search laws.step-parameters
+returns-2 c = search laws.step_parameters
 
 same-length-3 : tie.Need-same-length-3
 same-length-3 c = refl

@@ -90,7 +90,7 @@ loop-less c =
 loop-again : tie.Need-loop-preserved invariant-loop decreases-loop
 loop-again c =
     let p = checked c.before.before.before in
-    laws.sorting-next (turn (field p)).loop.inv (field p).field_at.ensures p.check-field.ensures (field p).before.loop-test.taken
+    laws.sorting_next (turn (field p)).loop.inv (field p).field_at.ensures p.check-field.ensures (field p).before.loop-test.taken
     c.before.step2.given.1 p.check-field.kept.0 p.check-field.kept.1.0 p.check-field.kept.1.1.0
 
 returns-3 : tie.Need-returns-3 invariant-loop decreases-loop

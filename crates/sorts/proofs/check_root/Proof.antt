@@ -13,14 +13,14 @@ returns-2 c =
     let p = c.before in
     let q = p.before in
     let r = q.before in
-    laws.root-tested _ _ _ r.before.head_of.ensures r.if1.false q.signature_at.ensures p.byte.ensures true c.if2.true
+    laws.root_tested _ _ _ r.before.head_of.ensures r.if1.false q.signature_at.ensures p.byte.ensures true c.if2.true
 
 returns-3 : tie.Need-returns-3
 returns-3 c =
     let p = c.before in
     let q = p.before in
     let r = q.before in
-    laws.root-tested _ _ _ r.before.head_of.ensures r.if1.false q.signature_at.ensures p.byte.ensures false c.if2.false
+    laws.root_tested _ _ _ r.before.head_of.ensures r.if1.false q.signature_at.ensures p.byte.ensures false c.if2.false
 
 -- the function meets its contract
 pub check-root-spec : {M : Type 1} → statement M

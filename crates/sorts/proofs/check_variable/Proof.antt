@@ -18,7 +18,7 @@ returns : tie.Need-returns
 returns c = search laws.item_refused
 
 returns-2 : tie.Need-returns-2
-returns-2 c = search laws.item-added
+returns-2 c = search laws.item_added
 
 -- the function meets its contract
 pub check-variable-spec : {M : Type 1} → statement M

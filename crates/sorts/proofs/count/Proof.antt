@@ -11,10 +11,10 @@ add-t10 : tie.Need-overflow-add-t10
 add-t10 c = omega arith
 
 returns : tie.Need-returns
-returns c = laws.count-keyword _ _ _ c.match.keys1
+returns c = laws.count_keyword _ _ _ c.match.keys1
 
 returns-2 : tie.Need-returns-2
-returns-2 c = laws.count-outside _ _ _ c.match.keys2
+returns-2 c = laws.count_outside _ _ _ c.match.keys2
 
 returns-3 : tie.Need-returns-3
 returns-3 c = laws.count_head _ _ _ c.match.keys3

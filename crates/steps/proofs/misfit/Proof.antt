@@ -8,8 +8,8 @@ use Rattle.steps.proofs.misfit.Tie as tie
 
 returns : tie.Need-returns
 returns c =
-    let entry_IsPlace = c.before.before in
-    c.refuse.ensures ∙ ap (λ (n : ℕ). refusal 17 entry_IsPlace.args.at entry_IsPlace.args.kinds n) c.before.count.ensures
+    let entry_is_place = c.before.before in
+    c.refuse.ensures ∙ ap (λ (n : ℕ). refusal 17 entry_is_place.args.at entry_is_place.args.kinds n) c.before.count.ensures
 
 -- the function meets its contract
 pub misfit-spec : {M : Type 1} → statement M

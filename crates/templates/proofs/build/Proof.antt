@@ -10,10 +10,10 @@ build-node-requires c κs = search laws.node_takes
 returns : tie.Need-returns
 returns c =
     let p = c.before in
-    let head-at-place = p.before.before in
-    let entry_IsPlace = head-at-place.before.before.before.before in
-    laws.leaf_built entry_IsPlace.args.v.now entry_IsPlace.args.at entry_IsPlace.args.m head-at-place.head_at.result p.head.given.1
-    head-at-place.head_at.ensures.0 head-at-place.head_at.ensures.1 entry_IsPlace.args.cells.now
+    let head_at_place = p.before.before in
+    let entry_is_place = head_at_place.before.before.before.before in
+    laws.leaf_built entry_is_place.args.v.now entry_is_place.args.at entry_is_place.args.m head_at_place.head_at.result p.head.given.1
+    head_at_place.head_at.ensures.0 head_at_place.head_at.ensures.1 entry_is_place.args.cells.now
 
 -- the function meets its contract
 pub build-spec : {M : Type 1} → statement M

@@ -31,7 +31,7 @@ define-requires : tie.Need-define-requires invariant-loop decreases-loop
 define-requires c κs = omega arith
 
 returns-2 : tie.Need-returns-2 invariant-loop decreases-loop
-returns-2 c = search laws.collecting-fault
+returns-2 c = search laws.collecting_fault
 
 loop-less : tie.Need-loop-smaller invariant-loop decreases-loop
 loop-less c =

@@ -15,7 +15,7 @@ returns c =
     let p = c.before in
     let q = p.before in
     let r = q.before in
-    laws.fault-earlier _ _ _ _ (earlier p).before.before.byte.ensures (earlier p).before.byte2.ensures (earlier p).head_of.ensures
+    laws.fault_earlier _ _ _ _ (earlier p).before.before.byte.ensures (earlier p).before.byte2.ensures (earlier p).head_of.ensures
     r.before.if1.true r.signature_at.ensures q.signature-at2.ensures p.equal.ensures true c.if2.true
 
 returns-2 : tie.Need-returns-2
@@ -23,7 +23,7 @@ returns-2 c =
     let p = c.before in
     let q = p.before in
     let r = q.before in
-    laws.fault-earlier _ _ _ _ (earlier p).before.before.byte.ensures (earlier p).before.byte2.ensures (earlier p).head_of.ensures
+    laws.fault_earlier _ _ _ _ (earlier p).before.before.byte.ensures (earlier p).before.byte2.ensures (earlier p).head_of.ensures
     r.before.if1.true r.signature_at.ensures q.signature-at2.ensures p.equal.ensures false c.if2.false
 
 returns-3 : tie.Need-returns-3

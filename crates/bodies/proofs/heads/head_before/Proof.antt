@@ -13,12 +13,12 @@ add-byte c = omega (arith, c.before.shared-slice-known2.given c.before.before.be
 returns : tie.Need-returns
 returns c =
     let p = c.before in
-    laws.before-kept _ _ _ _ p.before.head_of.ensures p.byte.ensures true c.if1.true
+    laws.before_kept _ _ _ _ p.before.head_of.ensures p.byte.ensures true c.if1.true
 
 returns-2 : tie.Need-returns-2
 returns-2 c =
     let p = c.before in
-    laws.before-kept _ _ _ _ p.before.head_of.ensures p.byte.ensures false c.if1.false
+    laws.before_kept _ _ _ _ p.before.head_of.ensures p.byte.ensures false c.if1.false
 
 -- the function meets its contract
 pub head-before-spec : {M : Type 1} → statement M

@@ -52,7 +52,7 @@ returns : tie.Need-returns
 returns c = search laws.call_undefined
 
 returns-2 : tie.Need-returns-2
-returns-2 c = search laws.call-bare
+returns-2 c = search laws.call_bare
 
 open-params-requires : tie.Need-open-params-requires
 open-params-requires c κs = omega (arith, short c.before.before)

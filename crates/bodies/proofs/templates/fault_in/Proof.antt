@@ -22,7 +22,7 @@ abbrev read : tie.After-fill invariant-loop decreases-loop → tie.After-wide-by
 read p = p.before.before.before.before
 
 loop-holds : tie.Need-loop-init invariant-loop decreases-loop
-loop-holds c = search laws.testing-start
+loop-holds c = search laws.testing_start
 
 returns : tie.Need-returns invariant-loop decreases-loop
 returns c = search laws.testing_unnamed
@@ -31,7 +31,7 @@ loop-again : tie.Need-loop-preserved invariant-loop decreases-loop
 loop-again c = search laws.testing_number
 
 returns-2 : tie.Need-returns-2 invariant-loop decreases-loop
-returns-2 c = search laws.testing-unbound
+returns-2 c = search laws.testing_unbound
 
 fill-requires : tie.Need-fill-requires invariant-loop decreases-loop
 fill-requires c κs = omega arith
@@ -39,7 +39,7 @@ fill-requires c κs = omega arith
 loop-again-2 : tie.Need-loop-preserved-2 invariant-loop decreases-loop
 loop-again-2 c =
     let p = c.before.before in
-    laws.testing-next (turn (read p)).before.loop.inv (turn (read p)).loop-test.taken refl (read p).wide-byte.ensures
+    laws.testing_next (turn (read p)).before.loop.inv (turn (read p)).loop-test.taken refl (read p).wide-byte.ensures
     p.before.before.before.if1.false p.before.before.if3.false p.fill.auto.0 p.fill.ensures
 
 returns-3 : tie.Need-returns-3 invariant-loop decreases-loop

@@ -28,7 +28,7 @@ add-top c =
     omega (arith, laws.opening_room r.requires q.loop.invariant p.loop-test.true)
 
 loop-again : tie.Need-loop-preserved invariant-loop decreases-loop
-loop-again c = search laws.opening-next
+loop-again c = search laws.opening_next
 
 returns-2 : tie.Need-returns-2 invariant-loop decreases-loop
 returns-2 c = search laws.opening_end

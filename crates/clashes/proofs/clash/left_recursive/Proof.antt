@@ -19,16 +19,16 @@ loop-holds c = laws.lowest_start
 
 returns : tie.Need-returns invariant-loop decreases-loop
 returns c =
-    let at-loop-test = c.before.before.before in
-    let at-loop = at-loop-test.before in
-    laws.lowest_stop at-loop.loop.invariant at-loop-test.loop-test.true
+    let at_loop_test = c.before.before.before in
+    let at-loop = at_loop_test.before in
+    laws.lowest_stop at-loop.loop.invariant at_loop_test.loop-test.true
     (laws.reach_is _ c.before.before.set_at.ensures c.before.has.ensures ∙ c.if1.true)
 
 loop-again : tie.Need-loop-preserved invariant-loop decreases-loop
 loop-again c =
-    let at-loop-test = c.before.before.before in
-    let at-loop = at-loop-test.before in
-    laws.lowest_next at-loop.loop.invariant at-loop-test.loop-test.true
+    let at_loop_test = c.before.before.before in
+    let at-loop = at_loop_test.before in
+    laws.lowest_next at-loop.loop.invariant at_loop_test.loop-test.true
     (laws.reach_is _ c.before.before.set_at.ensures c.before.has.ensures ∙ c.if1.false)
 
 returns-2 : tie.Need-returns-2 invariant-loop decreases-loop

@@ -6,10 +6,10 @@ use Rattle.firsts.proofs.sets.take_callee.Statement.{statement}
 use Rattle.firsts.proofs.sets.take_callee.Tie as tie
 
 abbrev invariant-loop : tie.invariant-loop
-invariant-loop calls₀ kinds₀ many k more-calls more-kinds n₀ calls kinds n = laws.Taking many k n calls₀ kinds₀ calls kinds
+invariant-loop calls₀ kinds₀ many k more_calls more_kinds n₀ calls kinds n = laws.Taking many k n calls₀ kinds₀ calls kinds
 
 abbrev decreases-loop : tie.decreases-loop
-decreases-loop calls₀ kinds₀ many k more-calls more-kinds n₀ calls kinds n = many - n
+decreases-loop calls₀ kinds₀ many k more_calls more_kinds n₀ calls kinds n = many - n
 
 loop-holds : tie.Need-loop-init invariant-loop decreases-loop
 loop-holds c = search laws.taking_start

@@ -73,7 +73,7 @@ cast-room-4 : tie.Need-overflow-cast-room-4
 cast-room-4 c = omega (arith, few c.before)
 
 returns-2 : tie.Need-returns-2
-returns-2 c = search (laws.entered-some, not-false, hashed c.before)
+returns-2 c = search (laws.entered_some, not-false, hashed c.before)
 
 -- the function meets its contract
 pub enter_spec : {M : Type 1} → statement M

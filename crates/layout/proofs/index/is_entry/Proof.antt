@@ -13,7 +13,7 @@ returns-2 c =
     let q = c.before in
     let r = q.before in
     λ w p e f. c.equal.ensures
-    ∙ laws.entry-same _ e r.before.before.wide-number2.ensures r.wide-number3.ensures q.part.ensures
+    ∙ laws.entry_same _ e r.before.before.wide-number2.ensures r.wide-number3.ensures q.part.ensures
 
 -- the function meets its contract
 pub is-entry-spec : {M : Type 1} → statement M

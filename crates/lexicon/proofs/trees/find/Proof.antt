@@ -42,55 +42,55 @@ is-spelled-requires c κs = laws.place_inside c.before.loop.invariant.standing c
 
 returns : tie.Need-returns invariant-loop decreases-loop
 returns c =
-    let turn-test = c.before.before in
-    let inv = turn-test.before.loop.invariant in
-    laws.standing_found inv.standing turn-test.loop-test.true _ c.before.is_spelled.ensures c.if1.true
+    let turn_test = c.before.before in
+    let inv = turn_test.before.loop.invariant in
+    laws.standing_found inv.standing turn_test.loop-test.true _ c.before.is_spelled.ensures c.if1.true
 
 add-slot : tie.Need-overflow-add-slot invariant-loop decreases-loop
 add-slot c =
-    let turn-test = in-loop c in
-    omega (arith, laws.branch_inside turn-test.before.loop.inv.standing turn-test.loop-test.taken)
+    let turn_test = in-loop c in
+    omega (arith, laws.branch_inside turn_test.before.loop.inv.standing turn_test.loop-test.taken)
 
 mul-slot : tie.Need-overflow-mul-slot invariant-loop decreases-loop
 mul-slot c =
-    let turn-test = in-loop c in
-    omega (arith, laws.branch_inside turn-test.before.loop.inv.standing turn-test.loop-test.taken)
+    let turn_test = in-loop c in
+    omega (arith, laws.branch_inside turn_test.before.loop.inv.standing turn_test.loop-test.taken)
 
 add-slot-2 : tie.Need-overflow-add-slot-2 invariant-loop decreases-loop
 add-slot-2 c =
-    let turn-test = in-loop c in
-    omega (arith, laws.branch_inside turn-test.before.loop.inv.standing turn-test.loop-test.taken)
+    let turn_test = in-loop c in
+    omega (arith, laws.branch_inside turn_test.before.loop.inv.standing turn_test.loop-test.taken)
 
 add-slot-3 : tie.Need-overflow-add-slot-3 invariant-loop decreases-loop
 add-slot-3 c =
-    let turn-test = in-loop c.before in
-    omega (arith, laws.branch_inside turn-test.before.loop.inv.standing turn-test.loop-test.taken)
+    let turn_test = in-loop c.before in
+    omega (arith, laws.branch_inside turn_test.before.loop.inv.standing turn_test.loop-test.taken)
 
 mul-wide-number-2 : tie.Need-overflow-mul-wide-number-2 invariant-loop decreases-loop
 mul-wide-number-2 c =
-    let turn-test = in-loop c.before.before in
-    let start = at-start turn-test.before.before.before.before in
-    omega (arith, laws.branch_inside turn-test.before.loop.inv.standing turn-test.loop-test.taken, start.good)
+    let turn_test = in-loop c.before.before in
+    let start = at-start turn_test.before.before.before.before in
+    omega (arith, laws.branch_inside turn_test.before.loop.inv.standing turn_test.loop-test.taken, start.good)
 
 shared-slice-read-wide-number-2 : tie.Need-shared-slice-read-wide-number-2 invariant-loop decreases-loop
 shared-slice-read-wide-number-2 c =
-    let turn-test = in-loop c.before.before.before in
-    omega (arith, laws.branch_inside turn-test.before.loop.inv.standing turn-test.loop-test.taken)
+    let turn_test = in-loop c.before.before.before in
+    omega (arith, laws.branch_inside turn_test.before.loop.inv.standing turn_test.loop-test.taken)
 
 loop-less : tie.Need-loop-smaller invariant-loop decreases-loop
 loop-less c =
     let refilled = c.before.before.before.before in
-    let turn-test = in-loop refilled in
-    let standing = turn-test.before.loop.inv.standing in
-    let more = turn-test.loop-test.taken in
+    let turn_test = in-loop refilled in
+    let standing = turn_test.before.loop.inv.standing in
+    let more = turn_test.loop-test.taken in
     omega (arith, laws.standing_behind standing more refilled.refill.result.turns, laws.branch_inside standing more)
 
 loop-again : tie.Need-loop-preserved invariant-loop decreases-loop
 loop-again c =
     let refilled = c.before.before.before.before in
     let else1 = refilled.before in
-    let turn-test = in-loop refilled in
-    laws.searching_next turn-test.before.loop.inv turn-test.loop-test.taken else1.before.is_spelled.ensures
+    let turn_test = in-loop refilled in
+    laws.searching_next turn_test.before.loop.inv turn_test.loop-test.taken else1.before.is_spelled.ensures
     else1.if1.false
     refilled.refill.ensures
     refl

@@ -6,10 +6,10 @@ use Rattle.lexicon.proofs.trees.is_spelled.Tie as tie
 
 returns : tie.Need-returns
 returns c =
-    let wide2-place = c.before.before in
-    let places = wide2-place.before.before in
+    let wide2_place = c.before.before in
+    let places = wide2_place.before.before in
     let args = places.before.before.before.before.before.args in
-    laws.word_read _ args.places.now _ args.i places.wide-number.ensures wide2-place.wide-number2.ensures
+    laws.word_read _ args.places.now _ args.i places.wide-number.ensures wide2_place.wide-number2.ensures
     c.before.part.ensures
     c.equal.ensures
 

@@ -44,54 +44,54 @@ is-spelled-requires c κs = laws.place_inside c.before.loop.invariant.standing c
 
 returns : tie.Need-returns invariant-loop decreases-loop
 returns c =
-    let turn-test = c.before.before in
-    let inv = turn-test.before.loop.invariant in
-    laws.standing_found inv.standing turn-test.loop-test.true _ c.before.is_spelled.ensures c.if1.true
+    let turn_test = c.before.before in
+    let inv = turn_test.before.loop.invariant in
+    laws.standing_found inv.standing turn_test.loop-test.true _ c.before.is_spelled.ensures c.if1.true
 
 add-slot : tie.Need-overflow-add-slot invariant-loop decreases-loop
 add-slot c =
-    let turn-test = in-loop c in
-    omega (arith, laws.branch_inside (at-loop c).loop.inv.standing turn-test.loop-test.taken)
+    let turn_test = in-loop c in
+    omega (arith, laws.branch_inside (at-loop c).loop.inv.standing turn_test.loop-test.taken)
 
 mul-slot : tie.Need-overflow-mul-slot invariant-loop decreases-loop
 mul-slot c =
-    let turn-test = in-loop c in
-    omega (arith, laws.branch_inside (at-loop c).loop.inv.standing turn-test.loop-test.taken)
+    let turn_test = in-loop c in
+    omega (arith, laws.branch_inside (at-loop c).loop.inv.standing turn_test.loop-test.taken)
 
 add-slot-2 : tie.Need-overflow-add-slot-2 invariant-loop decreases-loop
 add-slot-2 c =
-    let turn-test = in-loop c in
-    omega (arith, laws.branch_inside (at-loop c).loop.inv.standing turn-test.loop-test.taken)
+    let turn_test = in-loop c in
+    omega (arith, laws.branch_inside (at-loop c).loop.inv.standing turn_test.loop-test.taken)
 
 add-slot-3 : tie.Need-overflow-add-slot-3 invariant-loop decreases-loop
 add-slot-3 c =
-    let turn-test = in-loop c in
-    omega (arith, laws.branch_inside (at-loop c).loop.inv.standing turn-test.loop-test.taken)
+    let turn_test = in-loop c in
+    omega (arith, laws.branch_inside (at-loop c).loop.inv.standing turn_test.loop-test.taken)
 
 mul-wide-number-2 : tie.Need-overflow-mul-wide-number-2 invariant-loop decreases-loop
 mul-wide-number-2 c =
-    let turn-test = in-loop c in
-    omega (arith, laws.branch_inside (at-loop c).loop.inv.standing turn-test.loop-test.taken)
+    let turn_test = in-loop c in
+    omega (arith, laws.branch_inside (at-loop c).loop.inv.standing turn_test.loop-test.taken)
 
 shared-slice-read-wide-number-2 : tie.Need-shared-slice-read-wide-number-2 invariant-loop decreases-loop
 shared-slice-read-wide-number-2 c =
-    let turn-test = in-loop c.before in
-    omega (arith, laws.branch_inside turn-test.before.loop.inv.standing turn-test.loop-test.taken)
+    let turn_test = in-loop c.before in
+    omega (arith, laws.branch_inside turn_test.before.loop.inv.standing turn_test.loop-test.taken)
 
 loop-less : tie.Need-loop-smaller invariant-loop decreases-loop
 loop-less c =
-    let turn-test = in-loop c.before.before in
-    let standing = turn-test.before.loop.inv.standing in
-    let more = turn-test.loop-test.taken in
-    omega (arith, laws.standing_behind standing more turn-test.before.loop.turns, laws.branch_inside standing more)
+    let turn_test = in-loop c.before.before in
+    let standing = turn_test.before.loop.inv.standing in
+    let more = turn_test.loop-test.taken in
+    omega (arith, laws.standing_behind standing more turn_test.before.loop.turns, laws.branch_inside standing more)
 
 loop-again : tie.Need-loop-preserved invariant-loop decreases-loop
 loop-again c =
     let else1 = c.before.before in
-    let is-spelled-place = else1.before in
-    let turn-test = in-loop else1 in
+    let is_spelled_place = else1.before in
+    let turn_test = in-loop else1 in
     let inv = (at-loop else1).loop.inv in
-    laws.seeking_next inv turn-test.loop-test.taken is-spelled-place.is_spelled.ensures
+    laws.seeking_next inv turn_test.loop-test.taken is_spelled_place.is_spelled.ensures
     else1.if1.false refl refl c.wide-number2.ensures
 
 returns-3 : tie.Need-returns-3 invariant-loop decreases-loop

@@ -39,13 +39,13 @@ shared-slice-read-result c =
 
 returns-4 : tie.Need-returns-4
 returns-4 c =
-    let wide-short-place = c.before.before in
-    let else3 = wide-short-place.before in
+    let wide_short_place = c.before.before in
+    let else3 = wide_short_place.before in
     let else2 = else3.before in
     let else1 = else2.before in
     let entry = at-start else1 in
     laws.found_at _ _ (entry.args.count + 1) _ else1.if1.false
-    else2.if2.false else3.if3.false wide-short-place.wide_short.ensures
+    else2.if2.false else3.if3.false wide_short_place.wide_short.ensures
     c.before.if4.true
 
 returns-5 : tie.Need-returns-5

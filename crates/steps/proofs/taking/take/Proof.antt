@@ -6,25 +6,25 @@ use Rattle.steps.proofs.taking.take.Tie as tie
 
 returns : tie.Need-returns
 returns c =
-    let kind-at-place = c.before.before in
-    let entry_IsPlace = kind-at-place.before.before in
+    let kind_at_place = c.before.before in
+    let entry_is_place = kind_at_place.before.before in
     record {
       takes =
           λ I cells e.
           rw c.behind.ensures
-          (laws.take_fits I entry_IsPlace.args.s cells _ entry_IsPlace.args.value entry_IsPlace.args.tokens.now _ kind-at-place.kind_at.ensures e
+          (laws.take_fits I entry_is_place.args.s cells _ entry_is_place.args.value entry_is_place.args.tokens.now _ kind_at_place.kind_at.ensures e
           c.before.if1.true);
-      spends = laws.taken_spends entry_IsPlace.args.s c.behind.ensures;
+      spends = laws.taken_spends entry_is_place.args.s c.behind.ensures;
     }
 
 returns-2 : tie.Need-returns-2
 returns-2 c =
-    let kind-at-place = c.before.before.before in
-    let entry_IsPlace = kind-at-place.before.before in
+    let kind_at_place = c.before.before.before in
+    let entry_is_place = kind_at_place.before.before in
     record {
       takes =
           λ I cells e.
-          laws.take_misfits I entry_IsPlace.args.s cells _ entry_IsPlace.args.value entry_IsPlace.args.tokens.now _ kind-at-place.kind_at.ensures e
+          laws.take_misfits I entry_is_place.args.s cells _ entry_is_place.args.value entry_is_place.args.tokens.now _ kind_at_place.kind_at.ensures e
           c.before.before.if1.false _ _ c.before.set-of-kind.ensures c.misfit.ensures;
       spends = tt;
     }

@@ -11,43 +11,43 @@ entered p = p.before.before
 
 returns : tie.Need-returns
 returns c =
-    let word-place = c.before in
-    let read-place = word-place.before in
-    let kind-place = read-place.before.before in
-    let entry_IsPlace = entered kind-place in
+    let word_place = c.before in
+    let read_place = word_place.before in
+    let kind_place = read_place.before.before in
+    let entry_is_place = entered kind_place in
     record {
       takes =
           λ I cells e.
-          laws.ide_word I entry_IsPlace.args.s cells entry_IsPlace.args.sort entry_IsPlace.args.tokens.now e kind-place.kind_at.ensures
-          read-place.value-at.ensures.0 read-place.before.if1.true word-place.word_value.ensures c.behind.ensures;
-      spends = laws.taken_spends entry_IsPlace.args.s c.behind.ensures;
+          laws.ide_word I entry_is_place.args.s cells entry_is_place.args.sort entry_is_place.args.tokens.now e kind_place.kind_at.ensures
+          read_place.value-at.ensures.0 read_place.before.if1.true word_place.word_value.ensures c.behind.ensures;
+      spends = laws.taken_spends entry_is_place.args.s c.behind.ensures;
     }
 
 returns-2 : tie.Need-returns-2
 returns-2 c =
-    let read-place = c.before.before in
-    let met-place = read-place.before.before in
-    let kind-place = met-place.before.before in
-    let entry_IsPlace = entered kind-place in
+    let read_place = c.before.before in
+    let met_place = read_place.before.before in
+    let kind_place = met_place.before.before in
+    let entry_is_place = entered kind_place in
     record {
       takes =
           λ I cells e.
-          laws.ide_met I entry_IsPlace.args.s cells entry_IsPlace.args.sort entry_IsPlace.args.tokens.now e kind-place.kind_at.ensures
-          read-place.value-at2.ensures.0 met-place.meets-ide.ensures read-place.before.if2.true c.before.ide-value.ensures
+          laws.ide_met I entry_is_place.args.s cells entry_is_place.args.sort entry_is_place.args.tokens.now e kind_place.kind_at.ensures
+          read_place.value-at2.ensures.0 met_place.meets-ide.ensures read_place.before.if2.true c.before.ide-value.ensures
           c.behind2.ensures;
-      spends = laws.taken_spends entry_IsPlace.args.s c.behind2.ensures;
+      spends = laws.taken_spends entry_is_place.args.s c.behind2.ensures;
     }
 
 returns-3 : tie.Need-returns-3
 returns-3 c =
-    let met-place = c.before.before.before in
-    let kind-place = met-place.before.before in
-    let entry_IsPlace = entered kind-place in
+    let met_place = c.before.before.before in
+    let kind_place = met_place.before.before in
+    let entry_is_place = entered kind_place in
     record {
       takes =
           λ I cells e.
-          laws.ide_misfits I entry_IsPlace.args.s cells entry_IsPlace.args.sort entry_IsPlace.args.tokens.now e kind-place.kind_at.ensures
-          refl met-place.before.if1.false met-place.meets-ide.ensures c.before.before.if2.false
+          laws.ide_misfits I entry_is_place.args.s cells entry_is_place.args.sort entry_is_place.args.tokens.now e kind_place.kind_at.ensures
+          refl met_place.before.if1.false met_place.meets-ide.ensures c.before.before.if2.false
           c.before.set-of-kind.ensures c.misfit.ensures;
       spends = tt;
     }

@@ -20,28 +20,28 @@ returns-2 c =
 
 returns-3 : tie.Need-returns-3
 returns-3 c =
-    let choose-place = c.before.before.before in
-    let kind-place = choose-place.before.before in
-    let tested = kind-place.before in
+    let choose_place = c.before.before.before in
+    let kind_place = choose_place.before.before in
+    let tested = kind_place.before in
     let entry = tested.before.before.before in
     record {
       starts =
           λ S rows h m.
-          laws.starts_at h entry.args.tokens.now rows _ _ _ _ tested.before.if1.false tested.if2.false kind-place.kind_at.ensures
-          (choose-place.choose.ensures S.patterns S.bytes h.held m) c.before.before.if3.true c.before.start.ensures c.with_call.ensures;
+          laws.starts_at h entry.args.tokens.now rows _ _ _ _ tested.before.if1.false tested.if2.false kind_place.kind_at.ensures
+          (choose_place.choose.ensures S.patterns S.bytes h.held m) c.before.before.if3.true c.before.start.ensures c.with_call.ensures;
     }
 
 returns-4 : tie.Need-returns-4
 returns-4 c =
-    let choose-place = c.before.before.before in
-    let kind-place = choose-place.before.before in
-    let tested = kind-place.before in
+    let choose_place = c.before.before.before in
+    let kind_place = choose_place.before.before in
+    let tested = kind_place.before in
     let entry = tested.before.before.before in
     record {
       starts =
           λ S rows h m.
-          laws.starts_nowhere h entry.args.tokens.now rows _ _ _ _ tested.before.if1.false tested.if2.false kind-place.kind_at.ensures
-          (choose-place.choose.ensures S.patterns S.bytes h.held m) c.before.before.if3.false (c.before.kinds-of.ensures ∙ kinds_are h.held _)
+          laws.starts_nowhere h entry.args.tokens.now rows _ _ _ _ tested.before.if1.false tested.if2.false kind_place.kind_at.ensures
+          (choose_place.choose.ensures S.patterns S.bytes h.held m) c.before.before.if3.false (c.before.kinds-of.ensures ∙ kinds_are h.held _)
           c.misfit.ensures;
     }
 

@@ -9,26 +9,26 @@ use Rattle.turns.proofs.begins.begin_root.Tie as tie
 
 returns : tie.Need-returns
 returns c =
-    let choose-place = c.before.before.before in
-    let kind-place = choose-place.before.before in
-    let entry = kind-place.before.before in
+    let choose_place = c.before.before.before in
+    let kind_place = choose_place.before.before in
+    let entry = kind_place.before.before in
     record {
       starts =
           λ S rows h m.
-          laws.starts_at h entry.args.tokens.now rows _ _ _ _ (λ e. omega arith) (omega arith) kind-place.kind_at.ensures
-          (choose-place.choose.ensures S.patterns S.bytes h.held m) c.before.before.if1.true c.before.start.ensures c.with_call.ensures;
+          laws.starts_at h entry.args.tokens.now rows _ _ _ _ (λ e. omega arith) (omega arith) kind_place.kind_at.ensures
+          (choose_place.choose.ensures S.patterns S.bytes h.held m) c.before.before.if1.true c.before.start.ensures c.with_call.ensures;
     }
 
 returns-2 : tie.Need-returns-2
 returns-2 c =
-    let choose-place = c.before.before.before in
-    let kind-place = choose-place.before.before in
-    let entry = kind-place.before.before in
+    let choose_place = c.before.before.before in
+    let kind_place = choose_place.before.before in
+    let entry = kind_place.before.before in
     record {
       starts =
           λ S rows h m.
-          laws.starts_nowhere h entry.args.tokens.now rows _ _ _ _ (λ e. omega arith) (omega arith) kind-place.kind_at.ensures
-          (choose-place.choose.ensures S.patterns S.bytes h.held m) c.before.before.if1.false (c.before.kinds-of.ensures ∙ kinds_are h.held _)
+          laws.starts_nowhere h entry.args.tokens.now rows _ _ _ _ (λ e. omega arith) (omega arith) kind_place.kind_at.ensures
+          (choose_place.choose.ensures S.patterns S.bytes h.held m) c.before.before.if1.false (c.before.kinds-of.ensures ∙ kinds_are h.held _)
           c.misfit.ensures;
     }
 

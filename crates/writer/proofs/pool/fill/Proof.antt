@@ -60,82 +60,82 @@ shared-slice-read-wide-number c =
 
 mul-wide-number-3 : tie.Need-overflow-mul-wide-number-3 invariant-loop decreases-loop
 mul-wide-number-3 c =
-    let turn-test = in-loop c in
-    let entry = at-start turn-test in
-    omega (arith, entry.pre.few, turn-test.loop-test.taken)
+    let turn_test = in-loop c in
+    let entry = at-start turn_test in
+    omega (arith, entry.pre.few, turn_test.loop-test.taken)
 
 add-wide-number : tie.Need-overflow-add-wide-number invariant-loop decreases-loop
 add-wide-number c =
-    let turn-test = in-loop c in
-    let entry = at-start turn-test in
-    omega (arith, entry.pre.few, turn-test.loop-test.taken)
+    let turn_test = in-loop c in
+    let entry = at-start turn_test in
+    omega (arith, entry.pre.few, turn_test.loop-test.taken)
 
 mul-wide-number-4 : tie.Need-overflow-mul-wide-number-4 invariant-loop decreases-loop
 mul-wide-number-4 c =
-    let turn-test = in-loop c in
-    let entry = at-start turn-test in
-    omega (arith, entry.pre.few, turn-test.loop-test.taken)
+    let turn_test = in-loop c in
+    let entry = at-start turn_test in
+    omega (arith, entry.pre.few, turn_test.loop-test.taken)
 
 shared-slice-read-wide-number-2 : tie.Need-shared-slice-read-wide-number-2 invariant-loop decreases-loop
 shared-slice-read-wide-number-2 c =
-    let turn-test = in-loop c.before in
-    let entry = at-start turn-test in
-    omega (arith, entry.pre.lie, turn-test.loop-test.taken)
+    let turn_test = in-loop c.before in
+    let entry = at-start turn_test in
+    omega (arith, entry.pre.lie, turn_test.loop-test.taken)
 
 add-store : tie.Need-overflow-add-store invariant-loop decreases-loop
 add-store c =
-    let turn-test = in-loop (after-wide-number c.before) in
-    let entry = at-start turn-test in
-    omega (arith, entry.pre.few, turn-test.loop-test.taken)
+    let turn_test = in-loop (after-wide-number c.before) in
+    let entry = at-start turn_test in
+    omega (arith, entry.pre.few, turn_test.loop-test.taken)
 
 store-requires : tie.Need-store-requires invariant-loop decreases-loop
 store-requires c κs =
-    let wide-number2-place = after-wide-number2 c in
-    let wide-number-place = after-wide-number wide-number2-place in
-    let at-loop-test = in-loop wide-number-place in
-    let at-loop = at-loop-test.before in
-    let at-fill-outsides = after-fill-outsides' at-loop in
-    let entry = at-start at-loop-test in (
+    let wide_number2_place = after-wide-number2 c in
+    let wide_number_place = after-wide-number wide_number2_place in
+    let at_loop_test = in-loop wide_number_place in
+    let at-loop = at_loop_test.before in
+    let at_fill_outsides = after-fill-outsides' at-loop in
+    let entry = at-start at_loop_test in (
       (
         (laws.word_short entry.args.formula.now entry.args.words.now
-            at-loop.loop.i entry.args.count entry.pre.words_fit at-loop-test.loop-test.taken
+            at-loop.loop.i entry.args.count entry.pre.words_fit at_loop_test.loop-test.taken
             (laws.word_is entry.args.formula.now entry.args.words.now at-loop.loop.i
-            wide-number-place.wide-number.ensures wide-number2-place.wide-number2.ensures c.part.ensures)),
+            wide_number_place.wide-number.ensures wide_number2_place.wide-number2.ensures c.part.ensures)),
         (omega (
           arith,
-          at-loop-test.loop-test.taken,
+          at_loop_test.loop-test.taken,
           at-loop.loop.inv.long,
-          at-fill-outsides.fill-outsides.kept.1.0,
+          at_fill_outsides.fill-outsides.kept.1.0,
           entry.pre.room,
         )),
       ),
-      omega (arith, at-loop-test.loop-test.taken, entry.pre.few),
+      omega (arith, at_loop_test.loop-test.taken, entry.pre.few),
     )
 
 add-i : tie.Need-overflow-add-i invariant-loop decreases-loop
 add-i c =
-    let at-loop-test = in-loop' c in
-    let entry = at-start at-loop-test in
-    omega (arith, entry.pre.few, at-loop-test.loop-test.taken)
+    let at_loop_test = in-loop' c in
+    let entry = at-start at_loop_test in
+    omega (arith, entry.pre.few, at_loop_test.loop-test.taken)
 
 loop-less : tie.Need-loop-smaller invariant-loop decreases-loop
 loop-less c =
-    let at-loop-test = in-loop' c in
-    let entry = at-start at-loop-test in
-    omega (arith, entry.pre.few, at-loop-test.loop-test.taken)
+    let at_loop_test = in-loop' c in
+    let entry = at-start at_loop_test in
+    omega (arith, entry.pre.few, at_loop_test.loop-test.taken)
 
 loop-again : tie.Need-loop-preserved invariant-loop decreases-loop
 loop-again c =
-    let store-place = c.before.before in
-    let at_part = store-place.before in
-    let at-wide-number2 = after-wide-number2 at_part in
-    let at-wide-number = after-wide-number at-wide-number2 in
-    let at-loop-test = in-loop at-wide-number in
-    let at-loop = at-loop-test.before in
-    let entry = at-start at-loop-test in
-    laws.storing_next at-loop.loop.inv at-loop-test.loop-test.taken
+    let store_place = c.before.before in
+    let at_part = store_place.before in
+    let at_wide_number2 = after-wide-number2 at_part in
+    let at_wide_number = after-wide-number at_wide_number2 in
+    let at_loop_test = in-loop at_wide_number in
+    let at-loop = at_loop_test.before in
+    let entry = at-start at_loop_test in
+    laws.storing_next at-loop.loop.inv at_loop_test.loop-test.taken
     (laws.word_is entry.args.formula.now entry.args.words.now at-loop.loop.i
-    at-wide-number.wide-number.ensures at-wide-number2.wide-number2.ensures at_part.part.ensures) store-place.store.ensures
+    at_wide_number.wide-number.ensures at_wide_number2.wide-number2.ensures at_part.part.ensures) store_place.store.ensures
 
 same_length : tie.Need-same-length invariant-loop decreases-loop
 same_length c = c.before.loop.invariant.long ∙ (after-fill-outsides' c.before).fill-outsides.kept.1.0

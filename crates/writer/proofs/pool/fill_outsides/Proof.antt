@@ -42,78 +42,78 @@ same_length c = (at-loop c.before.before).loop.inv.long
 
 returns : tie.Need-returns invariant-loop decreases-loop
 returns c =
-    let front-at-place = c.before.before in
-    let turn = at-loop front-at-place in
+    let front_at_place = c.before.before in
+    let turn = at-loop front_at_place in
     laws.filling_out turn.loop.inv
-    Nothing (sym c.enum_told.given.1 ∙ front-at-place.front_at.ensures) tt
+    Nothing (sym c.enum_told.given.1 ∙ front_at_place.front_at.ensures) tt
 
 same-length-2 : tie.Need-same-length-2 invariant-loop decreases-loop
 same-length-2 c = (at-loop c.before.before).loop.inv.long
 
 returns-2 : tie.Need-returns-2 invariant-loop decreases-loop
 returns-2 c =
-    let front-at-place = c.before.before in
-    let turn = at-loop front-at-place in
+    let front_at_place = c.before.before in
+    let turn = at-loop front_at_place in
     laws.filling_out turn.loop.inv
-    Short (sym c.enum-told2.given.1 ∙ front-at-place.front_at.ensures) tt
+    Short (sym c.enum-told2.given.1 ∙ front_at_place.front_at.ensures) tt
 
 same-length-3 : tie.Need-same-length-3 invariant-loop decreases-loop
 same-length-3 c = (at-loop (after-front-at c.before.before)).loop.inv.long
 
 returns-3 : tie.Need-returns-3 invariant-loop decreases-loop
 returns-3 c =
-    let front-place = c.before.before in
-    let front-at-place = after-front-at front-place in
-    let turn = at-loop front-at-place in
+    let front_place = c.before.before in
+    let front_at_place = after-front-at front_place in
+    let turn = at-loop front_at_place in
     laws.filling_out turn.loop.inv (Field _ _)
-    (sym front-place.front.given.1 ∙ front-at-place.front_at.ensures) c.if1.true
+    (sym front_place.front.given.1 ∙ front_at_place.front_at.ensures) c.if1.true
 
 add-from : tie.Need-overflow-add-from invariant-loop decreases-loop
 add-from c =
-    let front-place = after_front c in
-    let front-at-place = after-front-at front-place in
+    let front_place = after_front c in
+    let front_at_place = after-front-at front_place in
     omega (
       arith,
-      front_inside _ (at-loop front-at-place).loop.at
-          (sym front-place.front.given.1 ∙ front-at-place.front_at.ensures),
+      front_inside _ (at-loop front_at_place).loop.at
+          (sym front_place.front.given.1 ∙ front_at_place.front_at.ensures),
     )
 
 store-requires : tie.Need-store-requires invariant-loop decreases-loop
 store-requires c κs =
     let else1 = else1 c in
-    let front-place = after_front else1 in
-    let front-at-place = after-front-at front-place in
-    let at-loop-test = front-at-place.before in
-    let at-loop = at-loop front-at-place in
-    let at-after-leading = after-after-leading front-at-place in
-    let entry = at-start at-after-leading in (
+    let front_place = after_front else1 in
+    let front_at_place = after-front-at front_place in
+    let at_loop_test = front_at_place.before in
+    let at-loop = at-loop front_at_place in
+    let at_after_leading = after-after-leading front_at_place in
+    let entry = at-start at_after_leading in (
       (
-        laws.value_short at-loop.loop.inv at-loop-test.loop-test.taken
-            (sym front-place.front.given.1 ∙ front-at-place.front_at.ensures)
+        laws.value_short at-loop.loop.inv at_loop_test.loop-test.taken
+            (sym front_place.front.given.1 ∙ front_at_place.front_at.ensures)
             else1.if1.left entry.pre.1 c.part.ensures,
         omega
-            (arith, at-loop-test.loop-test.taken, at-loop.loop.inv.long, entry.pre.0),
+            (arith, at_loop_test.loop-test.taken, at-loop.loop.inv.long, entry.pre.0),
       ),
-      omega (arith, at-loop-test.loop-test.taken),
+      omega (arith, at_loop_test.loop-test.taken),
     )
 
 add_at : tie.Need-overflow-add-at invariant-loop decreases-loop
 add_at c =
     let at_front = after_front (else1 c.before.before.before) in
-    let at-front-at = after-front-at at_front in
-    let at-loop = at-loop at-front-at in
-    omega (arith, front_inside _ at-loop.loop.at (sym at_front.front.given.1 ∙ at-front-at.front_at.ensures))
+    let at_front_at = after-front-at at_front in
+    let at-loop = at-loop at_front_at in
+    omega (arith, front_inside _ at-loop.loop.at (sym at_front.front.given.1 ∙ at_front_at.front_at.ensures))
 
 loop-again : tie.Need-loop-preserved invariant-loop decreases-loop
 loop-again c =
-    let store-place = c.before.before in
-    let part-place = store-place.before in
-    let else1 = else1 part-place in
+    let store_place = c.before.before in
+    let part_place = store_place.before in
+    let else1 = else1 part_place in
     let at_front = after_front else1 in
-    let at-front-at = after-front-at at_front in
-    let at-loop-test = at-front-at.before in
-    laws.filling_next (at-loop at-front-at).loop.inv at-loop-test.loop-test.taken
-    (sym at_front.front.given.1 ∙ at-front-at.front_at.ensures) else1.if1.left part-place.part.ensures store-place.store.ensures
+    let at_front_at = after-front-at at_front in
+    let at_loop_test = at_front_at.before in
+    laws.filling_next (at-loop at_front_at).loop.inv at_loop_test.loop-test.taken
+    (sym at_front.front.given.1 ∙ at_front_at.front_at.ensures) else1.if1.left part_place.part.ensures store_place.store.ensures
 
 same-length-4 : tie.Need-same-length-4 invariant-loop decreases-loop
 same-length-4 c = c.before.loop.invariant.long
