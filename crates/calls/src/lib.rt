@@ -1,5 +1,7 @@
 // The calls of an expansion: a rule is chosen, its items are done from the left, and its result is built, as far as a room of frames holds
 // the calls that wait.
+#![tactic(auto)]
+
 ghost use Rattle.steps.specs.Source.{SomeLent, EachLent};
 ghost use Rattle.calls.specs.Calls.{MayGo, Continues};
 

@@ -1,4 +1,6 @@
 // The check of a phrase table: refusals 1 to 13 in document 01's order.
+#![tactic(auto)]
+
 ghost use Rattle.std.specs.Prelude.{◌≡◌, ◌↔◌};
 ghost use Rattle.answers.specs.declared.Verdict.TheVariants.{Passed};
 ghost use Rattle.answers.specs.Refusals.{numbered_verdict};

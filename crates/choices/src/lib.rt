@@ -1,4 +1,6 @@
 // The production that a call takes, by its place in the room of a grammar.
+#![tactic(auto)]
+
 ghost use Rattle.std.specs.Prelude.{ℕ, ◌+◌, ◌^◌, ◌<◌, ◌≤◌, ◌≡◌, List};
 ghost use Rattle.grammar.specs.Limits.{most};
 ghost use Rattle.kinds.specs.Kinds.{no_kind};

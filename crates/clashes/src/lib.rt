@@ -1,4 +1,6 @@
 // Left recursion and clashes: refusals 12 and 13, with the room that an expansion reads.
+#![tactic(auto)]
+
 mod clash;
 pub mod prepared;
 mod sorts;

@@ -1,5 +1,7 @@
 // Templates held as rows, evaluated: each constructor makes one cell, arguments first, left to right. A part that the rows share makes its cells at each
 // place.
+#![tactic(auto)]
+
 ghost use Rattle.std.specs.Prelude.{◌≡◌};
 ghost use Rattle.grammar.specs.Variables.{most_variables};
 ghost use Rattle.copying.specs.Hanging.{is_row_at, VariableBelow, Hangs, HangsAt};

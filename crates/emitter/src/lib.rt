@@ -1,5 +1,7 @@
 // The last step of an expansion: what is judged of its term, refusals 22 and 23, and what is written of a term that passes: refusal 24, or its text, or its
 // portions.
+#![tactic(auto)]
+
 ghost use Rattle.std.specs.Prelude.{◌<◌, ◌≤◌, ◌≡◌, length};
 ghost use Rattle.terms.specs.Term.{largest_term};
 ghost use Rattle.terms.specs.Emit.{fitted};

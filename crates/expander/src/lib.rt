@@ -1,4 +1,6 @@
 // The expander, from tokens to cells: the root's call, in rooms of frames that are as long as the calls that wait need.
+#![tactic(auto)]
+
 ghost use Rattle.std.specs.Prelude.{ℕ, ◌≡◌, List, length};
 ghost use Rattle.expansion.specs.Run.{after};
 ghost use Rattle.expansion.specs.Outcomes.{ran};

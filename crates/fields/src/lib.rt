@@ -1,4 +1,6 @@
 // The tests that a table's layout makes on one field: its tag, length and value, its order, the counts, whole templates. Refusals 3, 4, 6 and 10.
+#![tactic(auto)]
+
 ghost use Rattle.std.specs.Prelude.{◌≡◌, true, ℕ, ◌-◌, drop};
 ghost use Rattle.spellings.specs.Bytes.{every, one_if};
 ghost use Rattle.kinds.specs.Kinds.{has_kind};

@@ -1,6 +1,8 @@
 // Expands formulas, one a line. The table is the file `phrases.tab` in the folder it is started in, empty if it can't be opened or read; the lines are
 // standard input, up to 262,144 bytes: of more, one line says so, and nothing is expanded. For each line stands what the program `phrase` writes for it:
 // `ok` with three counts and then the text, or `refused` with the number and three values. What is written is a definition of these bytes, `formulas_output`.
+#![tactic(auto)]
+
 mod lines;
 
 use crate::lines::{OUT, lay_lines};

@@ -1,4 +1,6 @@
 // The calls that wait. Each has the values of its variables and its activation.
+#![tactic(auto)]
+
 ghost use Rattle.std.specs.Prelude.{◌≤◌, ◌≡◌, length};
 ghost use Rattle.frames.specs.Frames.{activation_in, LevelFits, Storable, Saved, Loaded, with_front};
 

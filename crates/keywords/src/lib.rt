@@ -1,4 +1,6 @@
 // Which keywords count in formulas, and which are given back (document 02, C-13).
+#![tactic(auto)]
+
 ghost use Rattle.std.specs.Prelude.{◌≡◌, ◌<◌};
 ghost use Rattle.keywords.specs.KeptSizes.{kept_size};
 

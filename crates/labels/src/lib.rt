@@ -1,4 +1,6 @@
 // A label given twice in one record: refusal 29. Labels are told apart by their spelling numbers.
+#![tactic(auto)]
+
 ghost use Rattle.std.specs.Prelude.{◌+◌, ◌<◌, ◌≤◌, ◌≡◌, length};
 ghost use Rattle.terms.specs.Term.{largest_term};
 ghost use Rattle.rows.specs.Sizes.{WholeRows, rows_held};

@@ -1,4 +1,6 @@
 // The layout of a phrase table, field by field: refusals 1 to 6 and 10.
+#![tactic(auto)]
+
 mod index;
 
 ghost use Rattle.std.specs.Prelude.{◌≡◌, true, List, ◌-◌, eqb};

@@ -1,4 +1,6 @@
 // The length of the text of a term, found without the text.
+#![tactic(auto)]
+
 ghost use Rattle.std.specs.Prelude.{◌<◌, ◌≤◌, ◌≡◌, length, get_or};
 ghost use Rattle.spellings.specs.Bytes.{decimal};
 ghost use Rattle.terms.specs.Term.{largest_term};

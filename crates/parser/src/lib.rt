@@ -1,4 +1,6 @@
 // Scan and run in one, under a table that passed the check: from the bytes of a formula to the value of the root's call, or a refusal 14 to 21.
+#![tactic(auto)]
+
 ghost use Rattle.std.specs.Prelude.{◌≡◌};
 ghost use Rattle.grammar.specs.Limits.{most};
 ghost use Rattle.checker.specs.Syntax.{syntax_of};

@@ -1,5 +1,7 @@
 // What reads a `$` variable first in the productions of a grammar (document 02, C-14): gathered where a text is read, as first sets are gathered where a
 // table is checked.
+#![tactic(auto)]
+
 pub mod openings;
 pub mod text_room;
 

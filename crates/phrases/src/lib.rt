@@ -1,4 +1,6 @@
 // All that the program `phrase` writes, laid out in one room.
+#![tactic(auto)]
+
 ghost use Rattle.std.specs.Prelude.{◌≡◌, ◌++◌, ◌+◌, ◌≤◌, length, drop};
 ghost use Rattle.rooms.specs.Laying.{Lays};
 ghost use Rattle.phrases.specs.Output.{text_line, told_lines, phrase_output};

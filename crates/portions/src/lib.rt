@@ -1,4 +1,6 @@
 // The numbers of a term for another count of portions.
+#![tactic(auto)]
+
 ghost use Rattle.std.specs.Prelude.{◌<◌, ◌≡◌, [], ◌∷◌};
 ghost use Rattle.rows.specs.Sizes.{rows_held};
 ghost use Rattle.portions.specs.Portions.{entries_for, are_counts};

@@ -1,4 +1,6 @@
 // Printing a term whose new names are numbered.
+#![tactic(auto)]
+
 ghost use Rattle.std.specs.Prelude.{ℕ, ◌≤◌, ◌<◌, ◌≡◌, length, get_or};
 ghost use Rattle.writer.specs.Pool.{spelled_by};
 ghost use Rattle.printing.specs.PrintedParts.{term_part, part_text, PartFits};

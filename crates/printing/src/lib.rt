@@ -1,4 +1,6 @@
 // Printing: each part of the text is written at the front of what remains of the buffer, and a part of a term is a call. A text that is printed fits.
+#![tactic(auto)]
+
 ghost use Rattle.printing.specs.PrintedParts.{term_part, fields_part, PartFits, PartPrinted};
 
 use rows::column;

@@ -1,4 +1,6 @@
 // What is reached from a nonterminal by calls: which keywords count (document 02, C-13).
+#![tactic(auto)]
+
 ghost use Rattle.std.specs.Prelude.{◌≡◌};
 ghost use Rattle.firsts.specs.Reach.{kinds_by};
 

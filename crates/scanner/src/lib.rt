@@ -1,4 +1,6 @@
 // The scanner: from the bytes of a formula to its tokens.
+#![tactic(auto)]
+
 pub mod dollars;
 pub mod room;
 

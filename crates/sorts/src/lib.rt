@@ -1,4 +1,6 @@
 // The sorts of a grammar sequence, field by field: refusals 7, 8, 9 and 11.
+#![tactic(auto)]
+
 ghost use Rattle.std.specs.Prelude.{◌+◌, ◌*◌, ◌≤◌, ◌≡◌, length};
 ghost use Rattle.grammar.specs.Limits.{most};
 ghost use Rattle.grammar.specs.Lookup.{fields_at};

@@ -6,7 +6,7 @@ use mathlib.Core.Bool.{Bool, true, false}
 use mathlib.Core.List.{List, [], ◌∷◌}
 use native.Mathlib.Omega.{arith}
 use lib.Dec.{ltb}
-use lib.ListN.{length, get_or, drop, length-drop}
+use lib.ListN.{length, get_or, length-drop}
 use lib.Seq.{get_or-drop}
 use borrow.Author.Tests.{eq-eqb, ne_eqb, ltb-true, ltb-false}
 use Rattle.spellings.specs.Alike.{Bytes, Alike, FirstDifference}
@@ -15,7 +15,7 @@ use Rattle.spellings.specs.Eights.{eight_at}
 use Rattle.spellings.specs.Compared.{pieces_from, pieces, comparisons, comparisons_of, compared}
 use Rattle.spellings.specs.declared.Comparison.{Comparison}
 use Rattle.spellings.proofs.BytesLaws.{by_test, differ_same, length_same}
-use Rattle.spellings.proofs.AlikeLaws.{alike_start, alike_front, alike_next, alike_end, alike_same, differ_at, eight_alike, alike_eight}
+use Rattle.spellings.proofs.AlikeLaws.{alike_start, alike_next, alike_end, alike_same, differ_at, eight_alike, alike_eight}
 
 -- ------------------------------------------------------------------ how many comparisons
 

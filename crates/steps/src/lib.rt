@@ -1,4 +1,6 @@
 // The items of an alternative, read off the table's bytes, and its result.
+#![tactic(auto)]
+
 mod taking;
 mod texts;
 

@@ -1,5 +1,7 @@
 // Templates, evaluated from their bytes in prefix form: each constructor makes one cell, arguments first, left to right. A cell is a row
 // of lent numbers.
+#![tactic(auto)]
+
 ghost use Rattle.std.specs.Prelude.{ℕ, ◌+◌, ◌*◌, ◌/◌, ◌%◌, ◌<◌, ◌≤◌, ◌≡◌, List, ◌∷◌, length, get_or, take, drop, eqb};
 ghost use Rattle.std.proofs.lemmas.List.Edits.{sets};
 ghost use Rattle.grammar.specs.Variables.{most_variables};

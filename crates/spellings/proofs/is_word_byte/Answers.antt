@@ -1,0 +1,5 @@
+-- `is_word_byte`: the test of its class, over the tests for letters and digits.
+use Rattle.spellings.proofs.is_word_byte.Goals as goal
+
+pub returns : goal.returns
+returns c = cc (c.is_letter.ensures, c.is_digit.ensures)
