@@ -90,6 +90,7 @@ pub record Numbered {B : Type 0} (image : Place → B) (count : ℕ) (owners sta
 pub among_place : {B : Type 0} (image : Place → B) (count : ℕ) (owners starts : List ℕ) (from : ℕ) {one : B}
     → Among (map image (places_from count owners starts from)) one → Numbered image count owners starts from one
 unfolding places_from
+among_place image zero owners starts from x = elim x [ ]
 among_place image (suc count) owners starts from among_first = record { place = 0; inside = omega arith; equal = rw add-zero refl }
 among_place image (suc count) owners starts from (among_later a) =
     let n = among_place image count owners starts (from + 1) a in

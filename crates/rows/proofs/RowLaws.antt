@@ -178,6 +178,11 @@ module _ (spell : ℕ → List ℕ) (cells : List ℕ) (depth row : ℕ) where
         by nil_row e numeral_nil = rw (by_code e) (n _)
         by cons_row e numeral_cons = rw (by_code e) (n _)
         by num_row e numeral_num = rw (by_code e) (n _)
+        by var_row e x = elim x [ ]
+        by fun_row e x = elim x [ ]
+        by app_row e x = elim x [ ]
+        by rcd_row e x = elim x [ ]
+        by dot_row e x = elim x [ ]
 
     -- a fact of the variables and numbers holds of any other row
     pub bare_row : (P : Term Name → Type 0) → ((name : Name) → P (variable name)) → ((place : ℕ) → P (number place))
@@ -190,6 +195,10 @@ module _ (spell : ℕ → List ℕ) (cells : List ℕ) (depth row : ℕ) where
         by nil_row e bare_nil = rw (by_code e) (n _)
         by cons_row e bare_cons = rw (by_code e) (n _)
         by num_row e bare_num = rw (by_code e) (n _)
+        by fun_row e x = elim x [ ]
+        by app_row e x = elim x [ ]
+        by rcd_row e x = elim x [ ]
+        by dot_row e x = elim x [ ]
 
     fields_by_lem : (test : Bool) → is_cons (constructor_of code) ≡ test → field_list_at depth spell cells row ≡ fields_by test spell cells row Below BelowFields
     unfolding field_list_at

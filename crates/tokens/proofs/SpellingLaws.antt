@@ -57,7 +57,7 @@ stands_word (a_variable f) e = absurd (omega (arith, e))
 -- a word token, by the words `listed` of the whole scan
 pub record Spelled (lex : Lexicon) (formula : List ℕ) (listed : List (List ℕ)) (token : Token) : Type 0 where
   -- its bytes are a word
-  pub is_word_lem : is_word (bytes_of formula token) ≡ true
+  pub is_word : is_word (bytes_of formula token) ≡ true
   -- its value is the spelling number of its bytes
   pub numbered : token.value ≡ spelling_of lex listed (bytes_of formula token)
   -- its value is that of an outside name or of a word met
@@ -143,7 +143,7 @@ module _ (lex : Lexicon) (few : length lex.outsides ≤ 64) where
         let b : bytes_of formula token ≡ take token.size (drop at formula) = cc told.placed in
         let p = stays words more (take token.size (drop at formula)) token _ refl k (told.valued k) in
         record {
-          is_word_lem = ap is_word b ∙ stands_word told.stands k;
+          is_word = ap is_word b ∙ stands_word told.stands k;
           numbered = rw (b, w) p.0;
           known = rw w p.1;
         }
