@@ -10,7 +10,7 @@ use Rattle.answers.specs.declared.Answer.TheVariants.{Accepted, Refusing}
 use Rattle.answers.specs.Refusals.{refusal}
 use Rattle.answers.specs.Checked.{Checked, ok, bad, ◌>>=◌}
 use Rattle.terms.specs.Term.{Name, Term, size, largest_term}
-use Rattle.terms.specs.Loose.{Walk, loose, reached, walk}
+use Rattle.terms.specs.Loose.{loose, reached, walk}
 use Rattle.terms.specs.Emit.{passing, judged, Emitted, fitted, emitted}
 
 -- an answer, and the buffer at exit
