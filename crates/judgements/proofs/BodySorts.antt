@@ -1,5 +1,5 @@
 -- Checking items is the judgement E; L ⊢ p : B.
-use Prim.Native.Nat.{ℕ, ◌+◌}
+use Prim.Native.Nat.{ℕ}
 use mathlib.Core.Bool.{Bool, ◌&&◌}
 use mathlib.Core.List.{List, [], ◌∷◌, ◌++◌}
 use lib.Dec.{ltb}
@@ -7,7 +7,7 @@ use lib.ListN.{length}
 use borrow.Author.Tests.{ltb-true, lt-ltb}
 use Rattle.answers.specs.Checked.{Checked, ok, ◌>>◌, need}
 use Rattle.grammar.specs.Sorts.{Signature, unit}
-use Rattle.grammar.specs.Table.{keyword, ide, number, place, Item, terminal, local, call}
+use Rattle.grammar.specs.Table.{Item}
 use Rattle.decoding.specs.Within.{Each, each_none, each_more, keyword_within, ide_within, number_within, ItemWithin, terminal_within, local_within, call_within}
 use Rattle.judgements.specs.CheckSorts.{is_defined, signature_of, are_closed, fill, check_item, check_items}
 use Rattle.judgements.specs.Scopes.{Scope}
