@@ -1,5 +1,4 @@
 pub mod Refusing
-pub mod Replying
 pub mod EachLoop
 pub mod Demands
 pub mod ManyFormulas

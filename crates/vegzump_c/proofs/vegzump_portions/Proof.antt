@@ -1,8 +1,8 @@
 -- `vegzump_portions`: the answer as a reply, beside the cells and the list.
 use borrow.Author.Rules.{rules}
-use Rattle.vegzump.proofs.Replying.{beside}
-use Rattle.vegzump.proofs.hosts.vegzump_portions.Statement.{statement}
-use Rattle.vegzump.proofs.hosts.vegzump_portions.Tie as tie
+use Rattle.vegzump_c.proofs.Replying.{beside}
+use Rattle.vegzump_c.proofs.vegzump_portions.Statement.{statement}
+use Rattle.vegzump_c.proofs.vegzump_portions.Tie as tie
 
 returns : tie.Need-returns
 returns c = beside c.of-answer.ensures c.before.before.before.before.before.portions.ensures

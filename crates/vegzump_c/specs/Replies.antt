@@ -2,7 +2,7 @@
 use Rattle.std.specs.Prelude.{ℕ, List}
 use Rattle.answers.specs.declared.Refusal.{Refusal}
 use Rattle.answers.specs.Refusals.{numbered}
-use Rattle.vegzump.specs.declared.hosts.Reply.{Reply}
+use Rattle.vegzump_c.specs.declared.Reply.{Reply}
 use Rattle.meaning.specs.Expand.{Expanded}
 
 -- a reply holds a number and its values

@@ -3,9 +3,9 @@ use mathlib.Core.Path.{ap, ◌∙◌}
 use borrow.Author.Rules.{rules}
 use Rattle.answers.specs.declared.Verdict.{Verdict}
 use Rattle.answers.specs.Refusals.{numbered_verdict}
-use Rattle.vegzump.specs.Replies.{reply}
-use Rattle.vegzump.proofs.hosts.vegzump_check.Statement.{statement}
-use Rattle.vegzump.proofs.hosts.vegzump_check.Tie as tie
+use Rattle.vegzump_c.specs.Replies.{reply}
+use Rattle.vegzump_c.proofs.vegzump_check.Statement.{statement}
+use Rattle.vegzump_c.proofs.vegzump_check.Tie as tie
 
 returns : tie.Need-returns
 returns c = c.of-verdict.ensures ∙ ap (λ (v : Verdict). reply (numbered_verdict v)) c.before.check-table.ensures.0

@@ -1,9 +1,9 @@
 -- `of_answer`: the number and values of each answer.
 use mathlib.Core.Path.{ap, ◌∙◌}
 use borrow.Author.Rules.{rules}
-use Rattle.vegzump.specs.Replies.{reply}
-use Rattle.vegzump.proofs.hosts.of_answer.Statement.{statement}
-use Rattle.vegzump.proofs.hosts.of_answer.Tie as tie
+use Rattle.vegzump_c.specs.Replies.{reply}
+use Rattle.vegzump_c.proofs.of_answer.Statement.{statement}
+use Rattle.vegzump_c.proofs.of_answer.Tie as tie
 
 returns : tie.Need-returns
 returns c = c.reply-of.ensures ∙ ap reply c.before.numbered.ensures

@@ -1,8 +1,8 @@
 -- `vegzump_expand`: the answer as a reply, beside the cells and the text.
 use borrow.Author.Rules.{rules}
-use Rattle.vegzump.proofs.Replying.{beside}
-use Rattle.vegzump.proofs.hosts.vegzump_expand.Statement.{statement}
-use Rattle.vegzump.proofs.hosts.vegzump_expand.Tie as tie
+use Rattle.vegzump_c.proofs.Replying.{beside}
+use Rattle.vegzump_c.proofs.vegzump_expand.Statement.{statement}
+use Rattle.vegzump_c.proofs.vegzump_expand.Tie as tie
 
 returns : tie.Need-returns
 returns c = beside c.of-answer.ensures c.before.before.before.before.before.expand.ensures.0

@@ -3,9 +3,9 @@ use mathlib.Core.Path.{sym, ap, ◌∙◌}
 use borrow.Author.Rules.{rules}
 use Rattle.answers.specs.declared.Verdict.{Verdict}
 use Rattle.answers.specs.Refusals.{numbered_verdict}
-use Rattle.vegzump.specs.Replies.{reply}
-use Rattle.vegzump.proofs.hosts.of_verdict.Statement.{statement}
-use Rattle.vegzump.proofs.hosts.of_verdict.Tie as tie
+use Rattle.vegzump_c.specs.Replies.{reply}
+use Rattle.vegzump_c.proofs.of_verdict.Statement.{statement}
+use Rattle.vegzump_c.proofs.of_verdict.Tie as tie
 
 returns : tie.Need-returns
 returns c =

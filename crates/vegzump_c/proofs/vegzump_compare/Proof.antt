@@ -1,7 +1,7 @@
 -- `vegzump_compare`: the comparison, in C's layout.
 use borrow.Author.Rules.{rules}
-use Rattle.vegzump.proofs.hosts.vegzump_compare.Statement.{statement}
-use Rattle.vegzump.proofs.hosts.vegzump_compare.Tie as tie
+use Rattle.vegzump_c.proofs.vegzump_compare.Statement.{statement}
+use Rattle.vegzump_c.proofs.vegzump_compare.Tie as tie
 
 returns : tie.Need-returns
 returns c = cc (c.one-if.ensures, c.before.compare.ensures)
