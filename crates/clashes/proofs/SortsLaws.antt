@@ -41,6 +41,7 @@ use Rattle.clashes.proofs.PairsLaws.{lowest_within, lowest_beyond, linked_none}
 each_among : {A : Type 0} {P : A → Type 0} {xs : List A} {item : A} → Each P xs → Among xs item → P item
 each_among (each_more x xs) among_first = x
 each_among (each_more x xs) (among_later a) = each_among xs a
+each_among each_none x = elim x [ ]
 
 each_map : {A : Type 0} {P R : A → Type 0} {xs : List A} → ((item : A) → P item → R item) → Each P xs → Each R xs
 each_map f each_none = each_none

@@ -122,6 +122,7 @@ pub shows_bound : {spell : ℕ → List ℕ} {made : ℕ} {cells : List ℕ} {xs
     → Bound vs index value → Shows spell made cells (get_or xs index 0) value
 shows_bound (show_more h hs) bound_first = h
 shows_bound (show_more h hs) (bound_later b) = shows_bound hs b
+shows_bound show_none x = elim x [ ]
 
 -- ------------------------------------------------------------------ names
 

@@ -20,7 +20,7 @@ use Rattle.grammar.specs.SortTests.{is_sort, is_ide_sort}
 use Rattle.grammar.specs.Table.{keyword, ide, number, place, kind_of, Item, terminal, local, call}
 use Rattle.productions.specs.Normal.{Production}
 use Rattle.firsts.specs.FirstSets.{over_all, is_nullable, nullables, opening_of, call_of, through, joined, gather, first_step, sets_of}
-use Rattle.firsts.specs.Patterns.{only_if, place_bit, pattern_of, ReadsAt, reads_at, ReadsPlace, reads_place, PatternBit, ide_bit, place_bit_lem}
+use Rattle.firsts.specs.Patterns.{only_if, place_bit, pattern_of, ReadsAt, reads_at, ReadsPlace, reads_place, PatternBit, ide_bit, placed_bit}
 use Rattle.firsts.specs.Rules.{Of, First, first_own, first_call, first_past, FirstOf, Reads, reads, Calls, calls}
 use Rattle.firsts.proofs.Rounds.{Numbers, same_at, nothing, Within, Each, admit, least, least_within, least_closed, least_seen, over_seen}
 use Rattle.firsts.proofs.Rounds.{or_left, or_right, or_split}
@@ -253,7 +253,7 @@ pattern_bits_exactly item bit = (sound item, complete)
 
     at_place : (sort : ℕ) (test : Bool) → is_sort sort ≡ test → has_kind (only_if test (place_bit sort)) bit ≡ true → PatternBit (terminal (place sort)) bit
     at_place sort false t e = absurd (none_has bit e)
-    at_place sort true t e = rw (only_has (place_bit sort) bit e).0 (place_bit_lem (reads_place {s = sort} (leb-true sort 6 t)))
+    at_place sort true t e = rw (only_has (place_bit sort) bit e).0 (placed_bit (reads_place {s = sort} (leb-true sort 6 t)))
 
     sound : (item : Item) → has_kind (pattern_of item) bit ≡ true → PatternBit item bit
     sound (terminal (keyword k)) e = absurd (none_has bit e)
@@ -271,7 +271,7 @@ pattern_bits_exactly item bit = (sound item, complete)
 
     complete : {bit : ℕ} → PatternBit item bit → has_kind (pattern_of item) bit ≡ true
     complete (ide_bit h) = by_ide h
-    complete (place_bit_lem h) = by_place h
+    complete (placed_bit h) = by_place h
 
 -- an ide's sort is one up to Label
 ide_small : {item : Item} {sort : ℕ} → ReadsAt item sort → sort ≤ label
@@ -280,11 +280,11 @@ ide_small (reads_at l h) = h
 -- so a bit up to Label is that of an ide, and any other that of a place
 bit_of_ide : {item : Item} {bit : ℕ} → bit ≤ label → PatternBit item bit → ReadsAt item bit
 bit_of_ide l (ide_bit h) = h
-bit_of_ide l (place_bit_lem h) = absurd (omega arith)
+bit_of_ide l (placed_bit h) = absurd (omega arith)
 
 bit_of_place : {item : Item} {bit sort : ℕ} → bit ≡ place_bit sort → PatternBit item bit → ReadsPlace item sort
 bit_of_place e (ide_bit h) = absurd (omega (arith, ide_small h))
-bit_of_place {item = item} {sort = sort} e (place_bit_lem {s = s} h) = let q : s ≡ sort = omega arith in subst (ReadsPlace item) q h
+bit_of_place {item = item} {sort = sort} e (placed_bit {s = s} h) = let q : s ≡ sort = omega arith in subst (ReadsPlace item) q h
 
 -- ------------------------------------------------------------------ what stands first
 
@@ -320,5 +320,5 @@ module _ (g : List Production) (is : List Item) where
   pub places_exactly : (sort : ℕ) → (has_kind patterns (place_bit sort) ≡ true) ↔ First g ReadsPlace is sort
   places_exactly sort = (
     λ e. first_as (λ item h. bit_of_place refl h) ((bits_exactly (place_bit sort)).0 e),
-    λ f. (bits_exactly (place_bit sort)).1 (first_as (λ item h. place_bit_lem h) f),
+    λ f. (bits_exactly (place_bit sort)).1 (first_as (λ item h. placed_bit h) f),
   )

@@ -46,7 +46,7 @@ pub data ReadsPlace : Item → ℕ → Type 0 where
 -- the bit of an item
 pub data PatternBit (item : Item) : ℕ → Type 0 where
   ide_bit : {s : ℕ} → ReadsAt item s → PatternBit item s
-  place_bit_lem : {s : ℕ} → ReadsPlace item s → PatternBit item (place_bit s)
+  placed_bit : {s : ℕ} → ReadsPlace item s → PatternBit item (place_bit s)
 
 -- ------------------------------------------------------------------ what a variable opens
 

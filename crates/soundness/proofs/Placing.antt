@@ -20,7 +20,7 @@ use Rattle.expansion.specs.Figure3.{Value, unit, var, binder, label, num, term, 
 use Rattle.expansion.specs.Figure3.{by_global, by_label, by_constructor, by_unit, GiveAll, give_none, give_more, as_var, as_binder, as_label, ReadsAs}
 use Rattle.expansion.specs.Figure3.{by_keyword, by_ide, by_number, by_local, Derives, by_end, by_terminal, by_call, Parses}
 use Rattle.expansion.specs.Figure3 as Figure3
-use Rattle.soundness.specs.Places.{Given, word_at, fresh_name, number_at, outside_name, outside_label_lem, named_in, named_in_all, given_at, given_in}
+use Rattle.soundness.specs.Places.{Given, word_at, fresh_name, number_at, outside_name, outside_label, named_in, named_in_all, given_at, given_in}
 use Rattle.soundness.specs.Places.{Supplied, supplied_word, supplied_fresh, supplied_number, supplied_outside, supplied_label}
 use Rattle.soundness.specs.Places.{VarPlace, var_var, var_binder, var_local, var_outside, BinderPlace, binder_binder}
 use Rattle.soundness.specs.Places.{binder_local, LabelPlace, label_label, label_outside, NumPlace, num_number, Placed, placed_variable, placed_function}
@@ -187,7 +187,7 @@ Worded spell (word_at B t) = is_word (spell t.value) ≡ true
 Worded spell (fresh_name i) = Unit {0}
 Worded spell (number_at t) = Unit {0}
 Worded spell (outside_name n) = is_word (spell n) ≡ true
-Worded spell (outside_label_lem n) = is_word (spell n) ≡ true
+Worded spell (outside_label n) = is_word (spell n) ≡ true
 
 module _ {tokens : List Token} {outside_count_lem : ℕ} {given : List Given} (spell : ℕ → List ℕ) (known : Each (Supplied tokens outside_count_lem) given)
     (words : (token : Token) → Among tokens token → token.kind ≡ word_kind → is_word (spell token.value) ≡ true)

@@ -21,7 +21,7 @@ pub data Given : Type 0 where
   fresh_name : ℕ → Given
   number_at : Token → Given
   outside_name : ℕ → Given
-  outside_label_lem : ℕ → Given
+  outside_label : ℕ → Given
 
 -- a word or a number is a token of the formula, of its kind; an outside name is one of the table's, of which there are so many; a fresh name is any
 -- number here: that no two locals give the same is Figure 3's `by_local`, which counts on
@@ -30,14 +30,14 @@ pub data Supplied (tokens : List Token) (outsides : ℕ) : Given → Type 0 wher
   supplied_fresh : {i : ℕ} → Supplied tokens outsides (fresh_name i)
   supplied_number : {t : Token} → Among tokens t → t.kind ≡ number_kind → Supplied tokens outsides (number_at t)
   supplied_outside : {n : ℕ} → n < outsides → Supplied tokens outsides (outside_name n)
-  supplied_label : {n : ℕ} → n < outsides → Supplied tokens outsides (outside_label_lem n)
+  supplied_label : {n : ℕ} → n < outsides → Supplied tokens outsides (outside_label n)
 
 -- by a template
 unfoldable mutual
   pub named_in : Template → List Given
   named_in (Table.variable i) = []
   named_in (Table.outside_var n) = outside_name n ∷ []
-  named_in (Table.outside_label n) = outside_label_lem n ∷ []
+  named_in (Table.outside_label n) = outside_label n ∷ []
   named_in (Table.make c ts) = named_in_all ts
   named_in Table.unit = []
 
@@ -74,7 +74,7 @@ pub data BinderPlace (G : List Given) (spell : ℕ → List ℕ) : Name → Type
 
 pub data LabelPlace (G : List Given) (spell : ℕ → List ℕ) : List ℕ → Type 0 where
   label_label : {t : Token} → Among G (word_at Sorts.label t) → LabelPlace G spell (spell t.value)
-  label_outside : {n : ℕ} → Among G (outside_label_lem n) → LabelPlace G spell (spell n)
+  label_outside : {n : ℕ} → Among G (outside_label n) → LabelPlace G spell (spell n)
 
 pub data NumPlace (G : List Given) : ℕ → Type 0 where
   num_number : {t : Token} → Among G (number_at t) → NumPlace G t.value
