@@ -1,7 +1,7 @@
 -- Laws of the tests on one field: values, counts, and the first test that fails.
 use Prim.Native.Nat.{ℕ, ◌+◌, ◌<◌, ◌≤◌}
 use mathlib.Core.Path.{◌≡◌, refl, sym, ap, ◌∙◌}
-use mathlib.Core.Bool.{Bool, true, false, not, ◌&&◌, ◌||◌, and-eq-true_iff, and-true, or-false}
+use mathlib.Core.Bool.{Bool, true, false, not, ◌&&◌, ◌||◌, and-true, or-false}
 use mathlib.Core.List.{List, ◌∷◌}
 use native.Mathlib.Omega.{arith}
 use mir.Syntax.{w16}
@@ -10,7 +10,7 @@ use lib.Dec.{eqb, leb, ltb}
 use lib.ListN.{length, get_or, drop, drop_of_length-le}
 use borrow.Author.Tests.{eq-eqb, ne_eqb, ltb-true, not-true, not-false}
 use Rattle.answers.specs.Refusals.{refusal}
-use Rattle.answers.specs.Checked.{Checked, ok, bad, need, verdict, ◌>>=◌, ◌>>◌}
+use Rattle.answers.specs.Checked.{Checked, ok, bad, need, verdict, ◌>>◌}
 use Rattle.answers.specs.declared.Verdict.TheVariants.{Passed, Refused}
 use Rattle.spellings.specs.Bytes.{every, is_word, is_keyword, one_if}
 use Rattle.spellings.proofs.Loops.{drop_at_index}
