@@ -16,7 +16,7 @@ use Rattle.grammar.specs.Lookup.{leading, after_leading, lexicon_of, front_of, f
 use Rattle.grammar.specs.declared.Found.{Found}
 use Rattle.grammar.specs.declared.Found.TheVariants.{At, Absent}
 use Rattle.grammar.specs.Found.{found_in}
-use Rattle.kinds.specs.Kinds.{keyword_kind, no_kind, has_kind}
+use Rattle.kinds.specs.Kinds.{keyword_kind, no_kind}
 use mathlib.Core.Bool.{Bool, true, false}
 use Rattle.keywords.specs.KeptSpellings.{spellings_kept}
 use Rattle.keywords.specs.KeptSizes.{kept_if, kept_size}

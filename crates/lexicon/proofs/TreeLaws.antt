@@ -19,7 +19,7 @@ use Rattle.lexicon.specs.declared.trees.Spot.{Spot}
 use Rattle.lexicon.specs.declared.trees.Spot.TheVariants.{Node, Free}
 use Rattle.lexicon.specs.Places.{word_at, words_in}
 use Rattle.lexicon.specs.declared.trees.Seen.{Seen}
-use Rattle.lexicon.specs.declared.trees.Seen.TheVariants.{Met, New, Beyond}
+use Rattle.lexicon.specs.declared.trees.Seen.TheVariants.{Met, New}
 use Rattle.lexicon.proofs.PlaceLaws.{words_length, word_same}
 use Rattle.lexicon.proofs.PathLaws.{window_some, window_turn, window_next, hash_window}
 

@@ -1,0 +1,20 @@
+-- `mark_symbols`: the symbols are marked by the keywords passed, the last first.
+use Rattle.lexicon.proofs.LexiconLaws as laws
+use Rattle.lexicon.proofs.mark_symbols.Goals as goal
+
+pub loop-k-init : goal.loop-k-init
+loop-k-init c =
+    let asked = c.requires in
+    laws.marking_start _ _ _ asked.0 asked.1 asked.2
+
+pub loop-k-preserved : goal.loop-k-preserved
+loop-k-preserved c =
+    laws.marking_next c.loop-k.invariant c.loop-k-test.true c.wide_number-at.ensures c.wide_number-size.ensures c.part.ensures
+    c.mark.ensures
+
+pub returns : goal.returns
+returns c =
+    let all =
+    laws.marking_end c.loop-k.invariant c.loop-k-test.false
+    in
+    record { symbols = all.0; same_places = all.1 }
