@@ -1,5 +1,5 @@
 -- A bit of the computed sets is there exactly if the rules give it: the nonterminals that are reached, and the keywords in their alternatives.
-use Prim.Native.Nat.{ℕ, zero, suc, ◌+◌, ◌<◌, ◌≤◌}
+use Prim.Native.Nat.{ℕ, ◌<◌, ◌≤◌}
 use mathlib.Core.Path.{◌≡◌, refl, sym, ap, ◌∙◌}
 use mathlib.Core.Bool.{Bool, true, false, false≢true}
 use mathlib.Core.Logic.{◌↔◌, ◌⊎◌, inl, inr, ⊎_elim}
@@ -7,11 +7,11 @@ use mathlib.Core.List.{List, [], ◌∷◌}
 use native.Mathlib.Decide.{dec_lt, ℕ_discrete}
 use native.Mathlib.Omega.{arith}
 use lib.Bits.{bit_or}
-use lib.ListN.{length, get_or, set, replicate, length-set, length-replicate, get_or-replicate, get_or-eq_default}
+use lib.ListN.{length, get_or, replicate, length-set, length-replicate, get_or-replicate, get_or-eq_default}
 use lib.Seq.{get_or-set_same, get_or-set_other, set_out}
-use Rattle.kinds.specs.Kinds.{has_kind, only, keyword_kind, word_kind, number_kind}
+use Rattle.kinds.specs.Kinds.{has_kind, keyword_kind}
 use Rattle.kinds.proofs.KindsLaws.{has_none, has_join}
-use Rattle.grammar.specs.Table.{Templates, Terminal, keyword, ide, number, place, kind_of, Item, terminal, local, call}
+use Rattle.grammar.specs.Table.{Terminal, keyword, ide, number, place, kind_of, Item, terminal, call}
 use Rattle.decoding.specs.Within.{Among, among_first, among_later}
 use Rattle.productions.specs.Normal.{Production}
 use Rattle.firsts.specs.FirstSets.{over_all, opening_of, call_of}
@@ -19,7 +19,7 @@ use Rattle.firsts.specs.Mentions.{mentioned, noted, notes}
 use Rattle.firsts.specs.Reach.{reached_by, kinds_reached}
 use Rattle.firsts.specs.Rules.{Of, IsNonterminal, IsKind, Reads, reads, Calls, calls}
 use Rattle.firsts.proofs.Rounds.{or_left, or_right, or_split}
-use Rattle.firsts.proofs.FirstSetsExactly.{only_has, reads_exactly, calls_exactly}
+use Rattle.firsts.proofs.FirstSetsExactly.{reads_exactly, calls_exactly}
 use Rattle.reach.specs.Reached.{Reached, reached_start, reached_call, KeywordReached}
 use Rattle.reach.proofs.ReachLaws.{Small, start_in_lem, calls_in, reached_least, union_one, one_union}
 
