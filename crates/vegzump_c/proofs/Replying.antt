@@ -6,7 +6,7 @@ use Rattle.answers.specs.declared.Answer.{Answer}
 use Rattle.answers.specs.Refusals.{numbered}
 use Rattle.vegzump_c.specs.declared.Reply.{Reply}
 use Rattle.meaning.specs.Expand.{Expanded, expanded}
-use Rattle.vegzump_c.specs.Replies.{reply, Replied, replied, reply_of}
+use Rattle.vegzump_c.specs.Replies.{reply, replied, reply_of}
 
 -- A reply made of an answer, beside the same cells and text.
 pub beside : {given_reply : Reply} {answer : Answer} {cells text : List ℕ} {given_expanded : Expanded} → given_reply ≡ reply (numbered answer)
