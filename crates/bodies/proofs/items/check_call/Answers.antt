@@ -1,0 +1,37 @@
+-- `check_call`: 9 before 11, then the signature's result.
+use Prim.Native.Nat.{◌≤◌}
+use mathlib.Core.Path.{◌≡◌, ap}
+use lib.ListN.{length, take, drop}
+use Rattle.bodies.specs.TemplateBytes.{templates_fault}
+use Rattle.bodies.proofs.HeadLaws.{signature_short}
+use Rattle.bodies.proofs.BodyLaws as laws
+use native.Mathlib.Omega.{arith}
+use Rattle.bodies.proofs.items.check_call.Goals as goal
+
+pub returns-then-h-eq0 : goal.returns-then-h-eq0
+returns-then-h-eq0 c = search laws.call_undefined
+
+pub returns-then-arguments-signature : goal.returns-then-arguments-signature
+returns-then-arguments-signature c = search laws.call_bare
+
+pub open_params-top-requires : goal.open_params-top-requires
+open_params-top-requires c =
+    let short : length c.signature_at-signature.result.now ≤ 5 = omega (arith, ap length c.signature_at-signature.ensures, signature_short c.args.table.now c.head_of-h.result) in
+    omega (arith, short)
+
+pub returns-in-Faulty : goal.returns-in-Faulty
+returns-in-Faulty c =
+    let fault : c.fault_in-tested.result ≡ templates_fault c.args.known.outsides (take c.args.known.variables c.args.sorts.now) c.args.arguments.now (drop 1 c.signature_at-signature.result.now) = let a = c.args in
+    cc (c.fault_in-tested.ensures, c.open_params-top.ensures.loaded) in
+    search (laws.call_unfit, fault)
+
+pub returns-in-Sound : goal.returns-in-Sound
+returns-in-Sound c =
+    let fault : c.fault_in-tested.result ≡ templates_fault c.args.known.outsides (take c.args.known.variables c.args.sorts.now) c.args.arguments.now (drop 1 c.signature_at-signature.result.now) = let a = c.args in
+    cc (c.fault_in-tested.ensures, c.open_params-top.ensures.loaded) in
+    search (laws.call_fit, fault)
+
+pub fault_in-tested-requires : goal.fault_in-tested-requires
+fault_in-tested-requires c =
+    let short : length c.signature_at-signature.result.now ≤ 5 = omega (arith, ap length c.signature_at-signature.ensures, signature_short c.args.table.now c.head_of-h.result) in
+    omega (arith, c.open_params-top.ensures.small, c.open_params-top.auto.stack)
