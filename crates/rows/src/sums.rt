@@ -8,7 +8,7 @@ use crate::column;
 use terms::{FIELD_CONS, FIELD_NIL, TERM_APP, TERM_DOT, TERM_FUN, TERM_RCD};
 
 // The rows of a constructor's parts: none, a term, two terms, a field list, or a term and a field list.
-#[derive(Drop)]
+#[derive(Clone, Copy)]
 pub enum Parts {
     NoPart,
     OneTerm(u32),
