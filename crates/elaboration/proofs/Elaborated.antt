@@ -13,7 +13,7 @@ use Rattle.judgements.specs.Scopes.{Env, Scope}
 use Rattle.judgements.specs.Judgements.{Defines, no_definition, by_add, by_extend, by_update}
 use Rattle.texts.specs.Reading.{TextRead}
 use Rattle.elaboration.specs.Contexts.{Before}
-use Rattle.elaboration.specs.Elaboration.{ResultSorted, by_template, Bodies, no_alternative, by_choice, Ok, ok_empty, ok_definition}
+use Rattle.elaboration.specs.Elaboration.{ResultSorted, by_template, by_text, Bodies, no_alternative, by_choice, Ok, ok_empty, ok_definition}
 use Rattle.elaboration.specs.Elaboration.{Sequence, no_grammar, by_grammar, Elaborates}
 
 module _ {G : Scope} {P : Before} where
@@ -35,6 +35,7 @@ module _ {G : Scope} {P : Before} where
   result_made : {L : List ℕ} {B used : ℕ} {result : WrittenResult} {made : TextRead} → ResultSorted G P L B used result made → ResultWithin result
       → made.template ≡ template_of result
   result_made (by_template s f) w = refl
+  result_made (by_text _ _ _ _ _ r _) w = elim w [ ]
 
   bodies_made : {S : Signature} {choices : List WrittenAlternative} {others : List Alternative} {used used' : ℕ} → Bodies G P S used choices others used'
       → Each AlternativeWithin choices → others ≡ map with_template choices

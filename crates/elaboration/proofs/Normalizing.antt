@@ -32,6 +32,7 @@ each_append (each_more h hs) k = each_more h (each_append hs k)
 pub each_at : {A : Type 0} {P : A → Type 0} {xs : List A} {item : A} → Each P xs → Among xs item → P item
 each_at (each_more h hs) among_first = h
 each_at (each_more h hs) (among_later k) = each_at hs k
+each_at each_none x = elim x [ ]
 
 each_without : {P : Production → Type 0} (nonterminal : ℕ) {g : List Production} → Each P g → Each P (without nonterminal g)
 unfolding without

@@ -58,6 +58,7 @@ each_finer f (each_more {x = x} h hs) = each_more (f x h) (each_finer f hs)
 
 result_fine : (r : WrittenResult) → ResultWithin r → ResultFine r
 result_fine (template t) (template_within w) = template_fine w
+result_fine (text _ _) x = elim x [ ]
 
 alternative_fine : (a : WrittenAlternative) → AlternativeWithin a → AlternativeFine a
 alternative_fine a w = record { items = w.items; item_count = w.item_count; result = result_fine a.result w.result }

@@ -10,7 +10,7 @@ use Rattle.answers.specs.Checked.{Checked, ok, bad, ◌>>=◌, ◌>>◌, need}
 use Rattle.grammar.specs.Sorts.{Signature, unit, term}
 use Rattle.grammar.specs.SortTests.{fits}
 use Rattle.grammar.specs.Table.{keyword, ide, number, place, Item, terminal, local, call, Alternative, Mode, add, extend, update, Definition}
-use Rattle.grammar.specs.Written.{WrittenResult, template, WrittenAlternative, WrittenDefinition, Written}
+use Rattle.grammar.specs.Written.{WrittenResult, template, text, WrittenAlternative, WrittenDefinition, Written}
 use Rattle.grammar.specs.Values.{item_value}
 use Rattle.decoding.specs.Within.{Each, each_none, each_more, ResultWithin, AlternativeWithin, DefinitionWithin, Within}
 use Rattle.judgements.specs.Sizes.{field_size, alternative_size, definition_size, definitions_size}
@@ -94,6 +94,7 @@ module _ (scope : Scope) where
   module _ (before : Before) where
     result_sort : (L : List ℕ) (B used at : ℕ) (result : WrittenResult) → ResultWithin result → Sort (check_result scope before L B used at result)
     result_sort L B used at (template t) w = after _ (ok _) (needs_sort (is_closed t scope (length L)) (is_sorted t L && fits (sort_of t L) B) at) none
+    result_sort L B used at (text _ _) w = elim w [ ]
 
     alternatives_sort : (S : Signature) (done : Elaborated (List Alternative)) (at : ℕ) (choices : List WrittenAlternative)
         → Each AlternativeWithin choices → Sort (check_alternatives scope before S done at choices)

@@ -162,7 +162,7 @@ module _ {P : Before} (right : Right P) (own : Env) (declared : Declared (own ++
       })
       (alternatives_fit z w bs more)
 
-  definitions_fit : {g : List Production} {ds : List WrittenDefinition} {es : List Definition} {used used' : ℕ} → Each (Fit (scope_after P own)) g
+  definitions_fit : {ds : List WrittenDefinition} {es : List Definition} {used used' : ℕ} {g : List Production} → Each (Fit (scope_after P own)) g
       → Each (λ d. Newest (own ++ P.env) d.nonterminal d.signature) ds → Ok (scope_after P own) P used ds es used' → Each DefinitionFine ds
       → Each (Fit (scope_after P own)) (defined_all g es)
   unfolding defined_all

@@ -123,6 +123,7 @@ module _ (made : ℕ) (cells : List ℕ) {code : ℕ} {xs numbers : List ℕ} (r
       one_column {k = k} (omega arith) (in_row k (omega arith) ∙ here) (shows_agree t (row_grown made cells row room is_code).agree h)
       (columns_new (k + 1) (before ++ (x ∷ [])) left ts (e ∙ sym (append_assoc before (x ∷ []) left))
       (omega (arith, f, length-append before (x ∷ []))) hs (omega arith))
+  columns_new k before [] (more t ts) e f a l = elim a [ ]
 
   row_shows : (ts : Templates) → ShowTemplates made cells xs (template_list ts) → length (template_list ts) ≤ 3
       → ShowsTemplate (with_row cells made numbers) (made + 1) made (make code ts)

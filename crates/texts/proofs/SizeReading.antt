@@ -214,6 +214,9 @@ module _ (N : ℕ) (binders : Bool) (tokens : List Token) (rows : ℕ) (known : 
       taken B s cells kept (variable_leaf (ap is_variable_name value ∙ named.2)) e f
       (kind_taken binders tokens input tokens_are s cells (variable_kind B) (λ v. v)
       (next_kind_lem s e ∙ ap (λ u. u.kind) (seen_other binders t (λ z. omega arith)) ∙ q))
+  text_done C (terminal number) _ xs s cells kept e f x = elim x [ ]
+  text_done C local _ xs s cells kept e f x = elim x [ ]
+  text_done C (call _ _) _ xs s cells kept e f x = elim x [ ]
 
   -- and what a rule reads is read to its end.
   pub loose_step_done : {G : Scope} (C : ℕ → List ℕ → Run ℕ) (item : Item) {L : List ℕ} {B : ℕ} → ItemSorted G L item B

@@ -85,6 +85,7 @@ size_bound : {made : ℕ} {cells : List ℕ} {L xs : List ℕ} {M : List Templat
     → SizeShown cells made B (get_or xs i 0) (get_or M i Table.unit)
 size_bound (show_more h hs) has_first = h
 size_bound (show_more h hs) (has_later k) = size_bound hs k
+size_bound show_none x = elim x [ ]
 
 -- ------------------------------------------------------------------ read off the rows
 

@@ -265,6 +265,9 @@ module _ {G : Scope} {g : List Production} (setting : TextSetting G g) where
         (next_kind_lem e ∙ ap (λ u. u.kind) (seen_other false t (λ z. omega arith)) ∙ h))
     text_step_done C (terminal (ide _)) xs e f (by_global h l) = taken shows_var e f (outside_taken var e h refl)
     text_step_done C (terminal (ide _)) xs e f (by_label h l) = taken shows_label e f (outside_taken label e h refl)
+    text_step_done C (terminal number) xs e f x = elim x [ ]
+    text_step_done C local xs e f x = elim x [ ]
+    text_step_done C (call _ _) xs e f x = elim x [ ]
 
     -- What a rule reads is read to its end, and so is a fresh name.
     pub template_step_done : (C : ℕ → List ℕ → Run ℕ) (item : Item) {B : ℕ} (xs : List ℕ) {ts ts' : List Token} {i i' : ℕ} {v : Template}

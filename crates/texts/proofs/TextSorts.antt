@@ -47,6 +47,7 @@ filled_and (filled_more h hs) s = filled_more h (filled_and hs s)
 filled_at : {N : ℕ} {L : List ℕ} {M : List Template} {G : List ℕ} {i B : ℕ} → Filled N L M G → Has G i B → SortedAt N L (get_or M i Table.unit) B
 filled_at (filled_more h hs) has_first = h
 filled_at (filled_more h hs) (has_later k) = filled_at hs k
+filled_at filled_none x = elim x [ ]
 
 fits_at : {N : ℕ} {L : List ℕ} {t : Template} {A B : ℕ} → SortedAt N L t A → Fits A B → SortedAt N L t B
 fits_at (C, h, f) g = (C, h, fits_trans f g)
