@@ -1,0 +1,125 @@
+-- `check_layout`: the fields that are left give what all of them give.
+use Prim.Native.Nat.{ℕ, ◌+◌, ◌-◌, ◌≤◌}
+use mathlib.Core.Path.{◌≡◌, sym, ◌∙◌}
+use mathlib.Core.List.{List}
+use lib.ListN.{length, take, drop, length-take}
+use borrow.Author.Tests.{eqb-true}
+use Rattle.grammar.specs.declared.Front.TheVariants.{Field}
+use Rattle.grammar.specs.Lookup.{front_of}
+use Rattle.grammar.proofs.LookupLaws.{front_inside}
+use Rattle.layout.specs.declared.Checking.TheVariants.{Further}
+use Rattle.decoding.specs.Layout.{check_field}
+use Rattle.layout.specs.Before.{fields_before, checking}
+use Rattle.layout.proofs.RememberedLaws.{remembered_start, keyword_room, outside_room, remembered_next}
+use Rattle.layout.proofs.LawsFields as laws
+use native.Mathlib.Omega.{arith}
+use Rattle.layout.proofs.check_layout.Goals as goal
+
+pub returns-then-table-gt-LONGEST_TABLE : goal.returns-then-table-gt-LONGEST_TABLE
+returns-then-table-gt-LONGEST_TABLE c = cc (laws.layout_long _ c.if-table-gt-LONGEST_TABLE.true)
+
+pub loop-tag-init : goal.loop-tag-init
+loop-tag-init c = (laws.turn_start c.nothing_read-s.ensures, remembered_start c.nothing_read-s.ensures)
+
+pub returns-in-Nothing : goal.returns-in-Nothing
+returns-in-Nothing c =
+    c.check_end.ensures
+    ∙ laws.turn_end c.loop-tag.invariant.0 c.if-table-gt-LONGEST_TABLE.false (sym c.in-Nothing.is ∙ c.front_at-front.ensures)
+
+pub returns-in-Short : goal.returns-in-Short
+returns-in-Short c =
+    c.refused-in-Short.ensures
+    ∙ laws.turn_cut c.loop-tag.invariant.0 c.if-table-gt-LONGEST_TABLE.false (sym c.in-Short.is ∙ c.front_at-front.ensures)
+
+pub overflow_add-from : goal.overflow_add-from
+overflow_add-from c =
+    let table : List ℕ = c.args.table.now in
+    let at : ℕ = c.loop-tag.at in
+    let tag : ℕ = c.in-Field.tag in
+    let size : ℕ = c.in-Field.size in
+    let stands : Field tag size ≡ front_of (drop at table) = sym c.in-Field.is ∙ c.front_at-front.ensures in
+    let inside : at + (3 + size) ≤ length table = front_inside table at stands in
+    omega (arith, inside)
+
+pub overflow_add-to : goal.overflow_add-to
+overflow_add-to c =
+    let table : List ℕ = c.args.table.now in
+    let at : ℕ = c.loop-tag.at in
+    let tag : ℕ = c.in-Field.tag in
+    let size : ℕ = c.in-Field.size in
+    let stands : Field tag size ≡ front_of (drop at table) = sym c.in-Field.is ∙ c.front_at-front.ensures in
+    let inside : at + (3 + size) ≤ length table = front_inside table at stands in
+    omega (arith, inside)
+
+pub slice_bounds-v-end : goal.slice_bounds-v-end
+slice_bounds-v-end c =
+    let table : List ℕ = c.args.table.now in
+    let at : ℕ = c.loop-tag.at in
+    let tag : ℕ = c.in-Field.tag in
+    let size : ℕ = c.in-Field.size in
+    let stands : Field tag size ≡ front_of (drop at table) = sym c.in-Field.is ∙ c.front_at-front.ensures in
+    let inside : at + (3 + size) ≤ length table = front_inside table at stands in
+    omega (arith, inside)
+
+pub returns-in-Stopped : goal.returns-in-Stopped
+returns-in-Stopped c =
+    let table : List ℕ = c.args.table.now in
+    let at : ℕ = c.loop-tag.at in
+    let tag : ℕ = c.in-Field.tag in
+    let size : ℕ = c.in-Field.size in
+    let stands : Field tag size ≡ front_of (drop at table) = sym c.in-Field.is ∙ c.front_at-front.ensures in
+    laws.turn_stopped c.loop-tag.invariant.0 stands c.if-table-gt-LONGEST_TABLE.false
+    (sym c.in-Stopped.is ∙ c.check_field-checked.ensures)
+
+pub loop-tag-smaller : goal.loop-tag-smaller
+loop-tag-smaller c =
+    let table : List ℕ = c.args.table.now in
+    let at : ℕ = c.loop-tag.at in
+    let tag : ℕ = c.in-Field.tag in
+    let size : ℕ = c.in-Field.size in
+    let stands : Field tag size ≡ front_of (drop at table) = sym c.in-Field.is ∙ c.front_at-front.ensures in
+    let inside : at + (3 + size) ≤ length table = front_inside table at stands in
+    omega (arith, inside)
+
+pub remember-requires : goal.remember-requires
+remember-requires c =
+    let table : List ℕ = c.args.table.now in
+    let at : ℕ = c.loop-tag.at in
+    let tag : ℕ = c.in-Field.tag in
+    let size : ℕ = c.in-Field.size in
+    let stands : Field tag size ≡ front_of (drop at table) = sym c.in-Field.is ∙ c.front_at-front.ensures in
+    let inside : at + (3 + size) ≤ length table = front_inside table at stands in
+    let lent : List ℕ = take (at + 3 + size - (at + 3)) (drop (at + 3) table) in
+    let place : at + 3 ≤ 65536 = omega (arith, inside) in
+    let small : length lent ≤ 65536 = omega (arith, length-take (at + 3 + size - (at + 3)) (drop (at + 3) table), inside) in
+    let further : Further c.in-Further.t ≡ checking (check_field (fields_before table at) at tag lent c.loop-tag.s) = sym c.in-Further.is ∙ c.check_field-checked.ensures in
+    record {
+      as_keyword =
+          record {
+            few = keyword_room c.loop-tag.invariant.0 c.loop-tag.invariant.1 stands further;
+            hashed = λ e. c.spelling_hash-h.ensures.spelled (omega (arith, eqb-true tag 1 e));
+            near = place;
+            short = small;
+          };
+      as_outside =
+          record {
+            few = outside_room c.loop-tag.invariant.0 c.loop-tag.invariant.1 stands further;
+            hashed = λ e. c.spelling_hash-h.ensures.spelled (omega (arith, eqb-true tag 2 e));
+            near = place;
+            short = small;
+          };
+    }
+
+pub loop-tag-preserved : goal.loop-tag-preserved
+loop-tag-preserved c =
+    let table : List ℕ = c.args.table.now in
+    let at : ℕ = c.loop-tag.at in
+    let tag : ℕ = c.in-Field.tag in
+    let size : ℕ = c.in-Field.size in
+    let stands : Field tag size ≡ front_of (drop at table) = sym c.in-Field.is ∙ c.front_at-front.ensures in
+    let lent : List ℕ = take (at + 3 + size - (at + 3)) (drop (at + 3) table) in
+    let further : Further c.in-Further.t ≡ checking (check_field (fields_before table at) at tag lent c.loop-tag.s) = sym c.in-Further.is ∙ c.check_field-checked.ensures in
+    let e = c.remember.ensures in (
+      laws.turn_next c.loop-tag.invariant.0 stands further,
+      remembered_next c.loop-tag.invariant.0 c.loop-tag.invariant.1 stands further e.keywords_are e.outsides_are,
+    )

@@ -1,0 +1,58 @@
+-- `is_among`: the spellings that are left give what all of them give.
+use Prim.Native.Nat.{ℕ, ◌+◌, ◌*◌, ◌<◌}
+use mathlib.Core.Path.{◌≡◌}
+use mathlib.Core.List.{List}
+use lib.ListN.{get_or}
+use Rattle.spellings.specs.Bytes.{same}
+use Rattle.layout.specs.Index.{bucket_of, SpellingHeld}
+use Rattle.layout.proofs.IndexLaws as laws
+use native.Mathlib.Omega.{arith}
+use Rattle.layout.proofs.index.is_among.Goals as goal
+
+pub offset_bounds-room-h : goal.offset_bounds-room-h
+offset_bounds-room-h c = omega arith
+
+pub bounds-room-h : goal.bounds-room-h
+bounds-room-h c = omega arith
+
+pub loop-p-init : goal.loop-p-init
+loop-p-init c =
+    record {
+      small = omega (arith, c.wide_number-p.ensures, c.requires.falling.heads (bucket_of c.args.h) (omega arith));
+      search = λ words x. laws.searching_start x c.requires.hashed c.wide_number-p.ensures;
+    }
+
+pub returns-then-here : goal.returns-then-here
+returns-then-here c =
+    let here : (word : List ℕ) (link : ℕ) → SpellingHeld c.args.table.now c.args.room.now c.loop-p.p word link → c.is_entry-here.result ≡ same word c.args.v.now = λ word link e. c.is_entry-here.ensures word link e c.requires.hashed in
+    λ words x. laws.searching_found (c.loop-p.invariant.search words x) c.loop-p-test.true here c.if-here.true
+
+pub overflow_mul-p : goal.overflow_mul-p
+overflow_mul-p c = omega arith
+
+pub overflow_add-p : goal.overflow_add-p
+overflow_add-p c = omega arith
+
+pub offset_bounds-room-p : goal.offset_bounds-room-p
+offset_bounds-room-p c = omega arith
+
+pub bounds-room-p : goal.bounds-room-p
+bounds-room-p c = omega arith
+
+pub loop-p-smaller : goal.loop-p-smaller
+loop-p-smaller c =
+    let falls : get_or c.args.room.now (60 + 4 * c.loop-p.p) 0 < c.loop-p.p = c.requires.falling.links c.loop-p.p c.loop-p-test.true c.loop-p.invariant.small in
+    omega (arith, falls)
+
+pub loop-p-preserved : goal.loop-p-preserved
+loop-p-preserved c =
+    let here : (word : List ℕ) (link : ℕ) → SpellingHeld c.args.table.now c.args.room.now c.loop-p.p word link → c.is_entry-here.result ≡ same word c.args.v.now = λ word link e. c.is_entry-here.ensures word link e c.requires.hashed in
+    let falls : get_or c.args.room.now (60 + 4 * c.loop-p.p) 0 < c.loop-p.p = c.requires.falling.links c.loop-p.p c.loop-p-test.true c.loop-p.invariant.small in
+    record {
+      small = omega (arith, c.wide_number-p-in-loop-p.ensures, falls, c.loop-p.invariant.small);
+      search =
+          λ words x. laws.searching_next (c.loop-p.invariant.search words x) c.loop-p-test.true here c.if-here.false c.wide_number-p-in-loop-p.ensures;
+    }
+
+pub returns : goal.returns
+returns c = λ words x. laws.searching_end (c.loop-p.invariant.search words x) c.loop-p-test.false
