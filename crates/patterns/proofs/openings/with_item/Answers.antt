@@ -1,0 +1,12 @@
+-- `with_item`: by the symbol.
+use Rattle.patterns.proofs.OpeningLaws as laws
+use Rattle.patterns.proofs.openings.with_item.Goals as goal
+
+pub returns-in-Read : goal.returns-in-Read
+returns-in-Read c = search laws.item_read
+
+pub returns-in-Local : goal.returns-in-Local
+returns-in-Local c = search laws.item_local
+
+pub returns-in-Call : goal.returns-in-Call
+returns-in-Call c = search laws.item_call
