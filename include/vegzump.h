@@ -1,4 +1,4 @@
-/* Vegzump for C and C++: a phrase expander, proved. Link target/staticlib/libvegzump.a (`rt staticlib vegzump`), x86-64 Linux, or what hosts/install
+/* Vegzump for C and C++: a phrase expander, proved. Link target/staticlib/libvegzump.a (`tools/make archive`), x86-64 Linux, or what hosts/install
    puts under a prefix; hosts/README.md has other targets.
 
    What each call answers and writes is proved for every input. What no proof covers: this header and the compiler's back end (both tested by

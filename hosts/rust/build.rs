@@ -1,4 +1,4 @@
-//! Finds the archive that `rt staticlib vegzump` writes: target/staticlib of the repository, or the folder that VEGZUMP_LIB_DIR names.
+//! Finds the archive that `tools/make archive` writes: target/staticlib of the repository, or the folder that VEGZUMP_LIB_DIR names.
 
 use std::{env, path::PathBuf};
 
@@ -9,7 +9,7 @@ fn main() {
     println!("cargo:rerun-if-env-changed=VEGZUMP_LIB_DIR");
     println!("cargo:rerun-if-changed={}", archive.display());
     if !archive.is_file() {
-        panic!("no archive at {}: run `rt staticlib vegzump`, or set VEGZUMP_LIB_DIR", archive.display());
+        panic!("no archive at {}: run `tools/make archive`, or set VEGZUMP_LIB_DIR", archive.display());
     }
     println!("cargo:rustc-link-search=native={}", folder.display());
     println!("cargo:rustc-link-lib=static=vegzump");
