@@ -8,7 +8,7 @@ use native.Mathlib.Numerals.{add-one}
 use native.Mathlib.Omega.{arith}
 use lib.Dec.{eqb, ltb}
 use lib.ListN.{length, get_or, set, take, drop, replicate}
-use lib.ListN.{length-append, length-take, length-drop, drop_of_length-le, get_or-append}
+use lib.ListN.{length-append, length-take, length-drop, drop_of_length-le}
 use lib.Seq.{sets, sets-eq, length-sets, get_or-set_other, ext_get_or}
 use lib.Seq.{length-take-le, take_all, drop-drop, get_or-take, get_or-drop, drop_at, get_or_at, take-append_seam}
 use borrow.Author.Tests.{eq-eqb, ne_eqb, eqb-true, eqb-false, lt-ltb, le-ltb, ltb-true, ltb-false}
