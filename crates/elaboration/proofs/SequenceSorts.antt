@@ -19,7 +19,7 @@ use Rattle.judgements.proofs.Accepting.{Accepts, needs_passed, needs_passes, bin
 use Rattle.judgements.proofs.Environments.{defined_newest, newest_defined, newest_signature}
 use Rattle.judgements.proofs.TemplateSorts.{both, pair}
 use Rattle.judgements.proofs.HeadSorts.{collect_rule, rule_collect}
-use Rattle.elaboration.specs.Contexts.{Before, at_first, scope_after}
+use Rattle.elaboration.specs.Contexts.{Before, at_first, scope_after, behind_block}
 use Rattle.elaboration.specs.CheckSequence.{none_yet, check_bodies, check_blocks, check_root, check_sorts}
 use Rattle.elaboration.specs.Elaboration.{Sequence, no_grammar, by_grammar, Elaborates}
 use Rattle.elaboration.proofs.Ranges.{DefinitionFine, TableFine}
@@ -40,7 +40,7 @@ module _ (P : Before → Type 0) where
       let G : Scope = scope_after before own in
       let (block, used, o, q) = ok_rule before right own (declared_behind d w right.declared) _ (none_yet before.used) (at + 3) g w
       (bind_passed P (check_bodies G before (none_yet before.used) (at + 3) g) _ p) in
-      let (last, s, r) = sequence_rule (right_behind right d o w) (at + 3 + definitions_size g) gs ws q in
+      let (last, s, r) = sequence_rule {before = behind_block before own block used} (right_behind right d o w) (at + 3 + definitions_size g) gs ws q in
       (last, by_grammar d o s, r)
 
   rule_sequence :
@@ -55,7 +55,7 @@ module _ (P : Before → Type 0) where
       (rule_collect before.env _ (at + 3) d
       (bind_passes P (check_bodies G before (none_yet before.used) (at + 3) g) _
       (rule_ok before right own (declared_behind d w right.declared) _ (none_yet before.used) (at + 3) w o
-      (rule_sequence (right_behind right d o w) (at + 3 + definitions_size g) ws s p))))
+      (rule_sequence {before = behind_block before own block used} (right_behind right d o w) (at + 3 + definitions_size g) ws s p))))
 
 -- ------------------------------------------------------------------ the root
 
