@@ -12,7 +12,6 @@ use borrow.Author.Tests.{eq-eqb, ne_eqb, ltb-true, ltb-false}
 use Rattle.spellings.specs.Bytes.{is_letter, is_digit, is_word_byte, is_separator, is_symbol, longest_run, index_of}
 use Rattle.spellings.proofs.BytesLaws.{by_test, index_le, index_front, index_rest, run_prefix, run_length}
 use Rattle.grammar.specs.Table.{Lexicon}
-use Rattle.grammar.proofs.LookupLaws.{few_keywords, few_outsides}
 use Rattle.kinds.specs.Kinds.{word_kind, number_kind, keyword_kind, no_kind}
 use Rattle.spellings.specs.Numbers.{number_of}
 use Rattle.spellings.specs.declared.Number.TheVariants.{Value, TooLarge}

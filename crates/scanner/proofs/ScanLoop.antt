@@ -1,5 +1,5 @@
 -- The loop of the scan: what is left of the formula fills the rooms, from where they stand, as the whole formula fills them.
-use Prim.Native.Nat.{ℕ, zero, suc, ◌+◌, ◌-◌, ◌*◌, ◌<◌, ◌≤◌}
+use Prim.Native.Nat.{ℕ, suc, ◌+◌, ◌-◌, ◌*◌, ◌<◌, ◌≤◌}
 use mathlib.Core.Path.{◌≡◌, refl, sym, ap, ap₂, ◌∙◌}
 use mathlib.Core.Bool.{Bool, true, false}
 use mathlib.Core.List.{List, [], ◌∷◌}
@@ -7,7 +7,7 @@ use native.Mathlib.Omega.{arith}
 use lib.Dec.{ltb}
 use lib.ListN.{length, take, drop, length-drop, drop_of_length-le}
 use lib.Seq.{sets, drop-drop}
-use borrow.Author.Tests.{le-leb, lt-leb, lt-ltb, le-ltb}
+use borrow.Author.Tests.{lt-ltb, le-ltb}
 use Rattle.answers.specs.Refusals.{refusal}
 use Rattle.grammar.specs.Table.{Lexicon}
 use Rattle.tokens.specs.declared.Token.{Token}
@@ -15,7 +15,7 @@ use Rattle.tokens.specs.declared.Step.{Step}
 use Rattle.tokens.specs.declared.Step.TheVariants.{Skip, Stop, Emit}
 use Rattle.tokens.specs.declared.Scanned.{Scanned}
 use Rattle.tokens.specs.declared.Scanned.TheVariants.{Tokens, Unscanned}
-use Rattle.tokens.specs.Scan.{Lexed, scan_ended, with_token, is_new, words_with, step_of, lex_from, scan}
+use Rattle.tokens.specs.Scan.{Lexed, with_token, is_new, words_with, step_of, lex_from, scan}
 use Rattle.tokens.specs.Tokens.{most_tokens, longest_formula}
 use Rattle.scanner.specs.Rooms.{row_then, token_rows, place_then, count_with, word_places, words_from, words_in, Filled, filled, scan_into}
 use Rattle.tokens.proofs.StepLaws.{step_lies}

@@ -1,0 +1,38 @@
+-- `variable_at`: the digits behind `$`, and whether they are worth less than the count.
+use mathlib.Core.Path.{sym, ◌∙◌}
+use native.Mathlib.Omega.{arith}
+use Rattle.scanner.proofs.MadeLaws.{digits_counted}
+use Rattle.scanner.proofs.DollarLaws as laws
+use Rattle.scanner.proofs.dollars.variable_at.Goals as goal
+
+pub returns-then-count-eq0 : goal.returns-then-count-eq0
+returns-then-count-eq0 c = search laws.none_is
+
+pub returns-then-not-dollar : goal.returns-then-not-dollar
+returns-then-not-dollar c = laws.plain_is _ _ (sym c.if-not-dollar.true ∙ c.is_dollar-dollar.ensures)
+
+pub slice_bounds-value-end : goal.slice_bounds-value-end
+slice_bounds-value-end c = search digits_counted
+
+pub overflow_add-result : goal.overflow_add-result
+overflow_add-result c =
+    omega (arith, laws.digits_few c.args.text.now c.args.at c.digit_run-n.ensures c.requires.0)
+
+pub returns-then-wide_number-count : goal.returns-then-wide_number-count
+returns-then-wide_number-count c =
+    laws.named_is c.args.text.now c.args.at c.digit_run-n.ensures c.args.count
+    (sym c.if-not-dollar.false ∙ c.is_dollar-dollar.ensures)
+    (sym c.in-Value.is ∙ c.value-number.ensures)
+    (omega (arith, c.wide_number.ensures))
+
+pub returns-else-wide_number-count : goal.returns-else-wide_number-count
+returns-else-wide_number-count c =
+    laws.over_is c.args.text.now c.args.at c.digit_run-n.ensures c.args.count
+    (sym c.in-Value.is ∙ c.value-number.ensures)
+    (omega (arith, c.wide_number.ensures))
+
+pub returns-in-TooLarge : goal.returns-in-TooLarge
+returns-in-TooLarge c =
+    laws.large_is c.args.text.now c.args.at c.digit_run-n.ensures c.args.count
+    (sym c.in-TooLarge.is ∙ c.value-number.ensures)
+    c.requires.1
