@@ -6,7 +6,7 @@ pub mod prepared;
 mod sorts;
 
 // What productions of a nonterminal give together: the kinds that they open with, and whether one of them is nullable.
-#[derive(Drop)]
+#[derive(Clone, Copy)]
 pub struct Seen {
     pub kinds: u64,
     pub nullable: bool,
