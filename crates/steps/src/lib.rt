@@ -37,7 +37,7 @@ pub enum ItemStep {
 // The activation of a call: the place of its production in the room of the grammar, the index of the token at which it began, how many
 // variables it has, and the offset of its next item. The values of its variables stand in an array; the seventeenth and later ones are named
 // by no template.
-#[derive(Drop)]
+#[derive(Clone, Copy)]
 pub struct Activation {
     pub production: usize,
     pub began: usize,
@@ -46,7 +46,7 @@ pub struct Activation {
 }
 
 // Where a call goes on: its activation, how many calls wait below it, and the state.
-#[derive(Drop)]
+#[derive(Clone, Copy)]
 pub struct Cursor {
     pub call: Activation,
     pub level: usize,

@@ -23,7 +23,7 @@ use spellings::length_of;
 use terms::{COLUMNS, MOST_CELLS, OUTSIDE};
 
 // What a template is evaluated with: how many variables there are, how many rows there may be, and how many cells are made.
-#[derive(Drop)]
+#[derive(Clone, Copy)]
 pub struct Making {
     pub count: usize,
     pub rows: usize,
