@@ -6,37 +6,39 @@
 mod lines;
 
 use crate::lines::{OUT, lay_lines};
-use libc::{STDIN_FILENO, STDOUT_FILENO};
-use rooms::{TABLE, read_file};
+use rooms::{TABLE, read_file, read_full};
+use std::io;
+use std::io::Write;
 
 // The most bytes of lines.
 const MOST: usize = 262_144;
 
 // Hands the first bytes of the room to the library's write.
-fn write(out: &[u8; OUT], size: usize) {
-    reports::print(out, size);
+fn write<W: Write>(to: &mut W, out: &[u8; OUT], size: usize) -> io::Result<()> {
+    reports::print(to, out, size)
 }
 
 // Writes what is to be written for the lines of an input, as many at a time as the room has place for.
-fn tell(table: &[u8], input: &[u8], out: &mut [u8; OUT]) {
+fn tell<W: Write>(to: &mut W, table: &[u8], input: &[u8], out: &mut [u8; OUT]) -> io::Result<()> {
     let mut from: usize = 0;
     while from < input.len() {
         let laid = lay_lines(table, input, from, out);
         let size = laid.size;
-        write(out, size);
+        write(to, out, size)?;
         from = laid.next;
     }
+    Ok(())
 }
 
-fn main() {
+fn main(rt: HostRuntime) -> io::Result<()> {
     let mut table = [0u8; TABLE];
     let mut input = [0u8; MOST + 1];
     let mut out = [0u8; OUT];
-    let n = read_file(b"phrases.tab", &mut table);
-    let m = io::read_full(STDIN_FILENO, &mut input);
+    let mut to = rt.stdout();
+    let n = read_file(&rt, b"phrases.tab", &mut table);
+    let m = read_full(&mut rt.stdin(), &mut input);
     if MOST < m {
-        io::write_all(STDOUT_FILENO, b"over 262144 bytes of lines\n");
-        return;
+        return Write::write_all(&mut to, b"over 262144 bytes of lines\n");
     }
-    tell(&table[..n], &input[..m], &mut out);
+    tell(&mut to, &table[..n], &input[..m], &mut out)
 }

@@ -1,1 +1,2 @@
 pub mod LayingLaws
+pub mod ReadingLaws
