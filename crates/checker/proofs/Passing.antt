@@ -128,6 +128,7 @@ not_sort h (Memᴰ.head e) = absurd (omega (arith, e))
 not_sort h (Memᴰ.tail (Memᴰ.head e)) = absurd (omega (arith, e))
 not_sort h (Memᴰ.tail (Memᴰ.tail (Memᴰ.head e))) = absurd (omega (arith, e))
 not_sort h (Memᴰ.tail (Memᴰ.tail (Memᴰ.tail (Memᴰ.head e)))) = absurd (omega (arith, e))
+not_sort h (Memᴰ.tail (Memᴰ.tail (Memᴰ.tail (Memᴰ.tail x)))) = elim x [ ]
 
 module _ (bs : List ℕ) (bytes : (place : ℕ) → get_or bs place 0 < 256) where
   -- A refusal over 11 is exactly that of the first sets, of a table that is laid out and sorted.

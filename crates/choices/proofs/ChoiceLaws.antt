@@ -375,6 +375,7 @@ each_at (each_more x xs) (suc spot) h = each_at xs spot (omega arith)
 each_among : {A : Type 0} {P : A → Type 0} {xs : List A} {item : A} → Each P xs → Among xs item → P item
 each_among (each_more x xs) among_first = x
 each_among (each_more x xs) (among_later a) = each_among xs a
+each_among each_none x = elim x [ ]
 
 module _ {A B : Type 0} (image : A → B) where
   -- a member's image is a member of the images
@@ -391,6 +392,7 @@ module _ {A B : Type 0} (image : A → B) where
   among_mapped : (xs : List A) {other : B} → Among (map image xs) other → ImageOf xs other
   among_mapped (x ∷ xs) among_first = record { item = x; member = among_first; equal = refl }
   among_mapped (x ∷ xs) (among_later a) = let r = among_mapped xs a in record { item = r.item; member = among_later r.member; equal = r.equal }
+  among_mapped [] x = elim x [ ]
 
 map_at : {A B : Type 0} (image : A → B) (xs : List A) (spot : ℕ) (default : A) (image_default : B) → spot < length xs
     → get_or (map image xs) spot image_default ≡ image (get_or xs spot default)
@@ -550,6 +552,7 @@ module _ {patterns : List Item → ℕ} {bs room : List ℕ} (held : HeldFor pat
   one_passes test {ps = p ∷ ps} (among_later a) t spot h =
       by_test (test (E p)) (λ e. rw (place_hit test (E p) (map E ps) spot e) (omega arith))
       (λ e. rw (place_miss test (E p) (map E ps) spot e) (one_passes test a t (spot + 1) (omega arith)))
+  one_passes test {ps = []} x t spot h = elim x [ ]
 
   -- the nonterminals are 64
   each_other : (test : Entry → Bool) (nonterminal : ℕ) → 64 ≤ nonterminal → ((entry : Entry) → test entry ≡ true → entry.nonterminal ≡ nonterminal)
