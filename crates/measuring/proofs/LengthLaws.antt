@@ -15,7 +15,6 @@ use Rattle.terms.specs.Term as term
 use Rattle.terms.specs.Term.{Name, size, size_fields}
 use Rattle.terms.specs.Rows.{name_of, term_at, field_list_at}
 use Rattle.terms.specs.Rename.{new_name}
-use Rattle.terms.specs.Print.{numeral}
 use Rattle.terms.specs.TextSize.{text_size, text_size_fields}
 use Rattle.terms.specs.Labelled.{name_shown, labelled, labelled_fields}
 use Rattle.rows.specs.Sizes.{no_spell, size_at, size_fields_at}

@@ -1,0 +1,6 @@
+-- `length_by_rows`: the length that a pass tells, or a walk.
+use Rattle.measuring.proofs.OwnLaws as laws
+use Rattle.measuring.proofs.by_rows.length_by_rows.Goals as goal
+
+pub returns-in-Of : goal.returns-in-Of
+returns-in-Of c = search laws.length_told
