@@ -1,5 +1,4 @@
 -- `lay_answer`: acceptance, or refusal.
-use borrow.Author.Rules.{rules}
 use Rattle.reports.proofs.LineLaws.{accepted_short, refused_short}
 use Rattle.rooms.proofs.LayingLaws.{lays_then}
 use Rattle.spellings.specs.Bytes.{bytes}

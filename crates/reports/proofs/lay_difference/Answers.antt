@@ -1,5 +1,4 @@
 -- `lay_difference`: five parts, one behind the other.
-use borrow.Author.Rules.{rules}
 use Rattle.spellings.specs.Bytes.{bytes}
 use Rattle.reports.specs.Lines.{difference}
 use Rattle.rooms.proofs.LayingLaws.{lays_then}

@@ -1,5 +1,4 @@
 -- `lay_numbers`: the number, then the values.
-use borrow.Author.Rules.{rules}
 use Rattle.reports.specs.Lines.{numbers}
 use Rattle.reports.proofs.LineLaws.{numbers_short}
 use Rattle.rooms.proofs.LayingLaws.{lays_then}

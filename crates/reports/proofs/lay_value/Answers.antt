@@ -1,5 +1,4 @@
 -- `lay_value`: a space, then the digits.
-use borrow.Author.Rules.{rules}
 use Rattle.rooms.proofs.LayingLaws.{lays_then}
 use Rattle.reports.proofs.lay_value.Goals as goal
 

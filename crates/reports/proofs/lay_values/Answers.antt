@@ -1,5 +1,4 @@
 -- `lay_values`: one behind the other.
-use borrow.Author.Rules.{rules}
 use Rattle.reports.specs.Lines.{values}
 use Rattle.reports.proofs.LineLaws.{values_short}
 use Rattle.rooms.proofs.LayingLaws.{lays_then}

@@ -1,5 +1,4 @@
 -- `lay_broken`: three parts, one behind the other.
-use borrow.Author.Rules.{rules}
 use Rattle.spellings.specs.Bytes.{bytes}
 use Rattle.reports.specs.Lines.{broken}
 use Rattle.rooms.proofs.LayingLaws.{lays_then}

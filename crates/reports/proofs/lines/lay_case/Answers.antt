@@ -1,5 +1,4 @@
 -- `lay_case`: the index, then the difference.
-use borrow.Author.Rules.{rules}
 use Rattle.spellings.specs.Bytes.{bytes}
 use Rattle.reports.specs.Lines.{case_differs}
 use Rattle.rooms.proofs.LayingLaws.{lays_then}

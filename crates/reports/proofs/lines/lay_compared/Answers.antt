@@ -1,5 +1,4 @@
 -- `lay_compared`: nothing, another answer, or other rooms.
-use borrow.Author.Rules.{rules}
 use Rattle.reports.specs.Lines.{compared_line}
 use Rattle.reports.proofs.lines.lay_compared.Goals as goal
 

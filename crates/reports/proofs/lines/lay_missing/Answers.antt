@@ -1,5 +1,4 @@
 -- `lay_missing`: two parts, one behind the other.
-use borrow.Author.Rules.{rules}
 use Rattle.rooms.proofs.LayingLaws.{lays_then}
 use Rattle.spellings.specs.Bytes.{bytes}
 use Rattle.reports.specs.Lines.{missing}

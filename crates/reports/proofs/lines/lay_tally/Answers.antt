@@ -1,5 +1,4 @@
 -- `lay_tally`: the total, or the case that cannot be read.
-use borrow.Author.Rules.{rules}
 use Rattle.reports.specs.Lines.{tally_line}
 use Rattle.reports.proofs.lines.lay_tally.Goals as goal
 
