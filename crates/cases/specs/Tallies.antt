@@ -5,7 +5,6 @@ use Rattle.reports.specs.declared.lines.Tally.{Tally}
 use Rattle.reports.specs.declared.lines.Tally.TheVariants.{Read}
 use Rattle.reports.specs.declared.lines.Tally.TheVariants as tallies
 use Rattle.cases.specs.declared.case.Case.{Case}
-use Rattle.cases.specs.declared.case.Next.{Next}
 use Rattle.cases.specs.declared.case.Next.TheVariants.{Whole, End, Broken}
 use Rattle.cases.specs.Cases.{next_at}
 
