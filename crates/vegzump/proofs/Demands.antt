@@ -4,14 +4,14 @@
 -- Passes (checker), Unlaid, Misplaced and Missorted (causes).
 --
 -- The signs, here and in the contracts of src/*.rt:
---   requires { ⌜ A ⌝ }, ensures { λ r. ⌜ A ⌝ }   a caller has to show A before the call; A holds of the answer r, with whatever A says of what was lent
---   now x.entry, now x.exit                the list of bytes or numbers lent as x, where the call begins and where it ends; ⌜ A ⌝ is A itself
+--   requires { A }, ensures { A }                a caller has to show A before the call; A holds of the answer, `result`, with whatever A says of what was lent
+--   x.now,  x.old,  x.new                        the list of bytes or numbers lent as x: what is only read; what is written, as the call begins, and as it ends
 --   x ≡ y,  A ↔ B,  A × B,  A ⊎ B,  ¬ A          the same value; each if the other; both; one of the two; not
 --   (x : T) → A,  {x : T} → A                    A for every x of T; the second is left out where it is used.  A → B: if A, then B
 --   (x : T) × A                                  some x of T of which A holds
---   λ x. e,  x.f,  h.0,  h.1                  the function of x that gives e; field f of x; the first and the second part, of A ↔ B both directions
+--   λ x. e,  x.f,  h.0,  h.1                     the function of x that gives e; field f of x; the first and the second part, of A ↔ B both directions
 --   data R .. where, record R .. where           R holds by one of these rules, and by no other; R holds if all of these fields do
---   [],  x ∷ xs,  xs ++ ys,  get_or xs i d         no member; x, then xs; xs, then ys; member i, counted from 0, and d where there is none
+--   [],  x ∷ xs,  xs ++ ys,  get_or xs i d       no member; x, then xs; xs, then ys; member i, counted from 0, and d where there is none
 use Prim.Native.Nat.{ℕ, ◌*◌, ◌≤◌, ◌<◌}
 use mathlib.Core.Path.{◌≡◌, refl}
 use mathlib.Core.Logic.{◌↔◌, ◌⊎◌}
