@@ -10,10 +10,8 @@ use lib.ListN.{length, set, drop, length-append, length-set}
 use lib.Seq.{sets, sets-eq}
 use mir.Syntax.{w64}
 use mir.Val as val
-use Rattle.spellings.specs.Buffers.{written_into}
 use Rattle.spellings.proofs.BuffersLaws.{written_fits, written_not}
 use Rattle.terms.specs.Cells.{column}
-use Rattle.terms.specs.Term as term
 use Rattle.terms.specs.Rows.{term_at, field_list_at}
 use Rattle.rows.specs.Sizes.{no_spell, rows_held}
 use Rattle.rows.proofs.ListLaws.{sets_append}
