@@ -1,5 +1,5 @@
 -- Printing, constructor by constructor: each piece fits what remains, and all pieces are the text.
-use Prim.Native.Nat.{ℕ, suc, ◌+◌, ◌-◌, ◌^◌, ◌<◌, ◌≤◌}
+use Prim.Native.Nat.{ℕ, ◌+◌, ◌-◌, ◌^◌, ◌<◌, ◌≤◌}
 use mathlib.Core.Path.{◌≡◌, refl, sym}
 use mathlib.Core.List.{List, [], ◌∷◌}
 use native.Mathlib.Numerals.{add-one}
@@ -102,6 +102,13 @@ pub record TermRow (pool cells numbers : List ℕ) (depth row place : ℕ) (out 
   pub two : last ≡ column cells row 2
   -- what the text begins with is written
   pub begun : Written (term_beginning pool cells numbers depth row place) out end out'
+
+-- from what is known where a term is read
+pub term_row : {pool cells numbers out out' : List ℕ} {depth row place code first last end : ℕ} → PartFits pool cells numbers (term_part depth row) place out
+    → (depth ≡ 0 → ⊥) → code ≡ column cells row 0 → first ≡ column cells row 1 → last ≡ column cells row 2
+    → Written (term_beginning pool cells numbers depth row place) out end out'
+    → TermRow pool cells numbers depth row place out code first last end out'
+term_row f s r a b w = record { fits = f; some = s; read = r; one = a; two = b; begun = w }
 
 module _ {pool cells numbers out : List ℕ} {depth row place code first last end : ℕ} {out' : List ℕ}
     (r : TermRow pool cells numbers depth row place out code first last end out') where
@@ -352,6 +359,12 @@ pub record FieldsRow (pool cells numbers : List ℕ) (depth row place : ℕ) (ou
   pub read : code ≡ column cells row 0
   -- what the text begins with is written
   pub begun : Written (fields_beginning pool cells depth row) out end out'
+
+-- from what is known where a field list is read
+pub fields_row : {pool cells numbers out out' : List ℕ} {depth row place code end : ℕ} → PartFits pool cells numbers (fields_part depth row) place out
+    → (depth ≡ 0 → ⊥) → code ≡ column cells row 0 → Written (fields_beginning pool cells depth row) out end out'
+    → FieldsRow pool cells numbers depth row place out code end out'
+fields_row f s r w = record { fits = f; some = s; read = r; begun = w }
 
 module _ {pool cells numbers out : List ℕ} {depth row place code end : ℕ} {out' : List ℕ} (r : FieldsRow pool cells numbers depth row place out code end out')
   where
