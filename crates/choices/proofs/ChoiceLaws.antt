@@ -1,6 +1,6 @@
 -- Laws of the choice of a production: the walk over a nonterminal's own places gives the rule that `choice` gives.
 use Prim.Native.Nat.{ℕ, zero, suc, ◌+◌, ◌-◌, ◌<◌, ◌≤◌}
-use mathlib.Core.Path.{◌≡◌, refl, sym, ap, ap₂, ◌∙◌, subst, subst⁻¹, fun_ext}
+use mathlib.Core.Path.{◌≡◌, refl, sym, ap, ap₂, ◌∙◌, subst⁻¹, fun_ext}
 use mathlib.Core.Bool.{Bool, true, false, ◌&&◌, ◌||◌, false≢true, and-eq-true_iff, and-false}
 use mathlib.Core.List.{List, [], ◌∷◌, map}
 use native.Mathlib.Nat.{sub_self, sub-zero}
@@ -22,7 +22,7 @@ use Rattle.grammar.proofs.ReaderLaws.{get_d_past}
 use Rattle.decoding.specs.Within.{Each, each_none, each_more, Among, among_first, among_later}
 use Rattle.productions.specs.Normal.{Production}
 use Rattle.productions.specs.Index.{items_of, Place, places_of, production_at}
-use Rattle.productions.specs.Room.{Entry, no_entry, no_place, HoldsEntries, place_from, is_of, is_nullable_of, first_in, start_in, first_set_in}
+use Rattle.productions.specs.Room.{Entry, no_entry, HoldsEntries, place_from, is_of, is_nullable_of, first_in, start_in, first_set_in}
 use Rattle.productions.specs.Room.{first_place_in, next_place_in, nullable_place_in, patterns_in}
 use Rattle.productions.proofs.RoomLaws.{first_set_in_lem, first_place_in_lem, nullable_place_in_lem, first_in_lem, start_in_lem, next_place_in_lem, patterns_in_lem}
 use Rattle.firsts.specs.FirstSets.{opening_of, nullables, first_of}
