@@ -1,0 +1,6 @@
+-- `lay_line`: the label, then what is said.
+use Rattle.rooms.proofs.LayingLaws.{lays_then}
+use Rattle.boundaries.proofs.lay_line.Goals as goal
+
+pub returns : goal.returns
+returns c = lays_then c.lay_label-n.ensures c.lay_saying.ensures
