@@ -7,13 +7,12 @@ use native.Mathlib.Numerals.{add-one}
 use native.Mathlib.Omega.{arith}
 use native.Mathlib.Decide.{dec_lt}
 use lib.Dec.{eqb}
-use lib.ListN.{length}
 use borrow.Author.Tests.{eq-eqb, ne_eqb}
 use Rattle.grammar.proofs.ReaderLaws.{get_d_past}
 use Rattle.terms.specs.Cells.{column, columns}
 use Rattle.terms.specs.Term.{Term, Name, size, size_fields}
 use Rattle.terms.specs.Rows.{Constructor, var_row, fun_row, app_row, rcd_row, dot_row, nil_row, cons_row, num_row, constructor_of, term_by, term_at, field_list_at}
-use Rattle.terms.specs.Loose.{reached, and_then}
+use Rattle.terms.specs.Loose.{reached}
 use Rattle.terms.specs.Labels.{label_walk, label_walk_fields}
 use Rattle.rows.specs.Sizes.{WholeRows, rows_held}
 use Rattle.rows.proofs.RowLaws as rows

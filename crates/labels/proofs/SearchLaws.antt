@@ -1,5 +1,5 @@
 -- The walk that looks for a label given twice, constructor by constructor.
-use Prim.Native.Nat.{ℕ, suc, ◌+◌, ◌-◌, ◌≤◌}
+use Prim.Native.Nat.{ℕ, suc, ◌+◌, ◌-◌}
 use mathlib.Core.Path.{◌≡◌, refl, sym, ap, ◌∙◌}
 use mathlib.Core.Bool.{Bool, true, false}
 use mathlib.Core.List.{List, [], ◌∷◌}
@@ -8,12 +8,12 @@ use native.Mathlib.Omega.{arith}
 use Rattle.terms.specs.Cells.{column}
 use Rattle.terms.specs.Term.{Name, Term, function, apply, rcd, dot, cons, size, size_fields}
 use Rattle.terms.specs.Rows.{name_of, term_at, field_list_at}
-use Rattle.terms.specs.Loose.{Walk, loose, reached, and_then}
+use Rattle.terms.specs.Loose.{Walk, reached, and_then}
 use Rattle.terms.specs.Labels.{is_among, stop_if, label_walk, label_walk_fields}
 use Rattle.terms.proofs.Repeated.{label_reached}
 use Rattle.rows.proofs.RowLaws as rows
 use Rattle.labels.specs.Stamps.{single, numbered_term, numbered_fields, more_unless, differing, EachLabel, EachLabelFields, Stampable, Stamps}
-use Rattle.labels.specs.Searches.{walk_at, StampsTo, Searchable, SearchableFields, Searched, Searches, SearchesFields}
+use Rattle.labels.specs.Searches.{StampsTo, Searchable, SearchableFields, Searched, Searches, SearchesFields}
 
 -- ------------------------------------------------------------------ walks
 
