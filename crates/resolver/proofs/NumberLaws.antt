@@ -54,6 +54,8 @@ shown_by : (done : List ℕ) (around : List Binder) (shown : List Printed) → P
     → shown_as shown name ≡ name_shown (owner_number done (owner_code (owner_of around name))) name
 unfolding shown_as owner_of
 shown_by done [] [] paired_none name = refl
+shown_by done [] (_ ∷ shown) h name = elim h [ ]
+shown_by done (_ ∷ around) [] h name = elim h [ ]
 shown_by done (_ ∷ around) (_ ∷ shown) (paired_more {binder = b} {place = q} l h) name =
     by_test (belongs name b)
     (λ e. rw (e, shown_as, owner_of) (shown-same (get_or done q 0) name b e))

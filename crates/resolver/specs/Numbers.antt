@@ -1,6 +1,6 @@
 -- From marks to the numbers of new names, from the left: a binder that is renamed takes the next number, a variable that has a binder its
 -- binder's number, all else 0. Nobody needs this to believe `expand`.
-use Rattle.std.specs.Prelude.{ℕ, zero, suc, ◌+◌, ◌*◌, ◌≤◌, ◌≡◌, true, false, List, [], ◌∷◌, ◌++◌, eqb, length, get_or, take, drop}
+use Rattle.std.specs.Prelude.{ℕ, zero, suc, ◌*◌, ◌≤◌, ◌≡◌, true, false, List, [], ◌∷◌, ◌++◌, eqb, length, get_or, take, drop}
 use Rattle.answers.specs.Checked.{Checked, ok, bad}
 use Rattle.answers.specs.Refusals.{refusal}
 use Rattle.terms.specs.Cells.{columns}
