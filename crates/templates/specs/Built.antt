@@ -1,6 +1,6 @@
 -- What the code that evaluates templates works on and answers: the values of the variables in an array, templates as bytes in
 -- prefix form, and rows. These definitions mirror code: nobody needs them to believe `expand`.
-use Rattle.std.specs.Prelude.{ℕ, ◌*◌, ◌/◌, ◌<◌, ◌≤◌, min, ◌≡◌, true, false, List, ltb, length, get_or, drop, set}
+use Rattle.std.specs.Prelude.{ℕ, ◌*◌, ◌<◌, ◌≤◌, ◌≡◌, true, false, List, ltb, length, get_or, drop, set}
 use Rattle.grammar.specs.Variables.{most_variables}
 use Rattle.answers.specs.declared.Refusal.{Refusal}
 use Rattle.answers.specs.Refusals.{refusal}
