@@ -32,7 +32,8 @@ use Rattle.expansion.specs.declared.State.{State}
 use Rattle.expansion.specs.Run.{Result, done, halt}
 use Rattle.productions.specs.Normal.{Production}
 use Rattle.firsts.specs.Rules.{Of}
-use Rattle.expansion.specs.Figure3.{Value, term, Gives, GiveAll, give_none, Derives, by_end, by_call, Parses}
+use Rattle.expansion.specs.Figure3.{Value, term, Gives, GiveAll, give_none, Derives, by_end, by_terminal, by_call, Parses}
+use Rattle.expansion.specs.Figure3 as Figure3
 use Rattle.expansion.specs.ValueSorts.{Typed, typed_term, Matches, matches-none}
 use Rattle.expansion.specs.Costs.{rows_in, Affords}
 use Rattle.soundness.specs.Stopping.{Left, Refuses}
@@ -101,6 +102,13 @@ module _ (table : Table) (passing : Passing table) where
     where
       go : (value : Value) → Typed value Sorts.term → (meant : Term Name) × (◌≡◌ {A = List Value} (value ∷ []) (term meant ∷ []))
       go (term u) typed_term = (u, refl)
+      go Figure3.unit x = elim x [ ]
+      go (Figure3.var _) x = elim x [ ]
+      go (Figure3.binder _) x = elim x [ ]
+      go (Figure3.label _) x = elim x [ ]
+      go (Figure3.num _) x = elim x [ ]
+      go (Figure3.fields _) x = elim x [ ]
+  root_derives_term (by_terminal x _) = elim x [ ]
 
   -- A well sorted call, under variables of their sorts, has values for its arguments and a production of its nonterminal: it is never `wrong`.
   pub call_never_wrong : (spell : ℕ → List ℕ) {M : List Value} {L : List ℕ} {nonterminal A : ℕ} (ts : Templates) → Matches M L

@@ -60,6 +60,7 @@ module _ (given : List Given) (spell : ℕ → List ℕ) where
   bound_from : {M : List Value} {index : ℕ} {value : Value} → Each From M → Bound M index value → From value
   bound_from (each_more h hs) bound_first = h
   bound_from (each_more h hs) (bound_later b) = bound_from hs b
+  bound_from each_none x = elim x [ ]
 
   constructs_from : {code : ℕ} {vs : List Value} {value : Value} → Constructs code vs value → Each From vs → From value
   constructs_from Figure3.makes_var (each_more (from_var x) each_none) = from_term (placed_variable x)

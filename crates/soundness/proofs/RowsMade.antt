@@ -18,6 +18,7 @@ use Rattle.expansion.specs.Run.{done, halt}
 use Rattle.expansion.specs.Expansion.{initial_state, run_call, ended, run}
 use Rattle.expansion.specs.Limits.{most_open}
 use Rattle.expansion.specs.Figure3.{Value, term}
+use Rattle.expansion.specs.Figure3 as Figure3
 use Rattle.expansion.specs.Parsing.{input}
 use Rattle.expansion.specs.ValueSorts.{Typed, typed_term}
 use Rattle.expansion.proofs.Shows.{IsCode, Shows, shows_term}
@@ -47,6 +48,12 @@ module _ {g : List Production} (setting : Setting g) where
     h.read (take (made * columns) cells') (record { same = λ j b. get_or-take (made * columns) cells' j 0 b }) made h.below
         ∙ sym (h.read cells' (record { same = λ j b. refl }) made h.below),
   )
+  term_rows Figure3.unit x _ = elim x [ ]
+  term_rows (Figure3.var _) x _ = elim x [ ]
+  term_rows (Figure3.binder _) x _ = elim x [ ]
+  term_rows (Figure3.label _) x _ = elim x [ ]
+  term_rows (Figure3.num _) x _ = elim x [ ]
+  term_rows (Figure3.fields _) x _ = elim x [ ]
 
   root_leaves : {cells : List ℕ} {row : ℕ} {state' : State} {cells' : List ℕ} → Root setting cells row state' cells' → Leaves cells row state' cells'
   root_leaves c =

@@ -31,6 +31,7 @@ use Rattle.expansion.specs.Expansion.{run_item, run_items, call_begun, run_call,
 use Rattle.expansion.specs.Limits.{most_calls, most_open}
 use Rattle.expansion.specs.Figure3.{Value, unit, binder, term, Gives, give_none, Taken, as_var, as_binder, as_label, by_keyword, by_ide, by_number}
 use Rattle.expansion.specs.Figure3.{by_local, Derives, by_end, by_terminal, by_call, Parses}
+use Rattle.expansion.specs.Figure3 as Figure3
 use Rattle.expansion.specs.Parsing.{input}
 use Rattle.expansion.specs.Costs.{rows_of, rows_of_all}
 use Rattle.expansion.proofs.Shows.{Grown, grown_not, grown_trans, Shows, shows_unit, shows_var, shows_binder, shows_label, shows_num, shows_term, ShowAll}
@@ -421,6 +422,12 @@ module _ {g : List Production} (setting : Setting g) where
           → Parses g spell setting.root tokens (term_at state'.made spell cells' row)
       go (term t) typed_term d z =
           record { counter = state'.fresh; derived = subst₂ (RootGives state'.fresh) (ap term (sym (shown z))) (drop_of_length-le tokens l) d }
+      go unit x d z = elim x [ ]
+      go (Figure3.var _) x d z = elim x [ ]
+      go (binder _) x d z = elim x [ ]
+      go (Figure3.label _) x d z = elim x [ ]
+      go (Figure3.num _) x d z = elim x [ ]
+      go (Figure3.fields _) x d z = elim x [ ]
 
   Accepted : ℕ → State → List ℕ → Type 0
   Accepted v s cells = Parses g spell setting.root tokens (term_at s.made spell cells v)

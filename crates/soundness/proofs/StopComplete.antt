@@ -270,12 +270,12 @@ module _ {g : List Production} (setting : Setting g) where
             (begun_at q)
             (begun_kept (omega (arith, q.calls)) h) a))
 
-    result_fails : {cause : Refusal} {total i' : ℕ} {M : List Value} {value : Value} {left' : List Token}
+    result_fails : {left' : List Token} {cause : Refusal} {total i' : ℕ} {M : List Value} {value : Value}
         (derives : Derives g spell vs left i p.items left' i' M)
         → Affords rows (opened + 1) (begun + 1) made derives → Gives spell M p.result value
         → Fails g spell rows tokens (opened + 1) (begun + 1 + calls_in derives) (made + rows_in derives) left' (makes (rows_of p.result)) cause total
         → Calls opened begun made nonterminal vs left i cause total
-    result_fails {i' = i'} {M = M} {value = value} {left' = left'} derives A gives (no_row l) = record { calls = go }
+    result_fails {left' = left'} {i' = i'} {M = M} {value = value} derives A gives (no_row l) = record { calls = go }
       where
         go : {lent : Input} → Provides setting lent → (depth names_left : ℕ) (ys : List ℕ) (state : State) (cells : List ℕ) → depth + opened ≡ most_open
             → nonterminal < 64 → At begun made left i state

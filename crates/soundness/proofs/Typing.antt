@@ -39,10 +39,12 @@ matches_and (matches_more h hs) k = matches_more h (matches_and hs k)
 bound_exists : {M : List Value} {L : List ℕ} {index B : ℕ} → Matches M L → Has L index B → (value : Value) × Bound M index value × Typed value B
 bound_exists (matches_more {v = v} h hs) has_first = (v, bound_first, h)
 bound_exists (matches_more h hs) (has_later k) = let b = bound_exists hs k in (b.0, bound_later b.1, b.2)
+bound_exists matches-none x = elim x [ ]
 
 bound_typed : {M : List Value} {L : List ℕ} {index B : ℕ} {value : Value} → Matches M L → Has L index B → Bound M index value → Typed value B
 bound_typed (matches_more h hs) has_first bound_first = h
 bound_typed (matches_more h hs) (has_later k) (bound_later b) = bound_typed hs k b
+bound_typed matches-none x _ = elim x [ ]
 
 -- ------------------------------------------------------------------ constructors
 
