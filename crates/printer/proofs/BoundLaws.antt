@@ -14,7 +14,6 @@ use Rattle.terms.specs.Rename.{new_name}
 use Rattle.terms.specs.TextSize.{text_size, text_size_fields}
 use Rattle.terms.specs.Labelled.{name_shown, labelled, labelled_fields}
 use Rattle.spellings.specs.Bytes.{longest_word}
-use Rattle.writer.specs.Writing.{Fits}
 use Rattle.writer.specs.Pool.{spell_in}
 use Rattle.printing.specs.PrintedParts.{term_part, part_text, PartFits}
 use Rattle.measuring.specs.Lengths.{term_length}

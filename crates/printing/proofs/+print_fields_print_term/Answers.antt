@@ -54,13 +54,17 @@ print_fields-returns-then-code-eq-FIELD_CONS t c =
     c.print_term.ensures c.write_byte-then-code-eq-FIELD_CONS.ensures c.print_fields.ensures c.write_byte-then-code-eq-FIELD_CONS-2.ensures
 
 pub print_fields-overflow_add-result-then-code-eq-FIELD_CONS : goal.print_fields-overflow_add-result-then-code-eq-FIELD_CONS
-print_fields-overflow_add-result-then-code-eq-FIELD_CONS t c = laws.length_small c.requires c.well_formed.0.0 (let row = laws.fields_row c.requires c.if-bound-eq0.false c.column-code.ensures c.begin_fields-n.ensures in
-    laws.cons_printed row c.if-code-eq-FIELD_CONS.true c.column-part.ensures c.column-rest.ensures
+print_fields-overflow_add-result-then-code-eq-FIELD_CONS t c =
+    let row = laws.fields_row c.requires c.if-bound-eq0.false c.column-code.ensures c.begin_fields-n.ensures in
+    laws.length_small c.requires c.well_formed.0.0
+    (laws.cons_printed row c.if-code-eq-FIELD_CONS.true c.column-part.ensures c.column-rest.ensures
     c.print_term.ensures c.write_byte-then-code-eq-FIELD_CONS.ensures c.print_fields.ensures c.write_byte-then-code-eq-FIELD_CONS-2.ensures)
 
 pub print_fields-shape_of-out-then-code-eq-FIELD_CONS : goal.print_fields-shape_of-out-then-code-eq-FIELD_CONS
-print_fields-shape_of-out-then-code-eq-FIELD_CONS t c = laws.kept c.requires (let row = laws.fields_row c.requires c.if-bound-eq0.false c.column-code.ensures c.begin_fields-n.ensures in
-    laws.cons_printed row c.if-code-eq-FIELD_CONS.true c.column-part.ensures c.column-rest.ensures
+print_fields-shape_of-out-then-code-eq-FIELD_CONS t c =
+    let row = laws.fields_row c.requires c.if-bound-eq0.false c.column-code.ensures c.begin_fields-n.ensures in
+    laws.kept c.requires
+    (laws.cons_printed row c.if-code-eq-FIELD_CONS.true c.column-part.ensures c.column-rest.ensures
     c.print_term.ensures c.write_byte-then-code-eq-FIELD_CONS.ensures c.print_fields.ensures c.write_byte-then-code-eq-FIELD_CONS-2.ensures)
 
 pub print_fields-write_byte-requires-2 : goal.print_fields-write_byte-requires-2
@@ -98,8 +102,10 @@ print_term-returns-in-33 t c =
     laws.fun_printed row c.in-33.is c.print_term.ensures c.write_byte-in-33.ensures
 
 pub print_term-overflow_add-result-in-33 : goal.print_term-overflow_add-result-in-33
-print_term-overflow_add-result-in-33 t c = laws.length_small c.requires c.well_formed.0.0 (let row = laws.term_row c.requires c.if-bound-eq0.false c.column-code.ensures c.column-first.ensures c.column-last.ensures c.begin_term-n.ensures in
-    laws.fun_printed row c.in-33.is c.print_term.ensures c.write_byte-in-33.ensures)
+print_term-overflow_add-result-in-33 t c =
+    let row = laws.term_row c.requires c.if-bound-eq0.false c.column-code.ensures c.column-first.ensures c.column-last.ensures c.begin_term-n.ensures in
+    laws.length_small c.requires c.well_formed.0.0
+    (laws.fun_printed row c.in-33.is c.print_term.ensures c.write_byte-in-33.ensures)
 
 -- a record
 
@@ -114,8 +120,10 @@ print_term-returns-in-35 t c =
     laws.rcd_printed row c.in-35.is c.print_fields.ensures c.write_byte-in-35.ensures
 
 pub print_term-overflow_add-result-in-35 : goal.print_term-overflow_add-result-in-35
-print_term-overflow_add-result-in-35 t c = laws.length_small c.requires c.well_formed.0.0 (let row = laws.term_row c.requires c.if-bound-eq0.false c.column-code.ensures c.column-first.ensures c.column-last.ensures c.begin_term-n.ensures in
-    laws.rcd_printed row c.in-35.is c.print_fields.ensures c.write_byte-in-35.ensures)
+print_term-overflow_add-result-in-35 t c =
+    let row = laws.term_row c.requires c.if-bound-eq0.false c.column-code.ensures c.column-first.ensures c.column-last.ensures c.begin_term-n.ensures in
+    laws.length_small c.requires c.well_formed.0.0
+    (laws.rcd_printed row c.in-35.is c.print_fields.ensures c.write_byte-in-35.ensures)
 
 pub print_term-print_term-requires-in-34 : goal.print_term-print_term-requires-in-34
 print_term-print_term-requires-in-34 t c =
@@ -149,9 +157,10 @@ print_term-slice_bounds-write_byte-start-in-34-2 t c =
     c.print_term-in-34-2.ensures).written.within
 
 pub print_term-slice_bounds-write_byte-count-in-34-2 : goal.print_term-slice_bounds-write_byte-count-in-34-2
-print_term-slice_bounds-write_byte-count-in-34-2 t c = (let row = laws.term_row c.requires c.if-bound-eq0.false c.column-code.ensures c.column-first.ensures c.column-last.ensures c.begin_term-n.ensures in
+print_term-slice_bounds-write_byte-count-in-34-2 t c =
+    let row = laws.term_row c.requires c.if-bound-eq0.false c.column-code.ensures c.column-first.ensures c.column-last.ensures c.begin_term-n.ensures in
     (laws.app_closing row c.in-34.is c.print_term-in-34.ensures c.write_byte-in-34.ensures
-    c.print_term-in-34-2.ensures).written.within)
+    c.print_term-in-34-2.ensures).written.within
 
 pub print_term-overflow_add-end-in-34 : goal.print_term-overflow_add-end-in-34
 print_term-overflow_add-end-in-34 t c =
@@ -173,13 +182,17 @@ print_term-returns-in-34 t c =
     c.print_term-in-34-2.ensures c.write_byte-in-34-2.ensures
 
 pub print_term-overflow_add-result-in-34 : goal.print_term-overflow_add-result-in-34
-print_term-overflow_add-result-in-34 t c = laws.length_small c.requires c.well_formed.0.0 (let row = laws.term_row c.requires c.if-bound-eq0.false c.column-code.ensures c.column-first.ensures c.column-last.ensures c.begin_term-n.ensures in
-    laws.app_printed row c.in-34.is c.print_term-in-34.ensures c.write_byte-in-34.ensures
+print_term-overflow_add-result-in-34 t c =
+    let row = laws.term_row c.requires c.if-bound-eq0.false c.column-code.ensures c.column-first.ensures c.column-last.ensures c.begin_term-n.ensures in
+    laws.length_small c.requires c.well_formed.0.0
+    (laws.app_printed row c.in-34.is c.print_term-in-34.ensures c.write_byte-in-34.ensures
     c.print_term-in-34-2.ensures c.write_byte-in-34-2.ensures)
 
 pub print_term-shape_of-out-in-34 : goal.print_term-shape_of-out-in-34
-print_term-shape_of-out-in-34 t c = laws.kept c.requires (let row = laws.term_row c.requires c.if-bound-eq0.false c.column-code.ensures c.column-first.ensures c.column-last.ensures c.begin_term-n.ensures in
-    laws.app_printed row c.in-34.is c.print_term-in-34.ensures c.write_byte-in-34.ensures
+print_term-shape_of-out-in-34 t c =
+    let row = laws.term_row c.requires c.if-bound-eq0.false c.column-code.ensures c.column-first.ensures c.column-last.ensures c.begin_term-n.ensures in
+    laws.kept c.requires
+    (laws.app_printed row c.in-34.is c.print_term-in-34.ensures c.write_byte-in-34.ensures
     c.print_term-in-34-2.ensures c.write_byte-in-34-2.ensures)
 
 pub print_term-print_term-requires-in-36 : goal.print_term-print_term-requires-in-36
@@ -225,13 +238,17 @@ print_term-returns-in-36 t c =
     c.write_label.ensures c.write_byte-in-36-2.ensures
 
 pub print_term-overflow_add-result-in-36 : goal.print_term-overflow_add-result-in-36
-print_term-overflow_add-result-in-36 t c = laws.length_small c.requires c.well_formed.0.0 (let row = laws.term_row c.requires c.if-bound-eq0.false c.column-code.ensures c.column-first.ensures c.column-last.ensures c.begin_term-n.ensures in
-    laws.dot_printed row c.in-36.is c.print_term-in-36.ensures c.write_byte-in-36.ensures
+print_term-overflow_add-result-in-36 t c =
+    let row = laws.term_row c.requires c.if-bound-eq0.false c.column-code.ensures c.column-first.ensures c.column-last.ensures c.begin_term-n.ensures in
+    laws.length_small c.requires c.well_formed.0.0
+    (laws.dot_printed row c.in-36.is c.print_term-in-36.ensures c.write_byte-in-36.ensures
     c.write_label.ensures c.write_byte-in-36-2.ensures)
 
 pub print_term-shape_of-out-in-36 : goal.print_term-shape_of-out-in-36
-print_term-shape_of-out-in-36 t c = laws.kept c.requires (let row = laws.term_row c.requires c.if-bound-eq0.false c.column-code.ensures c.column-first.ensures c.column-last.ensures c.begin_term-n.ensures in
-    laws.dot_printed row c.in-36.is c.print_term-in-36.ensures c.write_byte-in-36.ensures
+print_term-shape_of-out-in-36 t c =
+    let row = laws.term_row c.requires c.if-bound-eq0.false c.column-code.ensures c.column-first.ensures c.column-last.ensures c.begin_term-n.ensures in
+    laws.kept c.requires
+    (laws.dot_printed row c.in-36.is c.print_term-in-36.ensures c.write_byte-in-36.ensures
     c.write_label.ensures c.write_byte-in-36-2.ensures)
 
 pub print_fields-begin_fields-n-requires : goal.print_fields-begin_fields-n-requires
