@@ -20,8 +20,8 @@ use Rattle.expansion.specs.declared.State.{State}
 use Rattle.expansion.specs.Run.{Result, done, halt, Run, after}
 use Rattle.expansion.specs.Limits.{most_calls, most_open}
 use Rattle.expansion.specs.TextTokens.{read_value, meets, text_value}
-use Rattle.expansion.specs.Expansion.{Grammar, Input, Rule, Choice, unfit, chosen, choice, next_token, token_taken, misfit, take_token, take_terminal}
-use Rattle.expansion.specs.Expansion.{cell_made, cell, build, build_all, run_item, run_items, call_begun, run_call, initial_state, ended, run}
+use Rattle.expansion.specs.Expansion.{Grammar, Input, Choice, unfit, chosen, choice, next_token, token_taken, misfit, take_token, take_terminal}
+use Rattle.expansion.specs.Expansion.{cell, build, build_all, run_item, run_items, call_begun, run_call, initial_state, ended, run}
 use Rattle.expansion.proofs.CellLaws.{with_row, row_numbers_lem, cell_row, cell_none}
 use Rattle.expansion.proofs.CallLaws.{inner, inner_grammar, inner_tokens, inner_rows, call_full, call_unfit, call_chosen}
 use Rattle.expansion.proofs.Shows.{Agree}

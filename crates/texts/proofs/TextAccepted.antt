@@ -2,12 +2,11 @@
 use Prim.Native.Nat.{ℕ, ◌+◌, ◌*◌, ◌≤◌, ◌<◌}
 use mathlib.Core.Path.{◌≡◌, refl, sym, ap, subst, ◌∙◌}
 use mathlib.Core.Bool.{Bool, true, false, true≢false, not, ◌&&◌, and-eq-true_iff}
-use mathlib.Core.List.{List, [], ◌∷◌, map}
+use mathlib.Core.List.{List, [], map}
 use native.Mathlib.Omega.{arith}
 use lib.Dec.{eqb, leb, ltb}
 use lib.ListN.{length, get_or, replicate, length-replicate}
 use borrow.Author.Tests.{eqb-true, leb-true, ltb-false}
-use Rattle.answers.specs.declared.Refusal.{Refusal}
 use Rattle.answers.specs.Checked.{Checked, ok, bad, ◌>>=◌, ◌>>◌, need}
 use Rattle.keywords.proofs.KeptLaws.{kept_many}
 use Rattle.grammar.specs.Limits.{most}
@@ -17,7 +16,6 @@ use Rattle.grammar.specs.Table.{Template}
 use Rattle.grammar.specs.Variables.{most_variables}
 use Rattle.terms.specs.Cells.{columns, name_base}
 use Rattle.terms.specs.Term.{largest_term}
-use Rattle.tokens.specs.declared.Token.{Token}
 use Rattle.tokens.specs.declared.Scanned.{Scanned}
 use Rattle.tokens.specs.declared.Scanned.TheVariants.{Tokens, Unscanned}
 use Rattle.tokens.specs.Scan.{Lexed, scan}
@@ -28,7 +26,7 @@ use Rattle.judgements.specs.Scopes.{Scope}
 use Rattle.judgements.specs.Judgements.{Newest}
 use Rattle.expansion.specs.declared.State.{State}
 use Rattle.expansion.specs.Run.{Result, done, halt}
-use Rattle.expansion.specs.Costs.{rows_of, rows_in}
+use Rattle.expansion.specs.Costs.{rows_of}
 use Rattle.expansion.proofs.Endings.{Ends}
 use Rattle.copying.specs.RowTemplates.{text_template}
 use Rattle.copying.specs.Hanging.{is_row_at, HangsAt}

@@ -3,7 +3,7 @@
 use Prim.Native.Nat.{ℕ, zero, suc, ◌-◌, ◌≤◌, ◌<◌}
 use mathlib.Core.Path.{◌≡◌, refl, sym, ap, subst, ◌∙◌}
 use mathlib.Core.Logic.{◌⊎◌, inl, inr, ⊎_elim}
-use mathlib.Core.Bool.{Bool, true, false, ◌&&◌, ◌||◌, true≢false, and-eq-true_iff}
+use mathlib.Core.Bool.{Bool, true, false, ◌||◌, true≢false, and-eq-true_iff}
 use mathlib.Core.List.{List, [], ◌∷◌, map}
 use native.Mathlib.Omega.{arith}
 use lib.Dec.{eqb}
@@ -20,8 +20,8 @@ use Rattle.tokens.specs.declared.Token.{Token}
 use Rattle.tokens.specs.Tokens.{end_token}
 use Rattle.productions.specs.Normal.{Production}
 use Rattle.decoding.specs.Within.{Among}
-use Rattle.firsts.specs.Rules.{Of, First, first_own, first_call, first_past, Reads, reads}
-use Rattle.firsts.specs.Patterns.{pattern_of, patterns_in, ReadsAt, reads_at, ReadsPlace, opens_ide_of, opens_ide, opens_place}
+use Rattle.firsts.specs.Rules.{Of, First, Reads, reads}
+use Rattle.firsts.specs.Patterns.{patterns_in, ReadsAt, reads_at, ReadsPlace, opens_ide_of, opens_ide, opens_place}
 use Rattle.firsts.proofs.FirstsTheorems.{production_opens_exactly, production_nullable_exactly}
 use Rattle.firsts.proofs.FirstSetsExactly.{first_holds, first_as, ides_exactly, places_exactly}
 use Rattle.firsts.proofs.Rounds.{or_left, or_right, or_split}

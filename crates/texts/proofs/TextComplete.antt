@@ -1,25 +1,24 @@
 -- A text that the rules read is accepted by `check_reading`, with its template and its rows.
-use Prim.Native.Nat.{ℕ, zero, suc, ◌+◌, ◌*◌, ◌≤◌, ◌<◌}
+use Prim.Native.Nat.{ℕ, ◌+◌, ◌*◌, ◌≤◌, ◌<◌}
 use mathlib.Core.Path.{◌≡◌, refl, sym, ap, subst, ◌∙◌}
-use mathlib.Core.Bool.{Bool, true, false, not, ◌&&◌, ◌||◌}
-use mathlib.Core.List.{List, [], ◌∷◌, ◌++◌, map}
+use mathlib.Core.Bool.{true, false, ◌||◌}
+use mathlib.Core.List.{List, [], ◌∷◌, map}
 use native.Mathlib.Omega.{arith}
 use lib.Dec.{eqb, leb, ltb}
-use lib.ListN.{length, replicate, length-append, length-replicate}
+use lib.ListN.{length, replicate, length-replicate}
 use borrow.Author.Tests.{eq-eqb, ne_eqb, le-leb, le-ltb}
-use Rattle.answers.specs.Checked.{Checked, ok, ◌>>=◌, ◌>>◌, need}
+use Rattle.answers.specs.Checked.{ok}
 use Rattle.kinds.specs.Kinds.{word_kind, number_kind}
 use Rattle.keywords.proofs.KeptLaws.{kept_many}
 use Rattle.grammar.specs.Limits.{most}
 use Rattle.grammar.specs.Sorts.{Signature}
 use Rattle.grammar.specs.SortTests.{fits}
-use Rattle.grammar.specs.Table.{Template, Lexicon, Item, none, call}
-use Rattle.terms.specs.Cells.{columns, name_base}
+use Rattle.grammar.specs.Table.{Template, Lexicon, Item}
+use Rattle.terms.specs.Cells.{columns}
 use Rattle.terms.specs.Term.{largest_term}
 use Rattle.tokens.specs.declared.Token.{Token}
-use Rattle.tokens.specs.declared.Scanned.TheVariants.{Tokens}
 use Rattle.tokens.specs.Tokens.{longest_formula}
-use Rattle.tokens.specs.Scan.{Lexed, scan}
+use Rattle.tokens.specs.Scan.{scan}
 use Rattle.tokens.specs.Tiling.{Stands, a_keyword, a_keyword_symbol, an_outside_name, a_word_again, a_new_word, a_number, a_symbol, a_variable}
 use Rattle.tokens.specs.Tiling.{Tiled, here, past_separator, past_token}
 use Rattle.tokens.proofs.FollowLaws.{tiled_scanned}
@@ -27,11 +26,10 @@ use Rattle.productions.specs.Normal.{Production}
 use Rattle.clashes.specs.CheckFirsts.{check_firsts}
 use Rattle.firsts.specs.Reach.{kinds_reached}
 use Rattle.judgements.specs.Scopes.{Scope}
-use Rattle.expansion.specs.Run.{Result, done}
 use Rattle.expansion.specs.Figure3.{by_end, by_terminal, by_call}
-use Rattle.expansion.specs.Costs.{rows_of, rows_in}
+use Rattle.expansion.specs.Costs.{rows_of}
 use Rattle.copying.specs.RowTemplates.{text_template}
-use Rattle.texts.specs.Reading.{TextContext, lexicon_for, rows_left, as_outside, has_number, is_scanned, other_words, run_text, reading, reading_of, check_reading}
+use Rattle.texts.specs.Reading.{TextContext, lexicon_for, rows_left, as_outside, has_number, run_text, reading, reading_of, check_reading}
 use Rattle.texts.specs.ReadingRules.{TextReads, by_keyword, by_variable, by_place, by_global, by_label, TextDerives, ReadText, rows_read}
 use Rattle.texts.proofs.TextSorts.{AllNamed, SortedAt, text_sorted}
 use Rattle.texts.proofs.TextSetting.{TextSetting}

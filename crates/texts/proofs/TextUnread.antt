@@ -1,5 +1,5 @@
 -- Why a text is refused, by the rules: each of 26, 27, 28, 9 and 11 is answered exactly in its case.
-use Prim.Native.Nat.{ℕ, ◌-◌, ◌*◌, ◌≤◌, ◌<◌}
+use Prim.Native.Nat.{ℕ, ◌*◌, ◌≤◌, ◌<◌}
 use mathlib.Core.Path.{◌≡◌, refl, sym, ap, subst, ◌∙◌}
 use mathlib.Core.Logic.{◌↔◌}
 use mathlib.Core.Bool.{Bool, true, false, true≢false, not, ◌&&◌, and-eq-true_iff}
@@ -46,7 +46,7 @@ use Rattle.texts.proofs.SameCosts.{same_affords}
 use Rattle.texts.proofs.TextTerminals.{all_seen, TextTokens}
 use Rattle.texts.proofs.SizeReading.{LooselyDerives, loose_values, loose_reader}
 use Rattle.texts.proofs.SizeRules.{derived_numbers, derived_counts, derived_wider, tiled_tokens}
-use Rattle.texts.proofs.UnreadCauses.{answer, Cause, cause_scan, cause_unread, cause_lenient, cause_binder, cause_large, cause_fresh, cause_word}
+use Rattle.texts.proofs.UnreadCauses.{Cause, cause_scan, cause_unread, cause_lenient, cause_binder, cause_large, cause_fresh, cause_word}
 use Rattle.texts.proofs.UnreadCauses.{cause_sort, Outcome, passes, refuses, outcome, refused_fresh, refused_word, refused_sort}
 
 unread_reading : {r : Reading} → unread ≡ reading r → ⊥
