@@ -60,14 +60,14 @@ words_at (suc count) first (suc index) formula room h =
 
 -- ------------------------------------------------------------------ names of a derived term
 
-module _ {tokens : List Token} {outside_count_lem : ℕ} {given : List Given} (spell : ℕ → List ℕ) (few : outside_count_lem ≤ most.outsides)
-    (known : Each (Supplied tokens outside_count_lem) given)
+module _ {tokens : List Token} {outside_count : ℕ} {given : List Given} (spell : ℕ → List ℕ) (few : outside_count ≤ most.outsides)
+    (known : Each (Supplied tokens outside_count) given)
     (words : (token : Token) → Among tokens token → token.kind ≡ word_kind → is_word (spell token.value) ≡ true)
-    (outsides : (many : ℕ) → many < outside_count_lem → is_word (spell many) ≡ true) where
-  word_given : {B : ℕ} {token : Token} → Supplied tokens outside_count_lem (word_at B token) → is_word (spell token.value) ≡ true
+    (outsides : (many : ℕ) → many < outside_count → is_word (spell many) ≡ true) where
+  word_given : {B : ℕ} {token : Token} → Supplied tokens outside_count (word_at B token) → is_word (spell token.value) ≡ true
   word_given (supplied_word h e) = words _ h e
 
-  outside_given : {index : ℕ} → Supplied tokens outside_count_lem (outside_name index) → VariableName spell (outside (spell index))
+  outside_given : {index : ℕ} → Supplied tokens outside_count (outside_name index) → VariableName spell (outside (spell index))
   outside_given {index} (supplied_outside l) = (index, omega arith, refl, outsides index l)
 
   variable_named : {name : Name} → VarPlace given spell name → VariableName spell name

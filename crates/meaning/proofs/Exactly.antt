@@ -38,7 +38,7 @@ use Rattle.meaning.proofs.Stages.{unscanned_ends, stopped_ends, meant_ends, mean
 same_refusal : {cause other : Refusal} → Refusing cause ≡ Refusing other → cause ≡ other
 same_refusal e = cc
 
-never : {A : Type 0} {made constructors text_size_lem : ℕ} {cause : Refusal} → Accepted made constructors text_size_lem ≡ Refusing cause → A
+never : {A : Type 0} {made constructors text_size : ℕ} {cause : Refusal} → Accepted made constructors text_size ≡ Refusing cause → A
 never e = let z : ◌≡◌ {A = ℕ} 0 1 = cc in absurd (omega arith)
 
 -- ------------------------------------------------------------------ the last step
@@ -56,8 +56,8 @@ module _ {write : Term Name → List ℕ} {made : ℕ} {meant : Term Name} {cell
   long_answer (too_long q b) p l = refl
   long_answer (prints q b) p l = absurd (omega arith)
 
-  text_printed : {expanded : Expanded} {cells_made constructors text_size_lem : ℕ} → Finish write made meant cells text expanded
-      → expanded.answer ≡ Accepted cells_made constructors text_size_lem
+  text_printed : {expanded : Expanded} {cells_made constructors text_size : ℕ} → Finish write made meant cells text expanded
+      → expanded.answer ≡ Accepted cells_made constructors text_size
       → expanded.text ≡ write meant ++ drop (length (write meant)) text
   text_printed (is_refused j) e = never (sym e)
   text_printed (too_long p b) e = never (sym e)
@@ -93,7 +93,7 @@ module _ (write : Term Name → List ℕ) (table : Table) (passing : Passing tab
 
   -- ------------------------------------------------------------------ every cause, and acceptance
 
-  cause_last : {meant : Term Name} {cells' : List ℕ} {expanded : Expanded} (means_within : MeansWithin syntax formula cells meant)
+  cause_last : {meant : Term Name} {cells' : List ℕ} (means_within : MeansWithin syntax formula cells meant) {expanded : Expanded}
       → Finish write (cells_of means_within) meant cells' text expanded → (cause : Refusal)
       → expanded.answer ≡ Refusing cause → Cause write syntax formula cells text cause
   cause_last means_within (is_refused j) cause e = subst (Cause write syntax formula cells text) (same_refusal e) (is_judged means_within j)
@@ -116,25 +116,25 @@ module _ (write : Term Name → List ℕ) (table : Table) (passing : Passing tab
   pub refused_exactly : (cause : Refusal) → (X.answer ≡ Refusing cause) ↔ Cause write syntax formula cells text cause
   refused_exactly cause = (cause_of (stages table passing formula cells write text) cause, answer_of)
 
-  accepts_last : {meant : Term Name} {cells' : List ℕ} {expanded : Expanded} {made constructors text_size_lem : ℕ}
-      (means_within : MeansWithin syntax formula cells meant) → Finish write (cells_of means_within) meant cells' text expanded
-      → expanded.answer ≡ Accepted made constructors text_size_lem → Accepts write syntax formula cells text meant made constructors text_size_lem
+  accepts_last : {meant : Term Name} {cells' : List ℕ} (means_within : MeansWithin syntax formula cells meant) {expanded : Expanded}
+      {made constructors text_size : ℕ} → Finish write (cells_of means_within) meant cells' text expanded
+      → expanded.answer ≡ Accepted made constructors text_size → Accepts write syntax formula cells text meant made constructors text_size
   accepts_last means_within (is_refused j) e = never (sym e)
   accepts_last means_within (too_long p b) e = never (sym e)
   accepts_last means_within (prints p b) e =
       record { means = means_within; passes = p; fits = b; cells_are = (cc); size_is = (cc); length_is = (cc) }
 
-  accepts_of : {expanded : Expanded} {made constructors text_size_lem : ℕ} → Stage table passing formula cells write text expanded
-      → expanded.answer ≡ Accepted made constructors text_size_lem
-      → (meant : Term Name) × Accepts write syntax formula cells text meant made constructors text_size_lem
+  accepts_of : {expanded : Expanded} {made constructors text_size : ℕ} → Stage table passing formula cells write text expanded
+      → expanded.answer ≡ Accepted made constructors text_size
+      → (meant : Term Name) × Accepts write syntax formula cells text meant made constructors text_size
   accepts_of (in_scan u) e = never (sym e)
   accepts_of (in_parse S h k) e = never (sym e)
   accepts_of (at_last {core_term = u} E R f) e = (u, accepts_last E f e)
 
   -- A formula is accepted exactly if a term of it is, with these values.
-  pub accepted_exactly : (made constructors text_size_lem : ℕ) → (X.answer ≡ Accepted made constructors text_size_lem)
-      ↔ ((meant : Term Name) × Accepts write syntax formula cells text meant made constructors text_size_lem)
-  accepted_exactly made constructors text_size_lem = (
+  pub accepted_exactly : (made constructors text_size : ℕ) → (X.answer ≡ Accepted made constructors text_size)
+      ↔ ((meant : Term Name) × Accepts write syntax formula cells text meant made constructors text_size)
+  accepted_exactly made constructors text_size = (
     accepts_of (stages table passing formula cells write text),
     λ d.
         let A = d.1 in
@@ -144,17 +144,17 @@ module _ (write : Term Name → List ℕ) (table : Table) (passing : Passing tab
 
   -- ------------------------------------------------------------------ what is handed back
 
-  text_of : {expanded : Expanded} {made constructors text_size_lem : ℕ} → Stage table passing formula cells write text expanded
-      → expanded.answer ≡ Accepted made constructors text_size_lem → {meant : Term Name} → Means syntax formula meant
+  text_of : {expanded : Expanded} {made constructors text_size : ℕ} → Stage table passing formula cells write text expanded
+      → expanded.answer ≡ Accepted made constructors text_size → {meant : Term Name} → Means syntax formula meant
       → expanded.text ≡ write meant ++ drop (length (write meant)) text
   text_of (in_scan u) e M = never (sym e)
   text_of (in_parse S h k) e M = never (sym e)
   text_of (at_last E R f) e M = rw (means_one table passing formula M E.means) (text_printed f e)
 
   -- What is written of the term stands in the text of an acceptance, and what was lent behind it.
-  pub accepted_text : (made constructors text_size_lem : ℕ) → X.answer ≡ Accepted made constructors text_size_lem → {meant : Term Name} → Means syntax formula meant
+  pub accepted_text : (made constructors text_size : ℕ) → X.answer ≡ Accepted made constructors text_size → {meant : Term Name} → Means syntax formula meant
       → X.text ≡ write meant ++ drop (length (write meant)) text
-  accepted_text made constructors text_size_lem = text_of (stages table passing formula cells write text)
+  accepted_text made constructors text_size = text_of (stages table passing formula cells write text)
 
   finish_cells : {made : ℕ} {meant : Term Name} {cells' : List ℕ} {expanded : Expanded} → Finish write made meant cells' text expanded
       → expanded.cells ≡ cells'
@@ -163,25 +163,25 @@ module _ (write : Term Name → List ℕ) (table : Table) (passing : Passing tab
   finish_cells (prints p b) = refl
 
   finish_count : {made : ℕ} {meant : Term Name} {cells' : List ℕ} {expanded : Expanded} → Finish write made meant cells' text expanded
-      → (cells_made constructors text_size_lem : ℕ) → expanded.answer ≡ Accepted cells_made constructors text_size_lem → cells_made ≡ made
-  finish_count (is_refused j) cells_made constructors text_size_lem e = never (sym e)
-  finish_count (too_long p b) cells_made constructors text_size_lem e = never (sym e)
-  finish_count (prints p b) cells_made constructors text_size_lem e = cc
+      → (cells_made constructors text_size : ℕ) → expanded.answer ≡ Accepted cells_made constructors text_size → cells_made ≡ made
+  finish_count (is_refused j) cells_made constructors text_size e = never (sym e)
+  finish_count (too_long p b) cells_made constructors text_size e = never (sym e)
+  finish_count (prints p b) cells_made constructors text_size e = cc
 
   -- the cells of an acceptance show its term
-  cells_of_lem : {expanded : Expanded} → Stage table passing formula cells write text expanded → (cells_made constructors text_size_lem : ℕ)
-      → expanded.answer ≡ Accepted cells_made constructors text_size_lem → {meant : Term Name} (means : Means syntax formula meant)
+  cells_of_lem : {expanded : Expanded} → Stage table passing formula cells write text expanded → (cells_made constructors text_size : ℕ)
+      → expanded.answer ≡ Accepted cells_made constructors text_size → {meant : Term Name} (means : Means syntax formula meant)
       → ((row : ℕ) × (row < cells_made) × (term_at cells_made (spell_of syntax means.words) (take (cells_made * columns) expanded.cells) row ≡ meant))
       × ((other : ℕ) → other < cells_made → IsCode (column expanded.cells other 0))
-  cells_of_lem (in_scan u) cells_made constructors text_size_lem q means = never (sym q)
-  cells_of_lem (in_parse S h k) cells_made constructors text_size_lem q means = never (sym q)
-  cells_of_lem (at_last {row = v} {state = s} E R f) cells_made constructors text_size_lem q means =
+  cells_of_lem (in_scan u) cells_made constructors text_size q means = never (sym q)
+  cells_of_lem (in_parse S h k) cells_made constructors text_size q means = never (sym q)
+  cells_of_lem (at_last {row = v} {state = s} E R f) cells_made constructors text_size q means =
       let words = same_words table passing formula means.scans E.means.scans in
-      let made : cells_made ≡ s.made = finish_count f cells_made constructors text_size_lem q ∙ sym R.made_is in
+      let made : cells_made ≡ s.made = finish_count f cells_made constructors text_size q ∙ sym R.made_is in
       rw (words, made, finish_cells f) ((v, R.below, R.shown_by_made ∙ means_one table passing formula E.means means), R.coded)
 
   -- A row of the cells made by an acceptance shows the term, and each of them has the code of a constructor.
-  pub accepted_cells : (made constructors text_size_lem : ℕ) → X.answer ≡ Accepted made constructors text_size_lem
+  pub accepted_cells : (made constructors text_size : ℕ) → X.answer ≡ Accepted made constructors text_size
       → {meant : Term Name} (means : Means syntax formula meant)
       → ((row : ℕ) × (row < made) × (term_at made (spell_of syntax means.words) (take (made * columns) X.cells) row ≡ meant))
       × ((other : ℕ) → other < made → IsCode (column X.cells other 0))
@@ -189,13 +189,17 @@ module _ (write : Term Name → List ℕ) (table : Table) (passing : Passing tab
 
   -- ------------------------------------------------------------------ what is left as it was
 
+  text_last : {made : ℕ} {meant : Term Name} {cells' : List ℕ} {expanded : Expanded} → Finish write made meant cells' text expanded
+      → (cause : Refusal) → expanded.answer ≡ Refusing cause → expanded.text ≡ text
+  text_last (is_refused j) cause a = refl
+  text_last (too_long p b) cause a = refl
+  text_last (prints p b) cause a = never a
+
   text_left : {expanded : Expanded} → Stage table passing formula cells write text expanded → (cause : Refusal) → expanded.answer ≡ Refusing cause
       → expanded.text ≡ text
   text_left (in_scan u) cause a = refl
   text_left (in_parse S e h) cause a = refl
-  text_left (at_last E R (is_refused j)) cause a = refl
-  text_left (at_last E R (too_long p b)) cause a = refl
-  text_left (at_last E R (prints p b)) cause a = never a
+  text_left (at_last E R f) cause a = text_last f cause a
 
   -- A refusal leaves the text as it was.
   pub text_kept : (cause : Refusal) → X.answer ≡ Refusing cause → X.text ≡ text

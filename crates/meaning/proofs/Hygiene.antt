@@ -63,7 +63,7 @@ module _ (table : Table) (passing : Passing table) (formula cells text : List �
   abbrev EndsAs : Expanded → Type 0
   EndsAs x = Ends syntax formula cells text x.answer x.text
 
-  ends_last : {meant : Term Name} {cells' : List ℕ} {given_expanded : Expanded} (means_within : MeansWithin syntax formula cells meant)
+  ends_last : {meant : Term Name} {cells' : List ℕ} (means_within : MeansWithin syntax formula cells meant) {given_expanded : Expanded}
       → Finish text_of (cells_of means_within) meant cells' text given_expanded → EndsAs given_expanded
   ends_last means_within (is_refused j) = refuses (Meaning.is_judged means_within j)
   ends_last means_within (too_long p b) = refuses (Meaning.text_too_long means_within p b)

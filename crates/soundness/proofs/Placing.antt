@@ -190,10 +190,10 @@ Worded spell (number_at t) = Unit {0}
 Worded spell (outside_name n) = is_word (spell n) ≡ true
 Worded spell (outside_label n) = is_word (spell n) ≡ true
 
-module _ {tokens : List Token} {outside_count_lem : ℕ} {given : List Given} (spell : ℕ → List ℕ) (known : Each (Supplied tokens outside_count_lem) given)
+module _ {tokens : List Token} {outside_count : ℕ} {given : List Given} (spell : ℕ → List ℕ) (known : Each (Supplied tokens outside_count) given)
     (words : (token : Token) → Among tokens token → token.kind ≡ word_kind → is_word (spell token.value) ≡ true)
-    (outsides : (number : ℕ) → number < outside_count_lem → is_word (spell number) ≡ true) where
-  supplied_worded : {other : Given} → Supplied tokens outside_count_lem other → Worded spell other
+    (outsides : (number : ℕ) → number < outside_count → is_word (spell number) ≡ true) where
+  supplied_worded : {other : Given} → Supplied tokens outside_count other → Worded spell other
   supplied_worded (supplied_word h e) = words _ h e
   supplied_worded supplied_fresh = tt
   supplied_worded (supplied_number h e) = tt
