@@ -1,7 +1,6 @@
 -- What the check of sorts asks of a table before it: the ranges and counts that a table within the layout has, and texts no longer than a formula, none where a
 -- Unit is asked: no template has that sort.
 use Prim.Native.Nat.{ℕ, ◌<◌, ◌≤◌}
-use mathlib.Core.Path.{◌≡◌}
 use mathlib.Core.List.{List}
 use lib.ListN.{length}
 use Rattle.grammar.specs.Limits.{most}

@@ -1,6 +1,6 @@
 -- What stands before a block, as the sequence before it leaves it: the productions of its blocks fit its environment, so that texts can be read under them. And
 -- what a text is elaborated to has the sort that was asked.
-use Prim.Native.Nat.{ℕ, ◌+◌, ◌≤◌}
+use Prim.Native.Nat.{ℕ, ◌≤◌}
 use mathlib.Core.Path.{◌≡◌, refl, sym, ap, ◌∙◌, subst, subst⁻¹}
 use mathlib.Core.Bool.{Bool, true, false, true≢false, ◌&&◌}
 use mathlib.Core.List.{List, [], ◌∷◌, ◌++◌}
