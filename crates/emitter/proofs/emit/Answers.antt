@@ -21,7 +21,12 @@ emit_in-requires c =
 
 pub emit_large-requires : goal.emit_large-requires
 emit_large-requires c =
-    let some = some_cells c.args.cells.now c.args.root c.size_at-size.ensures (omega arith) in record { emittable = c.requires.emittable; sized = c.size_at-size.ensures; cells_nonzero = (some, omega arith); writable = c.requires.writable }
+    let some = some_cells c.args.cells.now c.args.root c.size_at-size.ensures (omega arith) in record {
+      emittable = c.requires.emittable;
+      sized = c.size_at-size.ensures;
+      cells_nonzero = (some, omega arith);
+      writable = c.requires.writable;
+    }
 
 pub emit_in-requires-2 : goal.emit_in-requires-2
 emit_in-requires-2 c =

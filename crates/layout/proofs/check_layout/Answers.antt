@@ -32,54 +32,22 @@ returns-in-Short c =
     ∙ laws.turn_cut c.loop-tag.invariant.0 c.if-table-gt-LONGEST_TABLE.false (sym c.in-Short.is ∙ c.front_at-front.ensures)
 
 pub overflow_add-from : goal.overflow_add-from
-overflow_add-from c =
-    let table : List ℕ = c.args.table.now in
-    let at : ℕ = c.loop-tag.at in
-    let tag : ℕ = c.in-Field.tag in
-    let size : ℕ = c.in-Field.size in
-    let stands : Field tag size ≡ front_of (drop at table) = sym c.in-Field.is ∙ c.front_at-front.ensures in
-    let inside : at + (3 + size) ≤ length table = front_inside table at stands in
-    omega (arith, inside)
+overflow_add-from c = omega (arith, front_inside c.args.table.now c.loop-tag.at (sym c.in-Field.is ∙ c.front_at-front.ensures))
 
 pub overflow_add-to : goal.overflow_add-to
-overflow_add-to c =
-    let table : List ℕ = c.args.table.now in
-    let at : ℕ = c.loop-tag.at in
-    let tag : ℕ = c.in-Field.tag in
-    let size : ℕ = c.in-Field.size in
-    let stands : Field tag size ≡ front_of (drop at table) = sym c.in-Field.is ∙ c.front_at-front.ensures in
-    let inside : at + (3 + size) ≤ length table = front_inside table at stands in
-    omega (arith, inside)
+overflow_add-to c = omega (arith, front_inside c.args.table.now c.loop-tag.at (sym c.in-Field.is ∙ c.front_at-front.ensures))
 
 pub slice_bounds-v-end : goal.slice_bounds-v-end
-slice_bounds-v-end c =
-    let table : List ℕ = c.args.table.now in
-    let at : ℕ = c.loop-tag.at in
-    let tag : ℕ = c.in-Field.tag in
-    let size : ℕ = c.in-Field.size in
-    let stands : Field tag size ≡ front_of (drop at table) = sym c.in-Field.is ∙ c.front_at-front.ensures in
-    let inside : at + (3 + size) ≤ length table = front_inside table at stands in
-    omega (arith, inside)
+slice_bounds-v-end c = omega (arith, front_inside c.args.table.now c.loop-tag.at (sym c.in-Field.is ∙ c.front_at-front.ensures))
 
 pub returns-in-Stopped : goal.returns-in-Stopped
 returns-in-Stopped c =
-    let table : List ℕ = c.args.table.now in
-    let at : ℕ = c.loop-tag.at in
-    let tag : ℕ = c.in-Field.tag in
-    let size : ℕ = c.in-Field.size in
-    let stands : Field tag size ≡ front_of (drop at table) = sym c.in-Field.is ∙ c.front_at-front.ensures in
+    let stands = sym c.in-Field.is ∙ c.front_at-front.ensures in
     laws.turn_stopped c.loop-tag.invariant.0 stands c.if-table-gt-LONGEST_TABLE.false
     (sym c.in-Stopped.is ∙ c.check_field-checked.ensures)
 
 pub loop-tag-smaller : goal.loop-tag-smaller
-loop-tag-smaller c =
-    let table : List ℕ = c.args.table.now in
-    let at : ℕ = c.loop-tag.at in
-    let tag : ℕ = c.in-Field.tag in
-    let size : ℕ = c.in-Field.size in
-    let stands : Field tag size ≡ front_of (drop at table) = sym c.in-Field.is ∙ c.front_at-front.ensures in
-    let inside : at + (3 + size) ≤ length table = front_inside table at stands in
-    omega (arith, inside)
+loop-tag-smaller c = omega (arith, front_inside c.args.table.now c.loop-tag.at (sym c.in-Field.is ∙ c.front_at-front.ensures))
 
 pub remember-requires : goal.remember-requires
 remember-requires c =
@@ -87,12 +55,12 @@ remember-requires c =
     let at : ℕ = c.loop-tag.at in
     let tag : ℕ = c.in-Field.tag in
     let size : ℕ = c.in-Field.size in
-    let stands : Field tag size ≡ front_of (drop at table) = sym c.in-Field.is ∙ c.front_at-front.ensures in
-    let inside : at + (3 + size) ≤ length table = front_inside table at stands in
+    let stands = sym c.in-Field.is ∙ c.front_at-front.ensures in
+    let inside = front_inside table at stands in
     let lent : List ℕ = take (at + 3 + size - (at + 3)) (drop (at + 3) table) in
     let place : at + 3 ≤ 65536 = omega (arith, inside) in
     let small : length lent ≤ 65536 = omega (arith, length-take (at + 3 + size - (at + 3)) (drop (at + 3) table), inside) in
-    let further : Further c.in-Further.t ≡ checking (check_field (fields_before table at) at tag lent c.loop-tag.s) = sym c.in-Further.is ∙ c.check_field-checked.ensures in
+    let further = sym c.in-Further.is ∙ c.check_field-checked.ensures in
     record {
       as_keyword =
           record {
@@ -112,13 +80,8 @@ remember-requires c =
 
 pub loop-tag-preserved : goal.loop-tag-preserved
 loop-tag-preserved c =
-    let table : List ℕ = c.args.table.now in
-    let at : ℕ = c.loop-tag.at in
-    let tag : ℕ = c.in-Field.tag in
-    let size : ℕ = c.in-Field.size in
-    let stands : Field tag size ≡ front_of (drop at table) = sym c.in-Field.is ∙ c.front_at-front.ensures in
-    let lent : List ℕ = take (at + 3 + size - (at + 3)) (drop (at + 3) table) in
-    let further : Further c.in-Further.t ≡ checking (check_field (fields_before table at) at tag lent c.loop-tag.s) = sym c.in-Further.is ∙ c.check_field-checked.ensures in
+    let stands = sym c.in-Field.is ∙ c.front_at-front.ensures in
+    let further = sym c.in-Further.is ∙ c.check_field-checked.ensures in
     let e = c.remember.ensures in (
       laws.turn_next c.loop-tag.invariant.0 stands further,
       remembered_next c.loop-tag.invariant.0 c.loop-tag.invariant.1 stands further e.keywords_are e.outsides_are,

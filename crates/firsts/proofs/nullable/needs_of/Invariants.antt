@@ -6,7 +6,8 @@ use Rattle.firsts.proofs.nullable.needs_of.Given as goal
 
 abbrev pub invariant-loop-j : goal.invariant-loop-j
 invariant-loop-j l =
-    laws.Holding l.table l.owners l.starts l.m l.initial.whose l.initial.needs l.k l.j l.whose l.needs × notes.Noting l.table l.owners l.starts l.m l.initial.kinds l.initial.calls l.j l.kinds l.calls
+    laws.Holding l.table l.owners l.starts l.m l.initial.whose l.initial.needs l.k l.j l.whose l.needs
+    × notes.Noting l.table l.owners l.starts l.m l.initial.kinds l.initial.calls l.j l.kinds l.calls
 
 abbrev pub decreases-loop-j : goal.decreases-loop-j
 decreases-loop-j l = l.m - l.j

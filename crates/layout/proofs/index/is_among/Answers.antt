@@ -24,8 +24,7 @@ loop-p-init c =
 
 pub returns-then-here : goal.returns-then-here
 returns-then-here c =
-    let here : (word : List ℕ) (link : ℕ) → SpellingHeld c.args.table.now c.args.room.now c.loop-p.p word link → c.is_entry-here.result ≡ same word c.args.v.now = λ word link e. c.is_entry-here.ensures word link e c.requires.hashed in
-    λ words x. laws.searching_found (c.loop-p.invariant.search words x) c.loop-p-test.true here c.if-here.true
+    λ words x. laws.searching_found (c.loop-p.invariant.search words x) c.loop-p-test.true (λ word link e. c.is_entry-here.ensures word link e c.requires.hashed) c.if-here.true
 
 pub overflow_mul-p : goal.overflow_mul-p
 overflow_mul-p c = omega arith
@@ -41,17 +40,17 @@ bounds-room-p c = omega arith
 
 pub loop-p-smaller : goal.loop-p-smaller
 loop-p-smaller c =
-    let falls : get_or c.args.room.now (60 + 4 * c.loop-p.p) 0 < c.loop-p.p = c.requires.falling.links c.loop-p.p c.loop-p-test.true c.loop-p.invariant.small in
+    let falls = c.requires.falling.links c.loop-p.p c.loop-p-test.true c.loop-p.invariant.small in
     omega (arith, falls)
 
 pub loop-p-preserved : goal.loop-p-preserved
 loop-p-preserved c =
-    let here : (word : List ℕ) (link : ℕ) → SpellingHeld c.args.table.now c.args.room.now c.loop-p.p word link → c.is_entry-here.result ≡ same word c.args.v.now = λ word link e. c.is_entry-here.ensures word link e c.requires.hashed in
-    let falls : get_or c.args.room.now (60 + 4 * c.loop-p.p) 0 < c.loop-p.p = c.requires.falling.links c.loop-p.p c.loop-p-test.true c.loop-p.invariant.small in
+    let falls = c.requires.falling.links c.loop-p.p c.loop-p-test.true c.loop-p.invariant.small in
     record {
       small = omega (arith, c.wide_number-p-in-loop-p.ensures, falls, c.loop-p.invariant.small);
       search =
-          λ words x. laws.searching_next (c.loop-p.invariant.search words x) c.loop-p-test.true here c.if-here.false c.wide_number-p-in-loop-p.ensures;
+          λ words x. laws.searching_next (c.loop-p.invariant.search words x) c.loop-p-test.true (λ word link e. c.is_entry-here.ensures word link e c.requires.hashed) c.if-here.false
+          c.wide_number-p-in-loop-p.ensures;
     }
 
 pub returns : goal.returns
