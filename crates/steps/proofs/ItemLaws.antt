@@ -1,13 +1,13 @@
 -- Laws of the items of an alternative and of its result.
 use Prim.Native.Nat.{ℕ, zero, suc, ◌+◌, ◌≤◌}
-use mathlib.Core.Path.{◌≡◌, refl, sym, ap, ◌∙◌, subst}
-use mathlib.Core.Bool.{Bool, true, false}
+use mathlib.Core.Path.{◌≡◌, refl, sym, ap, ◌∙◌}
+use mathlib.Core.Bool.{true, false}
 use mathlib.Core.List.{List, [], ◌∷◌, ◌++◌}
 use native.Mathlib.Omega.{arith}
 use lib.Dec.{eqb}
 use lib.ListN.{length, get_or}
 use Rattle.kinds.specs.Kinds.{only}
-use Rattle.grammar.specs.Table.{Template, Templates, keyword, ide, number, Item, terminal, local, call}
+use Rattle.grammar.specs.Table.{Templates, ide, number, Item, terminal}
 use Rattle.expansion.specs.declared.State.{State}
 use Rattle.expansion.specs.declared.Outcome.{Outcome}
 use Rattle.expansion.specs.declared.Outcome.TheVariants.{Value, Halted}
@@ -23,7 +23,7 @@ use Rattle.tokens.specs.Tokens.{end_token}
 use Rattle.templates.specs.Built.{built, Lists, Few, KeptBehind}
 use Rattle.steps.specs.Source.{Source, alternative_at}
 use Rattle.steps.specs.Steps.{body, tokens_lent, item_by, read_step, call_step, result_step, Spends, Stays}
-use Rattle.steps.specs.Steps.{ItemAt, Gives, Calls, Steps, KeepsArray, Onward, Advances}
+use Rattle.steps.specs.Steps.{ItemAt, Steps, KeepsArray, Advances}
 
 -- ------------------------------------------------------------------ an item by its kind and operand
 

@@ -1,7 +1,7 @@
 -- Laws of what stands at an offset of a source: an item, or a result.
 use Prim.Native.Nat.{ℕ, ◌+◌, ◌-◌, ◌<◌, ◌≤◌}
 use mathlib.Core.Path.{◌≡◌, refl, sym, ap, ap₂, subst, ◌∙◌}
-use mathlib.Core.Bool.{Bool, true, false, ◌&&◌, and-eq-true_iff}
+use mathlib.Core.Bool.{true, false, ◌&&◌, and-eq-true_iff}
 use mathlib.Core.Logic.{inl, inr}
 use mathlib.Core.List.{List, [], ◌∷◌, map}
 use native.Mathlib.Omega.{arith}
@@ -9,7 +9,7 @@ use native.Mathlib.Decide.{dec_lt}
 use lib.Dec.{eqb, leb}
 use lib.ListN.{length, get_or, take, drop, length-take, length-drop}
 use lib.Seq.{get_or-take, get_or-drop}
-use borrow.Author.Tests.{eq-eqb, ne_eqb, eqb-true, leb-true}
+use borrow.Author.Tests.{eq-eqb, ne_eqb, leb-true}
 use Rattle.grammar.specs.declared.Front.TheVariants.{Nothing, Short}
 use Rattle.grammar.specs.Table.{Template, none, more, Item}
 use Rattle.grammar.specs.Fields.{RawFields, end, cut, next}
@@ -18,7 +18,6 @@ use Rattle.grammar.proofs.LookupLaws.{front_nothing, front_short, front_cut, fro
 use Rattle.decoding.specs.Prefix.{ReadTemplates, fault, parsed, templates_of, is_templates, is_template, found}
 use Rattle.decoding.specs.Decode.{item_of}
 use Rattle.productions.specs.Index.{items_of, result_of, Place, places_of, production_at, productions_at}
-use Rattle.productions.specs.Normal.{Production}
 use Rattle.decoding.specs.Within.{Each, each_none, each_more}
 use Rattle.spellings.proofs.BytesLaws.{by_test}
 use Rattle.templates.specs.Built.{Ahead, template_at}

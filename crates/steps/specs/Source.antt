@@ -1,6 +1,6 @@
 -- What a run reads its productions from, and what stands at an offset of it. The contracts of the run speak of this and not of bytes. These
 -- definitions mirror code: nobody needs them to believe `expand`.
-use Rattle.std.specs.Prelude.{ℕ, ◌+◌, ◌*◌, ◌≤◌, ◌≡◌, Bool, true, false, ◌&&◌, ◌⊎◌, List, [], map, eqb, leb, length, get_or, drop}
+use Rattle.std.specs.Prelude.{ℕ, ◌+◌, ◌*◌, ◌≤◌, ◌≡◌, true, false, ◌&&◌, ◌⊎◌, List, [], map, eqb, leb, length, get_or, drop}
 use Rattle.grammar.specs.Table.{Template, variable, Alternative, Item}
 use Rattle.grammar.specs.Fields.{RawFields, end, cut, next}
 use Rattle.grammar.specs.Lookup.{fields_at}

@@ -5,7 +5,7 @@ use Rattle.answers.specs.declared.Refusal.{Refusal}
 use Rattle.answers.specs.Refusals.{refusal}
 use Rattle.grammar.specs.Limits.{most}
 use Rattle.terms.specs.Cells.{rows_lent}
-use Rattle.grammar.specs.Table.{Templates, none, keyword, ide, number, place, Item, terminal, local, call}
+use Rattle.grammar.specs.Table.{Templates, keyword, ide, number, place, Item, terminal, local, call}
 use Rattle.tokens.specs.declared.Token.{Token}
 use Rattle.scanner.specs.Rooms.{tokens_in, TokensFit}
 use Rattle.expansion.specs.declared.State.{State}
