@@ -1,0 +1,8 @@
+-- `expand_case`: the table and the formula are parts of the file.
+use borrow.Author.Rules.{rules}
+use Rattle.comparison.proofs.ComparingLaws.{expands}
+use Rattle.comparison.proofs.comparing.expand_case.Goals as goal
+
+pub returns : goal.returns
+returns c =
+    expands _ _ _ _ c.part_of.ensures c.part_of-2.ensures c.expand.ensures.text_after

@@ -1,0 +1,8 @@
+-- `answered`: the formula that is laid is the line's.
+use borrow.Author.Rules.{rules}
+use Rattle.listed.proofs.LentLaws as laws
+use Rattle.listed.proofs.answered.Goals as goal
+
+pub returns : goal.returns
+returns c =
+    laws.answered_by _ _ c.line_at-line.ensures c.lay_formula-m.ensures c.expanded.ensures
