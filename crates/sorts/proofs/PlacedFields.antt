@@ -11,7 +11,7 @@ use lib.Seq.{get_or-drop, drop-drop}
 use Rattle.spellings.proofs.BytesLaws.{by_test}
 use Rattle.grammar.specs.Table.{Item}
 use Rattle.grammar.specs.Written.{WrittenResult, template, text, result_field, WrittenAlternative}
-use Rattle.grammar.specs.Values.{Field, field, item_value}
+use Rattle.grammar.specs.Values.{Field, item_value}
 use Rattle.grammar.specs.Fields.{RawFields, end, cut, next, size_of, fields_from, fields_of}
 use Rattle.grammar.specs.Encode.{items_then, alternatives_then}
 use Rattle.decoding.proofs.Split.{spread}

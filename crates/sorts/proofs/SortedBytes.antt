@@ -10,7 +10,6 @@ use lib.Dec.{ltb}
 use lib.ListN.{length, get_or, drop, set, length-append, length-drop, length-set, replicate, length-replicate}
 use lib.Seq.{take_at, take-suc-set}
 use borrow.Author.Tests.{le-leb, lt-ltb}
-use Rattle.answers.specs.declared.Verdict.{Verdict}
 use Rattle.answers.specs.declared.Verdict.TheVariants.{Passed, Refused}
 use Rattle.answers.specs.Checked.{Checked, ok, bad, ◌>>=◌, ◌>>◌, verdict}
 use Rattle.grammar.specs.Sorts.{Signature}

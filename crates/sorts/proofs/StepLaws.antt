@@ -20,7 +20,6 @@ use Rattle.bodies.specs.declared.ItemSort.{ItemSort}
 use Rattle.bodies.specs.declared.ItemSort.TheVariants.{As, Unsorted}
 use Rattle.sorts.specs.declared.FieldStep.{FieldStep}
 use Rattle.sorts.specs.declared.FieldStep.TheVariants.{Next, Stop, Text}
-use Rattle.sorts.specs.declared.Finding.{Finding}
 use Rattle.sorts.specs.declared.Finding.TheVariants.{Judged, TextMet}
 use Rattle.bodies.specs.HeadBytes.{signature_at, collected, collect_at}
 use Rattle.bodies.specs.BodyBytes.{ParameterSorts, SortAdded, item_at, result_at}
