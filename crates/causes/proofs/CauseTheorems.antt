@@ -164,6 +164,7 @@ module _ (bs : List ℕ) (bytes : (place : ℕ) → get_or bs place 0 < 256) whe
   sort_number (Memᴰ.tail (Memᴰ.head e)) = omega (arith, e)
   sort_number (Memᴰ.tail (Memᴰ.tail (Memᴰ.head e))) = omega (arith, e)
   sort_number (Memᴰ.tail (Memᴰ.tail (Memᴰ.tail (Memᴰ.head e)))) = omega (arith, e)
+  sort_number (Memᴰ.tail (Memᴰ.tail (Memᴰ.tail (Memᴰ.tail x)))) = elim x [ ]
 
   unlaid_number : {cause : Refusal} → Unlaid bs cause → cause.number ≤ 11
   unlaid_number {cause} (by_layout m) = by (decode_answers bs)

@@ -31,7 +31,7 @@ use Rattle.judgements.proofs.TemplateSorts.{both, pair, fits_rule, rule_fits, so
 use Rattle.texts.specs.Reading.{TextRead}
 use Rattle.elaboration.specs.Contexts.{Before}
 use Rattle.elaboration.specs.CheckSequence.{check_result, check_root}
-use Rattle.elaboration.specs.Elaboration.{ResultSorted, by_template}
+use Rattle.elaboration.specs.Elaboration.{by_text, ResultSorted, by_template}
 use Rattle.causes.specs.Missorted.{Undefined, no_variable, no_name, no_label, in_argument, SomeUndefined, this_one, a_later_one}
 use Rattle.causes.specs.Missorted.{UndefinedItem, no_keyword, no_nonterminal, in_arguments, Part, head, item, result, root, Fails}
 use Rattle.causes.specs.Missorted as rules
@@ -66,10 +66,12 @@ module _ (G : Scope) (n : ℕ) where
     rule_open (outside_var x) (no_name h) = le-ltb x G.outsides h
     rule_open (outside_label x) (no_label h) = le-ltb x G.outsides h
     rule_open (make c ts) (in_argument h) = rule_opens ts h
+    rule_open Table.unit x = elim x [ ]
 
     rule_opens : (ts : Templates) → SomeUndefined G.outsides n ts → are_closed ts G n ≡ false
     rule_opens (more t ts) (this_one h) = rw (rule_open t h) refl
     rule_opens (more t ts) (a_later_one h) = rw (rule_opens ts h) (and-false (is_closed t G n))
+    rule_opens none x = elim x [ ]
 
 -- ------------------------------------------------------------------ items
 
@@ -124,6 +126,10 @@ module _ (G : Scope) (L : List ℕ) (at : ℕ) where
   sorted_defined (by_keyword h) (no_keyword l) = omega arith
   sorted_defined (by_call {n = n} d h) (no_nonterminal u) = true≢false (sym (newest_defined d) ∙ absent_undefined u)
   sorted_defined (by_call {n = n} {ts = ts} d h) (in_arguments s) = true≢false (sym (rule_fill G L ts h).0 ∙ rule_opens G (length L) ts s)
+  sorted_defined (by_ide _ _) x = elim x [ ]
+  sorted_defined by_number x = elim x [ ]
+  sorted_defined (by_place _) x = elim x [ ]
+  sorted_defined by_local x = elim x [ ]
 
   -- an item that fails is refused
   pub item_fails : {i : Item} {r : Refusal} → ItemWithin i → Fails at (item G L i) r → check_item G L at i ≡ bad r
@@ -164,6 +170,7 @@ module _ (G : Scope) (L : List ℕ) (at : ℕ) where
       → check_result G P L B used at r ≡ ok made
   result_passes w (by_template {t = t} s f) =
       let (closed, sorted, is) = rule_sorted G L t s in rw (closed, sorted, is, rule_fits f) refl
+  result_passes w (by_text _ _ _ _ _ r _) = elim w [ ]
 
   -- a result that fails is refused
   pub result_fails : {P : Before} {B used : ℕ} {result : WrittenResult} {r : Refusal} → ResultWithin result → Fails at (rules.result G P L B used result) r

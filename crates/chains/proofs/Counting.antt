@@ -38,7 +38,7 @@ still_all m each_none each_none = each_none
 still_all m (each_more a as') (each_more k ks) = each_more (still m k (λ e. a (ap (λ x. x.began) e) (ap (λ x. x.nonterminal) e))) (still_all m as' ks)
 
 -- calls that are apart, all of them members of a list, are no more than it has
-pub apart_few : {xs cs : List Call} → Apart cs → Each (Among xs) cs → length cs ≤ length xs
+pub apart_few : {cs xs : List Call} → Apart cs → Each (Among xs) cs → length cs ≤ length xs
 apart_few apart_none each_none = omega arith
 apart_few (apart_more a p) (each_more m ms) = omega (arith, apart_few p (still_all m a ms), without_length m)
 

@@ -77,8 +77,8 @@ module _ (text text' : List ℕ) where
         (columns_same (constructor (column text row 0)).params (λ q. row_template depth text q) (λ q. row_template depth' text' q) row 1
         (λ i h. same (row * columns + (i + 1)) (omega (arith, arity_few (column text row 0))))
         (λ i h part.
-        template_same depth depth' (parts i part) (λ spot b. same spot (omega (arith, before i part))) (omega (arith, before i part))
-        (omega (arith, before i part))))
+        template_same {row = argument_at text row i} depth depth' (parts i part) (λ spot b. same spot (omega (arith, before i part)))
+        (omega (arith, before i part)) (omega (arith, before i part))))
 
     -- They hang together too.
     pub hangs_same : {row : ℕ} → Hangs text count row → SameTo row → Hangs text' count row
