@@ -17,7 +17,7 @@ use Rattle.templates.proofs.VariableLaws.{holds_more}
 use Rattle.choices.specs.Chosen.{RemembersFor}
 use Rattle.steps.specs.declared.ItemStep.{ItemStep}
 use Rattle.steps.specs.declared.ItemStep.TheVariants.{Finished, Stopped, Taken, Opened}
-use Rattle.steps.specs.Source.{Source, alternative_at, GoesOn}
+use Rattle.steps.specs.Source.{Source, alternative_at}
 use Rattle.steps.specs.Steps.{body, weight, Steps, Onward, Advances, Stays}
 use Rattle.frames.specs.Frames.{frame_size, activation_in, most_waiting, LevelFits, CallFits, Saved, Loaded, Frame, resume, ahead, owed, Waits, Stacked}
 use Rattle.frames.specs.Frames.{stacked_none, stacked_one, Standing}
@@ -28,9 +28,8 @@ use Rattle.turns.specs.declared.Resumption.{Resumption}
 use Rattle.steps.specs.declared.Activation.{Activation}
 use Rattle.steps.specs.declared.Cursor.{Cursor}
 use Rattle.turns.specs.declared.Advance.{Advance}
-use Rattle.turns.specs.declared.Advance.TheVariants.{Paused}
 use Rattle.turns.specs.Begins.{Begins, CallBegunAt, CallEntered, chosen_call, EntersChosen, Starts}
-use Rattle.turns.specs.Turns.{cursor_at, going_on, moved, entered_at, resumption, Resumes, Values, Returns, Savable, Pushes, Pauses, call_weight, left}
+use Rattle.turns.specs.Turns.{cursor_at, going_on, moved, entered_at, Resumes, Values, Returns, Savable, Pushes, Pauses, call_weight, left}
 use Rattle.turns.specs.Turns.{Going, Calling}
 use Rattle.turns.specs.Turns.{Goes, TurnStands, Turns}
 use Rattle.turns.proofs.BeginLaws.{positive, entry_weight}

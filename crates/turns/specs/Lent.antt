@@ -1,5 +1,5 @@
 -- What is lent to a call. These definitions mirror code: nobody needs them to believe `expand`.
-use Rattle.std.specs.Prelude.{ℕ, ◌<◌, List}
+use Rattle.std.specs.Prelude.{ℕ, List}
 use Rattle.decoding.specs.Within.{Each}
 use Rattle.productions.specs.Index.{Place, places_of}
 use Rattle.expansion.specs.Expansion.{Input, ready_for}
