@@ -5,7 +5,6 @@ use mathlib.Core.Bool.{true, and-eq-true_iff}
 use mathlib.Core.List.{List, [], ◌∷◌, ◌++◌}
 use Rattle.spellings.specs.Bytes.{is_word}
 use Rattle.kinds.specs.Kinds.{word_kind}
-use Rattle.grammar.specs.Sorts as Sorts
 use Rattle.grammar.specs.Table.{Template, Templates, none, more, Item}
 use Rattle.grammar.specs.Table as Table
 use Rattle.decoding.specs.Within.{Each, each_none, each_more, Among, among_first, among_later}

@@ -23,7 +23,7 @@ use Rattle.productions.specs.Normal.{Production}
 use Rattle.terms.specs.Term.{Name, Term}
 use Rattle.terms.specs.Rows.{term_at}
 use Rattle.expansion.specs.declared.State.{State}
-use Rattle.expansion.specs.Run.{Result, done, halt, Run, after}
+use Rattle.expansion.specs.Run.{Result, done, halt, Run}
 use Rattle.expansion.specs.Expansion.{Input, ready, choice, next_token, token_taken, take_terminal, misfit, build_all, build}
 use Rattle.expansion.specs.TextTokens.{read_value}
 use Rattle.tokens.specs.Tokens.{end_token}

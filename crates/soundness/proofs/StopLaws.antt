@@ -17,7 +17,6 @@ use Rattle.grammar.specs.Table.{Template, Templates, none, more, Terminal, kind_
 use Rattle.grammar.specs.Table as Table
 use Rattle.decoding.specs.Within.{Each, each_more, ItemWithin, call_within}
 use Rattle.judgements.specs.Judgements.{ItemSorted, Body, by_binding}
-use Rattle.judgements.specs.Judgements as Judgements
 use Rattle.tokens.specs.declared.Token.{Token}
 use Rattle.productions.specs.Normal.{Production}
 use Rattle.firsts.specs.FirstSets.{nullables, first_sets}

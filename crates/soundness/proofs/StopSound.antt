@@ -21,7 +21,7 @@ use Rattle.productions.specs.Normal.{Production}
 use Rattle.firsts.specs.Rules.{reads}
 use Rattle.firsts.proofs.FirstsTheorems.{opens_exactly}
 use Rattle.expansion.specs.declared.State.{State}
-use Rattle.expansion.specs.Run.{Result, done, halt, after}
+use Rattle.expansion.specs.Run.{Result, done, halt}
 use Rattle.expansion.specs.Expansion.{Input, ready_for, ready, choice, next_token, token_taken, take_terminal, misfit, build_all, build, run_item, run_items}
 use Rattle.expansion.specs.TextTokens.{read_value}
 use Rattle.expansion.specs.Expansion.{call_begun, run_call, initial_state, ended, run}
