@@ -12,7 +12,6 @@ use Rattle.spellings.proofs.BytesLaws.{by_test}
 use Rattle.answers.specs.declared.Refusal.{Refusal}
 use Rattle.answers.specs.declared.Verdict.{Verdict}
 use Rattle.answers.specs.declared.Verdict.TheVariants.{Passed, Refused}
-use Rattle.answers.specs.Refusals.{refusal}
 use Rattle.answers.specs.Checked.{Checked, ok, bad, ◌>>=◌, ◌>>◌, verdict}
 use Rattle.grammar.specs.Table.{Table, Definition}
 use Rattle.grammar.specs.Written.{Written}

@@ -1,24 +1,24 @@
 -- The walk over the fields refuses exactly as the rules say.
 use Prim.Native.Nat.{ℕ, zero, suc, ◌+◌, ◌*◌, ◌/◌, ◌%◌, ◌≤◌, ◌<◌}
-use mathlib.Core.Path.{◌≡◌, refl, sym, ap, ◌∙◌, subst, subst⁻¹}
+use mathlib.Core.Path.{◌≡◌, refl, sym, ◌∙◌, subst, subst⁻¹}
 use mathlib.Core.Logic.{◌↔◌, ◌⊎◌, inl, inr}
-use mathlib.Core.Bool.{Bool, true, false, false≢true, true≢false}
+use mathlib.Core.Bool.{Bool, true, false, true≢false}
 use mathlib.Core.List.{List, [], ◌∷◌, ◌++◌}
 use native.Mathlib.Omega.{arith}
 use lib.Dec.{eqb, leb}
-use lib.ListN.{length, get_or, take, drop, length-append, length-drop, take-append-drop}
+use lib.ListN.{length, get_or, take, drop, length-append, take-append-drop}
 use lib.Seq.{drop-drop, take-append_seam, drop-append_seam, length-take-le}
-use borrow.Author.Tests.{le-leb, leb-true, leb-false, lt-leb, eqb-true, eqb-false, eq-eqb, ne_eqb}
+use borrow.Author.Tests.{le-leb, leb-true, leb-false, lt-leb, eqb-false, ne_eqb}
 use Rattle.answers.specs.declared.Refusal.{Refusal}
 use Rattle.answers.specs.Refusals.{refusal}
-use Rattle.answers.specs.Checked.{Checked, ok, bad, ◌>>=◌, ◌>>◌, need}
+use Rattle.answers.specs.Checked.{Checked, ok, bad, ◌>>◌, need}
 use Rattle.spellings.proofs.BytesLaws.{by_test}
 use Rattle.grammar.specs.Limits.{most}
 use Rattle.grammar.specs.Values.{Field, field}
 use Rattle.grammar.specs.Encode.{field_then}
-use Rattle.grammar.specs.Fields.{RawFields, end, cut, next, size_of, fields_from, fields_of}
+use Rattle.grammar.specs.Fields.{end, cut, next, size_of, fields_from, fields_of}
 use Rattle.decoding.specs.declared.Progress.{Progress}
-use Rattle.decoding.specs.Layout.{is_known, follows, is_spelled, has_room, is_whole, passed, check_field, check_fields, initial_progress, layout}
+use Rattle.decoding.specs.Layout.{is_known, follows, is_spelled, has_room, is_whole, passed, check_field, check_fields, layout}
 use Rattle.decoding.specs.Decode.{decode_fields, table_of, decode}
 use Rattle.decoding.specs.Within.{Among}
 use Rattle.decoding.proofs.Split.{Bytes, dropped_bytes}

@@ -19,12 +19,12 @@ use Rattle.grammar.specs.Table as Table
 use Rattle.grammar.specs.Table.{local, call}
 use Rattle.grammar.specs.Table.{Mode, add, extend, update}
 use Rattle.grammar.specs.Written.{WrittenResult, template, WrittenDefinition}
-use Rattle.decoding.specs.Within.{TemplatesWithin, keyword_within, ide_within, number_within, ItemWithin, terminal_within, local_within, call_within}
+use Rattle.decoding.specs.Within.{keyword_within, ide_within, number_within, ItemWithin, terminal_within, local_within, call_within}
 use Rattle.decoding.specs.Within.{ResultWithin, template_within}
 use Rattle.judgements.specs.Scopes.{Env, Scope}
 use Rattle.judgements.specs.CheckSorts.{is_defined, signature_of, same_signature, is_as_before, is_unused, consistent, is_closed, are_closed, sort_of, is_sorted, fill}
 use Rattle.judgements.specs.CheckSorts.{check_item}
-use Rattle.judgements.specs.Judgements.{Newest, Undeclared, Fits, Sorted, Fill, ItemSorted, by_keyword, by_ide, by_number, by_place, by_local, by_call}
+use Rattle.judgements.specs.Judgements.{Newest, Undeclared, Fits, Sorted, ItemSorted, by_keyword, by_ide, by_number, by_place, by_local, by_call}
 use Rattle.judgements.proofs.Environments.{defined_here, defined_later, defined_newest, newest_defined, newest_signature, undefined_absent}
 use Rattle.judgements.proofs.Environments.{absent_undefined, same_signature_lem, signature_same}
 use Rattle.judgements.proofs.TemplateSorts.{both, pair, fits_rule, rule_fits, sorted_rule, rule_sorted, fill_rule, rule_fill}

@@ -4,7 +4,7 @@ use mathlib.Core.Path.{◌≡◌, refl, sym, ap, ap₂, ◌∙◌, subst, subst�
 use mathlib.Core.Logic.{inl, inr}
 use mathlib.Core.List.{List, [], ◌∷◌, ◌++◌, append-nil, append_assoc}
 use native.Mathlib.Omega.{arith}
-use Rattle.answers.specs.Checked.{Checked, ok, bad, ◌>>=◌, ◌>>◌}
+use Rattle.answers.specs.Checked.{Checked, ok, bad, ◌>>=◌}
 use Rattle.grammar.specs.Sorts.{Signature}
 use Rattle.grammar.specs.Table.{Item, Alternative, Mode, add, extend, update, Definition}
 use Rattle.grammar.specs.Written.{WrittenResult, WrittenAlternative, WrittenDefinition, with_alternatives}
