@@ -1,13 +1,12 @@
 -- What an expansion leaves of the text, and expansions one after the other: they are told apart at any place.
 use Prim.Native.Nat.{ℕ, zero, suc, ◌+◌, ◌*◌, ◌≤◌, ◌<◌}
-use mathlib.Core.Path.{◌≡◌, refl, sym, ap, ◌∙◌}
+use mathlib.Core.Path.{◌≡◌, refl, ap, ◌∙◌}
 use mathlib.Core.List.{List, [], ◌∷◌, ◌++◌, append_assoc, append-nil}
 use native.Mathlib.Nat.{le_of_lt}
 use native.Mathlib.Omega.{arith}
 use lib.ListN.{length, get_or, take, drop, length-append, length-drop}
 use lib.Seq.{drop-append_seam, length-take-le, drop-drop, take-suc, split_at}
 use Rattle.answers.specs.declared.Refusal.{Refusal}
-use Rattle.answers.specs.declared.Answer.{Answer}
 use Rattle.answers.specs.declared.Verdict.TheVariants.{Refused}
 use Rattle.answers.specs.Checked.{Checked, ok, bad}
 use Rattle.tokens.specs.declared.Scanned.{Scanned}
@@ -23,7 +22,7 @@ use Rattle.terms.specs.Term.{Name, Term}
 use Rattle.terms.specs.Rows.{term_at}
 use Rattle.terms.specs.Emit.{text_of}
 use Rattle.meaning.specs.Expand.{Expanded, refused, finished, scanned, expand_table, checked_first, expand_by, expand}
-use Rattle.meaning.specs.Each.{formula_in, numbers_of, numbers_each, written, Series, alone, behind, expand_all}
+use Rattle.meaning.specs.Each.{formula_in, numbers_each, written, Series, alone, behind, expand_all}
 use Rattle.meaning.proofs.Stages.{expand_refused, Finish, is_refused, too_long, prints, finishes}
 
 -- ------------------------------------------------------------------ what one expansion leaves

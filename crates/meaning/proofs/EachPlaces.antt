@@ -1,9 +1,9 @@
 -- What the call for many formulas answers and leaves, place by place.
-use Prim.Native.Nat.{ℕ, suc, ◌+◌, ◌*◌, ◌/◌, ◌≤◌, ◌<◌, min}
-use mathlib.Core.Path.{◌≡◌, refl, sym, ap, ◌∙◌}
-use mathlib.Core.List.{List, [], ◌∷◌, ◌++◌, append_assoc}
+use Prim.Native.Nat.{ℕ, suc, ◌*◌, ◌/◌, ◌≤◌, ◌<◌, min}
+use mathlib.Core.Path.{◌≡◌, refl, ap, ◌∙◌}
+use mathlib.Core.List.{List, ◌∷◌, append_assoc}
 use native.Mathlib.Omega.{arith}
-use lib.ListN.{length, get_or, take, drop, length-append, length-take}
+use lib.ListN.{length, get_or, take, drop, length-take}
 use lib.Seq.{take_at, drop_at, take-take, get_or-take, length-take-le}
 use Rattle.answers.specs.declared.Refusal.{Refusal}
 use Rattle.answers.specs.declared.Answer.TheVariants.{Refusing}
@@ -13,7 +13,7 @@ use Rattle.terms.specs.Emit.{text_of}
 use Rattle.meaning.specs.Expand.{Expanded, expand}
 use Rattle.meaning.specs.Each.{numbers_of, numbers_each, written, Series, alone, behind, expand_all, ExpandedEach, expand_each}
 use Rattle.meaning.proofs.Stages.{expand_refused}
-use Rattle.meaning.proofs.EachLaws.{expand_keeps, all_append, numbers_length, all_keeps, all_refused, formula_at, before, here, at_place, next_place}
+use Rattle.meaning.proofs.EachLaws.{expand_keeps, numbers_length, all_keeps, all_refused, formula_at, before, here, at_place, next_place}
 use Rattle.meaning.proofs.Lent.{Alike, lent_alike}
 
 -- The first of some formulas leave what those before a place do, then what the one at the place does, then more.

@@ -1,15 +1,13 @@
 -- Demand 3: every expansion of a passed table ends in one of 14 to 24 or in a hygienic text.
-use Prim.Native.Nat.{ℕ, ◌+◌, ◌≤◌, ◌<◌}
+use Prim.Native.Nat.{ℕ, ◌+◌}
 use mathlib.Core.Path.{◌≡◌, refl, subst}
 use mathlib.Core.List.{List, [], ◌++◌}
 use native.Mathlib.Omega.{arith}
-use lib.ListN.{length, get_or, drop}
+use lib.ListN.{length, drop}
 use Rattle.answers.specs.declared.Answer.{Answer}
 use Rattle.answers.specs.declared.Answer.TheVariants.{Accepted}
-use Rattle.grammar.specs.Table.{Item, Table, Lexicon}
-use Rattle.tokens.specs.declared.Token.{Token}
+use Rattle.grammar.specs.Table.{Table}
 use Rattle.checker.specs.Syntax.{Syntax, syntax_of}
-use Rattle.checker.specs.Passes.{Passes}
 use Rattle.soundness.specs.Passing.{Passing, passing_of}
 use Rattle.soundness.proofs.Placing.{parses_placed}
 use Rattle.terms.specs.Term.{Name, Term}
