@@ -11,7 +11,6 @@ use Rattle.decoding.specs.Within.{Each, each_none, each_more, Among, ItemWithin}
 use Rattle.decoding.proofs.Spelled.{each_map}
 use Rattle.tokens.specs.declared.Token.{Token}
 use Rattle.productions.specs.Normal.{Production}
-use Rattle.firsts.specs.Rules.{Of}
 use Rattle.checker.specs.Passes.{grammar_of}
 use Rattle.terms.specs.Cells.{rows_lent}
 use Rattle.answers.specs.Refusals.{refusal}
@@ -23,7 +22,7 @@ use Rattle.elaboration.proofs.Normalizing.{each_at}
 use Rattle.soundness.proofs.Normalizing.{each_fits}
 use Rattle.chains.specs.Moments.{Moment, moments_of, Apart, apart_none, has_production, defined_in}
 use Rattle.chains.proofs.Counting.{few_calls, below_among, owner_defined}
-use Rattle.chains.proofs.Chains.{Since, Parted, outermost_parted}
+use Rattle.chains.proofs.Chains.{Parted, outermost_parted}
 use Rattle.chains.proofs.Deepest.{Deep, run_deep}
 
 module _ (table : Table) (passing : Passing table) (tokens : List Token) (cells : List ℕ) where

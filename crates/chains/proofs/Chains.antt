@@ -1,7 +1,7 @@
 -- At each moment the calls open that began at one token index are of different nonterminals: a call that began where the next call begins
 -- reaches it by left calls.
 use Prim.Native.Nat.{ℕ, zero, suc, ◌≤◌, ◌<◌}
-use mathlib.Core.Path.{◌≡◌, refl, sym, ap, subst, subst⁻¹, ◌∙◌}
+use mathlib.Core.Path.{◌≡◌, refl, sym, subst, subst⁻¹}
 use mathlib.Core.Bool.{Bool, true, false}
 use mathlib.Core.List.{List, [], ◌∷◌, ◌++◌}
 use native.Mathlib.Omega.{arith}
@@ -17,7 +17,7 @@ use Rattle.clashes.specs.Clashes.{Never, LeftRecursive}
 use Rattle.expansion.specs.declared.State.{State}
 use Rattle.expansion.specs.Run.{Result, done, halt, Run}
 use Rattle.expansion.specs.Limits.{most_calls}
-use Rattle.expansion.specs.Expansion.{Input, Rule, ready_for, Choice, unfit, chosen, choice, next_token, build_all, run_item, run_call, call_begun}
+use Rattle.expansion.specs.Expansion.{Input, Rule, ready_for, unfit, chosen, choice, next_token, build_all, run_item, run_call, call_begun}
 use Rattle.expansion.proofs.Choosing.{rule}
 use Rattle.elaboration.proofs.Normalizing.{each_append}
 use Rattle.soundness.proofs.StopLaws.{Stays, build_all_stays}

@@ -1,6 +1,6 @@
 -- An expansion that is refused with 19 came to a moment at which 1,024 calls were open.
 use Prim.Native.Nat.{ℕ, zero, suc, ◌+◌}
-use mathlib.Core.Path.{◌≡◌, refl, sym, ap, subst, ◌∙◌}
+use mathlib.Core.Path.{◌≡◌, refl, ap, subst, ◌∙◌}
 use mathlib.Core.Bool.{Bool, true, false}
 use mathlib.Core.List.{List, [], ◌∷◌, ◌++◌}
 use native.Mathlib.Omega.{arith}
@@ -14,7 +14,7 @@ use Rattle.decoding.specs.Within.{Among, among_first, among_later}
 use Rattle.expansion.specs.declared.State.{State}
 use Rattle.expansion.specs.Run.{Result, done, halt, Run, after}
 use Rattle.expansion.specs.Limits.{most_calls, most_open}
-use Rattle.expansion.specs.Expansion.{Input, Rule, Choice, unfit, chosen, choice, next_token, token_taken, take_token, misfit, build, build_all}
+use Rattle.expansion.specs.Expansion.{Input, Choice, unfit, chosen, choice, next_token, token_taken, take_token, misfit, build, build_all}
 use Rattle.expansion.specs.TextTokens.{read_value}
 use Rattle.expansion.proofs.AsBefore.{terminal_by}
 use Rattle.expansion.specs.Expansion.{run_item, run_items, call_begun, run_call, initial_state, ended, run}
