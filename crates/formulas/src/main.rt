@@ -5,6 +5,10 @@
 
 mod lines;
 
+ghost use Rattle.std.specs.Prelude.{OnOk, take};
+ghost use Rattle.std.specs.Io.KnownBytes.{Appends};
+ghost use Rattle.formulas.specs.Output.{formulas_output};
+
 use crate::lines::{OUT, lay_lines};
 use rooms::{TABLE, read_file, read_full};
 use std::io;
@@ -13,13 +17,17 @@ use std::io::Write;
 // The most bytes of lines.
 const MOST: usize = 262_144;
 
-// Hands the first bytes of the room to the library's write.
-fn write<W: Write>(to: &mut W, out: &[u8; OUT], size: usize) -> io::Result<()> {
+// Hands the first bytes of the room to an output.
+fn write<W: Write>(to: &mut W, out: &[u8; OUT], size: usize) -> io::Result<()>
+    ensures { OnOk result (Appends (W.contents to.old) (W.contents to.new) (take size out.now)) }
+{
     reports::print(to, out, size)
 }
 
 // Writes what is to be written for the lines of an input, as many at a time as the room has place for.
-fn tell<W: Write>(to: &mut W, table: &[u8], input: &[u8], out: &mut [u8; OUT]) -> io::Result<()> {
+fn tell<W: Write>(to: &mut W, table: &[u8], input: &[u8], out: &mut [u8; OUT]) -> io::Result<()>
+    ensures { OnOk result (Appends (W.contents to.old) (W.contents to.new) (formulas_output table.now input.now)) }
+{
     let mut from: usize = 0;
     while from < input.len() {
         let laid = lay_lines(table, input, from, out);

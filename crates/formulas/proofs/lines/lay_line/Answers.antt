@@ -11,8 +11,8 @@ pub returns : goal.returns
 returns c =
     let bytes : Bytes c.args.table.now = λ i. omega (arith, c.type_inv.table i) in
     let args = c.args in
-    let many : length args.cells.now ≡ 16384 = omega (arith, c.expand_checked-arg-1.given) in
-    let long : length args.text.now ≡ 65536 = omega (arith, c.expand_checked-arg-2-1.given) in
+    let many : length args.cells.now ≡ 16384 = search rules in
+    let long : length args.text.now ≡ 65536 = search rules in
     let e = c.expand_checked-answer.ensures in
     let same = line_told args.table.now bytes args.line.now args.cells.now args.text.now many long e in
     let left = line_text args.table.now args.line.now args.cells.now args.text.now e in record {
