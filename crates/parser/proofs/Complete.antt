@@ -1,7 +1,7 @@
 -- In a table whose layout is right each production is items and then a result: so it goes on where it begins.
-use Prim.Native.Nat.{ℕ, ◌+◌}
-use mathlib.Core.Path.{◌≡◌, refl, sym, ap, ◌∙◌, subst, subst⁻¹}
-use mathlib.Core.Bool.{Bool, true, false, ◌&&◌, ◌||◌, or-false, and-false, true≢false, and-eq-true_iff}
+use Prim.Native.Nat.{ℕ}
+use mathlib.Core.Path.{◌≡◌, refl, sym, ◌∙◌, subst⁻¹}
+use mathlib.Core.Bool.{true, false, or-false, and-false, true≢false, and-eq-true_iff}
 use mathlib.Core.Logic.{◌⊎◌, inl, inr}
 use mathlib.Core.List.{List, [], ◌∷◌}
 use native.Mathlib.Omega.{arith}
@@ -22,7 +22,7 @@ use Rattle.decoding.proofs.Accept.{Accepts, accepted}
 use Rattle.decoding.proofs.Inverse.{layout_parts}
 use Rattle.productions.specs.Index.{Place, places_by, places_of, whole_body, Whole}
 use Rattle.productions.proofs.Places.{Stands, stands, each_kept, each_snoc}
-use Rattle.steps.specs.Source.{Source, source, Complete, GoesOn}
+use Rattle.steps.specs.Source.{source, Complete, GoesOn}
 use Rattle.steps.proofs.SourceLaws.{goes_on}
 
 -- the field before is an alternative's beginning, or an item

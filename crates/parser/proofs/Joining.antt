@@ -19,7 +19,7 @@ use Rattle.lexicon.specs.LexiconRoom.{lexicon_by}
 use Rattle.productions.specs.Index.{Place, places_of, root_in}
 use Rattle.productions.specs.Room.{room_of, kinds_in}
 use Rattle.firsts.specs.Reach.{kinds_reached}
-use Rattle.firsts.specs.Room.{productions_in, table_room, table_room_for, HoldsGrammar}
+use Rattle.firsts.specs.Room.{productions_in, table_room_for, HoldsGrammar}
 use Rattle.tokens.specs.declared.Scanned.{Scanned}
 use Rattle.tokens.specs.declared.Scanned.TheVariants.{Tokens, Unscanned}
 use Rattle.scanner.specs.Rooms.{Filled, filled, scan_into, RoomFor}

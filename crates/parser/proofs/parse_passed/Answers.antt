@@ -1,0 +1,53 @@
+-- `parse_passed`: the scan refuses, or the tokens are run.
+use mathlib.Core.Path.{sym}
+use lib.Seq.{length-take-le}
+use native.Mathlib.Omega.{arith}
+use Rattle.decoding.proofs.Split.{Bytes}
+use Rattle.parser.proofs.Joining as joining
+use Rattle.parser.proofs.Cutting.{cut_fits}
+use Rattle.parser.proofs.parse_passed.Goals as goal
+
+pub scan-scanned-requires : goal.scan-scanned-requires
+scan-scanned-requires c =
+    let pre = c.requires in
+    record { short = omega (arith, pre.checked.ready.held.grammar.small); few = omega arith; room = pre.rooms }
+
+pub overflow_mul-end : goal.overflow_mul-end
+overflow_mul-end c =
+    let bytes : Bytes c.args.table.now = λ i. omega (arith, c.type_inv.table i) in
+    let fits = (joining.scan_fills bytes c.requires.checked.passes c.requires.checked.ready.held.grammar c.reached.ensures _ _ _
+    c.scan-scanned.ensures.fills c.requires.rooms c.in-Tokens.is).tokens_fit in
+    omega (arith, fits.few)
+
+pub slice_bounds-run_tokens-end : goal.slice_bounds-run_tokens-end
+slice_bounds-run_tokens-end c =
+    let bytes : Bytes c.args.table.now = λ i. omega (arith, c.type_inv.table i) in
+    let fits = (joining.scan_fills bytes c.requires.checked.passes c.requires.checked.ready.held.grammar c.reached.ensures _ _ _
+    c.scan-scanned.ensures.fills c.requires.rooms c.in-Tokens.is).tokens_fit in
+    omega (arith, fits.long)
+
+pub slice_bounds-run_tokens-end-in-Tokens : goal.slice_bounds-run_tokens-end-in-Tokens
+slice_bounds-run_tokens-end-in-Tokens c =
+    let bytes : Bytes c.args.table.now = λ i. omega (arith, c.type_inv.table i) in
+    let fits = (joining.scan_fills bytes c.requires.checked.passes c.requires.checked.ready.held.grammar c.reached.ensures _ _ _
+    c.scan-scanned.ensures.fills c.requires.rooms c.in-Tokens.is).tokens_fit in
+    sym (length-take-le _ _ fits.long)
+
+pub run_tokens-outcome-requires : goal.run_tokens-outcome-requires
+run_tokens-outcome-requires c =
+    let bytes : Bytes c.args.table.now = λ i. omega (arith, c.type_inv.table i) in
+    let fits = (joining.scan_fills bytes c.requires.checked.passes c.requires.checked.ready.held.grammar c.reached.ensures _ _ _
+    c.scan-scanned.ensures.fills c.requires.rooms c.in-Tokens.is).tokens_fit in
+    record { ready = c.requires.checked.ready; tokens_fit = cut_fits fits }
+
+pub returns-in-Unscanned : goal.returns-in-Unscanned
+returns-in-Unscanned c P =
+    let bytes : Bytes c.args.table.now = λ i. omega (arith, c.type_inv.table i) in
+    joining.stops_whole bytes P c.requires.checked.ready.held.grammar c.reached.ensures _ _ _
+    c.scan-scanned.ensures.fills _ c.in-Unscanned.is c.halted.ensures
+
+pub returns-in-Tokens : goal.returns-in-Tokens
+returns-in-Tokens c P =
+    let bytes : Bytes c.args.table.now = λ i. omega (arith, c.type_inv.table i) in
+    joining.runs_whole bytes P c.requires.checked.ready.held.grammar c.reached.ensures _ _ _ c.scan-scanned.ensures.fills
+    c.requires.rooms c.in-Tokens.is _ c.run_tokens-outcome.ensures
