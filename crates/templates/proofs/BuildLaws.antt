@@ -400,6 +400,25 @@ pub record Closing (whole : Whole) (turn : Turn) (code needed out : ℕ) (cells 
   -- where the arguments of the one around it begin
   pub out_is : out ≡ w / 256
 
+-- the same, where its number is read below its arguments
+pub closing_of : {whole : Whole} {turn : Turn} {needed out : ℕ} {cells : List ℕ} → Looping whole turn needed → needed ≤ turn.top - turn.pos
+    → turn.made < whole.m.rows
+    → cells ≡ sets turn.cells (turn.made * columns) (row_numbers (get_or turn.stack (turn.pos - 1) 0 % 256) (take needed (drop turn.pos turn.stack)))
+    → length cells ≡ length turn.cells
+    → out ≡ get_or turn.stack (turn.pos - 1) 0 / 256
+    → Closing whole turn (get_or turn.stack (turn.pos - 1) 0 % 256) needed out cells
+closing_of looping stop row stored same out_is =
+    record {
+      looping = looping;
+      w = _;
+      looked = record { number = refl; code_is = refl };
+      stop = stop;
+      row = row;
+      stored = stored;
+      same = same;
+      out_is = out_is;
+    }
+
 module _ {whole : Whole} {turn : Turn} {code needed out : ℕ} {cells : List ℕ} (closing : Closing whole turn code needed out cells) where
   abbrev b : Building whole turn
   b = closing.looping.building
