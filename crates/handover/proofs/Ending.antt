@@ -1,6 +1,6 @@
 -- How a parse ends: with the refusal of the expansion, or with a value and all that was known on the way to it.
 use Prim.Native.Nat.{ℕ}
-use mathlib.Core.Path.{◌≡◌, refl, sym, ap, subst}
+use mathlib.Core.Path.{◌≡◌, refl, sym, subst}
 use mathlib.Core.List.{List}
 use lib.Seq.{sets}
 use Rattle.answers.specs.declared.Refusal.{Refusal}

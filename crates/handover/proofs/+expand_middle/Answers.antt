@@ -1,0 +1,1 @@
+-- `expand_middle`: it is passed no empty formula, so that it never calls itself.
