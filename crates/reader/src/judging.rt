@@ -25,7 +25,7 @@ pub enum TextAnswer {
 }
 
 // What a text is read for: its nonterminal, the sort of that nonterminal, the sort that is asked of the result, and the kinds of the keywords that count.
-#[derive(Drop)]
+#[derive(Clone, Copy)]
 pub struct TextHead {
     pub nonterminal: u8,
     pub sort: u8,
