@@ -1,29 +1,27 @@
 -- What the two runs of a text's tokens come to.
-use Prim.Native.Nat.{ℕ, ◌≤◌}
-use mathlib.Core.Path.{◌≡◌, refl, sym, ap, ◌∙◌}
+use Prim.Native.Nat.{ℕ}
+use mathlib.Core.Path.{◌≡◌, sym, ap, ◌∙◌}
 use mathlib.Core.Bool.{Bool, true, false, not}
-use mathlib.Core.List.{List, map}
+use mathlib.Core.List.{List}
 use native.Mathlib.Omega.{arith}
 use Rattle.answers.specs.declared.Refusal.{Refusal}
 use Rattle.answers.specs.Checked.{Checked, ◌>>=◌, ◌>>◌, need}
-use Rattle.tokens.specs.declared.Token.{Token}
 use Rattle.expansion.specs.declared.State.{State}
 use Rattle.expansion.specs.declared.Outcome.{Outcome}
 use Rattle.expansion.specs.declared.Outcome.TheVariants.{Value, Halted}
-use Rattle.expansion.specs.Run.{Result, done, halt}
+use Rattle.expansion.specs.Run.{Result, done}
 use Rattle.expansion.specs.Outcomes.{ran}
 use Rattle.steps.specs.Source.{Source}
 use Rattle.steps.specs.Steps.{tokens_lent}
-use Rattle.texts.specs.Reading.{Readings, as_outside, has_number, reading_of, unread_because, read_else, TextRead}
+use Rattle.texts.specs.Reading.{Readings, has_number, reading_of, unread_because, read_else, TextRead}
 use Rattle.reader.specs.declared.judging.TextAnswer.{TextAnswer}
-use Rattle.reader.specs.declared.judging.TextAnswer.TheVariants.{Read, Refused}
+use Rattle.reader.specs.declared.judging.TextAnswer.TheVariants.{Refused}
 use Rattle.reader.specs.declared.judging.TextHead.{TextHead}
-use Rattle.reader.specs.declared.attempts.Attempt.{Attempt}
 use Rattle.reader.specs.declared.attempts.Attempt.TheVariants.{Answered, Unread}
 use Rattle.reader.specs.Words.{MadeOutside, zeroed}
-use Rattle.reader.specs.TextAnswers.{tested, ReadAs, Judges, because_of}
+use Rattle.reader.specs.TextAnswers.{tested, Judges, because_of}
 use Rattle.reader.specs.TextRuns.{run_tokens}
-use Rattle.reader.specs.TextReadings.{attempted, DoneWith, strict_run, Attempts, Explains}
+use Rattle.reader.specs.TextReadings.{strict_run, Attempts, Explains}
 
 -- the outcome that the code has is that of a run
 ran_as : {outcome outcome' : Outcome} (cells : List ℕ) (result : Result ℕ) → outcome ≡ outcome' → ran outcome cells ≡ result → ran outcome' cells ≡ result

@@ -1,25 +1,22 @@
 -- The reading of a text from its bytes: what scan and runs come to, under what is lent.
-use Prim.Native.Nat.{ℕ, ◌*◌, ◌≤◌}
+use Prim.Native.Nat.{ℕ, ◌*◌}
 use mathlib.Core.Path.{◌≡◌, refl, sym, ap, ap₂, ◌∙◌}
-use mathlib.Core.Bool.{Bool, true, false, not, ◌&&◌}
+use mathlib.Core.Bool.{true, false, not, ◌&&◌}
 use mathlib.Core.List.{List, map}
 use native.Mathlib.Omega.{arith}
 use lib.ListN.{length, take, replicate, length-replicate}
 use Rattle.answers.specs.declared.Refusal.{Refusal}
 use Rattle.answers.specs.Checked.{Checked, ◌>>=◌, ◌>>◌, need}
-use Rattle.grammar.specs.Limits.{most}
 use Rattle.grammar.specs.Table.{Lexicon}
-use Rattle.grammar.specs.Lookup.{lexicon_of}
 use Rattle.terms.specs.Cells.{columns, rows_lent}
 use Rattle.tokens.specs.declared.Token.{Token}
 use Rattle.tokens.specs.declared.Scanned.{Scanned}
 use Rattle.tokens.specs.declared.Scanned.TheVariants.{Tokens, Unscanned}
 use Rattle.tokens.specs.Scan.{Lexed, scan}
 use Rattle.lexicon.specs.LexiconRoom.{lexicon_by}
-use Rattle.scanner.specs.Rooms.{RoomFor, filled, scan_into}
+use Rattle.scanner.specs.Rooms.{filled}
 use Rattle.scanner.specs.Numbered.{Scans}
 use Rattle.scanner.proofs.AfterScan.{Holds, scan_holds, scan_refused}
-use Rattle.expansion.specs.Run.{Result}
 use Rattle.expansion.specs.Expansion.{Grammar, ready_for, run}
 use Rattle.steps.specs.Source.{Source, productions_from}
 use Rattle.steps.specs.Steps.{tokens_lent}
@@ -27,14 +24,13 @@ use Rattle.parser.proofs.Cutting.{cut_tokens}
 use Rattle.texts.specs.Reading.{TextContext, lexicon_for, ready_text, rows_left, as_outside, has_number, is_scanned, other_words, run_text, reading_of, unread_because}
 use Rattle.texts.specs.Reading.{read_else, TextRead, check_reading}
 use Rattle.reader.specs.declared.judging.TextAnswer.{TextAnswer}
-use Rattle.reader.specs.declared.judging.TextAnswer.TheVariants.{Read, Refused}
+use Rattle.reader.specs.declared.judging.TextAnswer.TheVariants.{Refused}
 use Rattle.reader.specs.declared.judging.TextHead.{TextHead}
-use Rattle.reader.specs.declared.attempts.Attempt.{Attempt}
 use Rattle.reader.specs.declared.attempts.Attempt.TheVariants.{Answered, Unread}
 use Rattle.reader.specs.Words.{zeroed}
-use Rattle.reader.specs.TextAnswers.{answered, tested}
+use Rattle.reader.specs.TextAnswers.{tested}
 use Rattle.reader.specs.TextRuns.{run_tokens}
-use Rattle.reader.specs.TextReadings.{check_tokens, attempted, DoneWith, strict_run, Attempts, Explains, ReadableIn, Under, lexed, ExplainsText, ReadsText}
+use Rattle.reader.specs.TextReadings.{check_tokens, strict_run, Attempts, Explains, ReadableIn, Under, lexed, ExplainsText, ReadsText}
 
 -- ------------------------------------------------------------------ what is lent
 

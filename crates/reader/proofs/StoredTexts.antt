@@ -1,6 +1,6 @@
 -- A text that is stored is held with the template that was read, and every earlier one stays.
-use Prim.Native.Nat.{ℕ, ◌+◌, ◌*◌, ◌/◌, ◌%◌, ◌<◌, ◌≤◌}
-use mathlib.Core.Path.{◌≡◌, refl, sym, ap, subst, ◌∙◌}
+use Prim.Native.Nat.{ℕ, ◌+◌, ◌*◌, ◌<◌, ◌≤◌}
+use mathlib.Core.Path.{◌≡◌, refl, sym, subst, ◌∙◌}
 use mathlib.Core.Bool.{true}
 use mathlib.Core.List.{List}
 use native.Mathlib.Decide.{dec_lt}
@@ -10,7 +10,6 @@ use lib.Seq.{get_or-drop, ext_get_or}
 use Rattle.grammar.specs.Variables.{most_variables}
 use Rattle.terms.specs.Cells.{columns, most_cells, rows_lent}
 use Rattle.tokens.specs.declared.Token.{Token}
-use Rattle.expansion.specs.Run.{done}
 use Rattle.copying.specs.RowTemplates.{text_template}
 use Rattle.copying.specs.Hanging.{is_row_at, HangsAt}
 use Rattle.rows.proofs.ListLaws.{zeros}

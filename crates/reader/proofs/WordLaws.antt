@@ -1,13 +1,13 @@
 -- Laws of a text's tokens in a room: a number among them, and words that are made outside names one by one; and of numbers that are zeroed.
 use Prim.Native.Nat.{ℕ, zero, suc, ◌+◌, ◌-◌, ◌*◌, ◌/◌, ◌<◌, ◌≤◌}
 use mathlib.Core.Path.{◌≡◌, refl, sym, ap, ◌∙◌}
-use mathlib.Core.Bool.{Bool, true, false}
-use mathlib.Core.List.{List, [], ◌∷◌, map}
+use mathlib.Core.Bool.{true, false}
+use mathlib.Core.List.{List, ◌∷◌, map}
 use native.Mathlib.Nat.{sub-zero}
 use native.Mathlib.Decide.{dec_lt}
 use native.Mathlib.Omega.{arith}
 use lib.Dec.{eqb}
-use lib.ListN.{length, get_or, set, replicate, length-set, length-replicate, get_or-replicate}
+use lib.ListN.{length, get_or, set, length-set, length-replicate, get_or-replicate}
 use lib.Seq.{get_or-set_same, get_or-set_other, ext_get_or}
 use borrow.Author.Tests.{eq-eqb, ne_eqb}
 use Rattle.spellings.proofs.BytesLaws.{by_test}
@@ -15,8 +15,8 @@ use Rattle.kinds.specs.Kinds.{word_kind, number_kind}
 use Rattle.kinds.specs.TextKinds.{outside_kind}
 use Rattle.tokens.specs.declared.Token.{Token}
 use Rattle.tokens.specs.Tokens.{token}
-use Rattle.scanner.specs.Rooms.{row_of, tokens_from, tokens_in, TokensFit}
-use Rattle.steps.specs.Steps.{token_count, tokens_lent, LentTokens}
+use Rattle.scanner.specs.Rooms.{row_of, tokens_from, tokens_in}
+use Rattle.steps.specs.Steps.{token_count}
 use Rattle.texts.specs.Reading.{as_outside, has_number}
 use Rattle.reader.specs.Words.{MadeOutside, zeroed}
 

@@ -6,7 +6,7 @@ use Rattle.grammar.specs.SortTests.{fits}
 use Rattle.expansion.specs.declared.State.{State}
 use Rattle.expansion.specs.Run.{done}
 use Rattle.copying.specs.RowTemplates.{text_template}
-use Rattle.texts.specs.Reading.{Reading, reading, reading_of, is_small, unread_because, TextRead}
+use Rattle.texts.specs.Reading.{Reading, reading_of, is_small, unread_because, TextRead}
 use Rattle.reader.specs.declared.judging.TextAnswer.{TextAnswer}
 use Rattle.reader.specs.declared.judging.TextAnswer.TheVariants.{Read, Refused}
 use Rattle.reader.specs.declared.judging.TextHead.{TextHead}

@@ -19,7 +19,7 @@ use Rattle.firsts.specs.Patterns.{patterns_in}
 use Rattle.texts.specs.Reading.{TextContext, lexicon_for, rows_left, as_outside, has_number, is_scanned, run_text, reading_of, unread_because, read_else}
 use Rattle.texts.specs.Reading.{TextRead, check_reading}
 use Rattle.reader.specs.declared.judging.TextAnswer.{TextAnswer}
-use Rattle.reader.specs.declared.judging.TextAnswer.TheVariants.{Read, Refused}
+use Rattle.reader.specs.declared.judging.TextAnswer.TheVariants.{Read}
 use Rattle.reader.specs.declared.judging.TextHead.{TextHead}
 use Rattle.reader.specs.declared.attempts.Attempt.{Attempt}
 use Rattle.reader.specs.declared.attempts.Attempt.TheVariants.{Answered, Unread}
