@@ -1,12 +1,12 @@
 -- The bytes of a table up to a block's field: their fields are those before it, so that they can be indexed where the table's fields are whole.
-use Prim.Native.Nat.{ℕ, suc, ◌+◌, ◌*◌, ◌-◌, ◌<◌, ◌≤◌}
+use Prim.Native.Nat.{ℕ, ◌+◌, ◌*◌, ◌-◌, ◌<◌, ◌≤◌}
 use mathlib.Core.Path.{◌≡◌, refl, sym, ap, ap₂, ◌∙◌}
 use mathlib.Core.Bool.{Bool, true, false}
 use mathlib.Core.List.{List}
 use native.Mathlib.Omega.{arith}
 use lib.Dec.{eqb, leb}
 use lib.ListN.{length, get_or, take, drop, length-take, length-drop, take-append-drop}
-use lib.Seq.{length-take-le, drop-append-le, take-append-le, get_or-take, get_or-drop}
+use lib.Seq.{drop-append-le, take-append-le, get_or-take, get_or-drop}
 use borrow.Author.Tests.{eq-eqb, ne_eqb}
 use Rattle.grammar.specs.Fields.{RawFields, end, cut, next, size_of, fields_of}
 use Rattle.grammar.specs.declared.Front.{Front}

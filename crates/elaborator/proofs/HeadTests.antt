@@ -9,7 +9,6 @@ use lib.ListN.{length, get_or}
 use borrow.Author.Tests.{lt-ltb, le-leb, lt-leb}
 use Rattle.tokens.specs.Variables.{dollars_below}
 use Rattle.bodies.specs.declared.Fault.TheVariants.{Undefined, WrongSort}
-use Rattle.bodies.specs.declared.ItemSort.{ItemSort}
 use Rattle.bodies.specs.declared.ItemSort.TheVariants.{As, Unsorted}
 use Rattle.bodies.specs.HeadBytes.{signature_at, head_before}
 use Rattle.bodies.proofs.TemplateInduction.{choose}

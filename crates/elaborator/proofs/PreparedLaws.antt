@@ -16,7 +16,7 @@ use Rattle.productions.proofs.IndexLaws.{length-places}
 use Rattle.firsts.specs.Needs.{NullablesNoted}
 use Rattle.firsts.specs.Patterns.{patterns_in}
 use Rattle.firsts.specs.Reach.{kinds_by, kinds_reached}
-use Rattle.firsts.specs.Room.{productions_in, table_room, table_room_for, HoldsFor, HoldsGrammar, WholeIndex}
+use Rattle.firsts.specs.Room.{productions_in, table_room, table_room_for, HoldsFor, WholeIndex}
 use Rattle.patterns.specs.TextRoom.{RoomAndIndex}
 use Rattle.clashes.specs.CheckCalls.{FirstsChecked}
 use Rattle.elaborator.specs.PreparedTexts.{Indexable, PreparedText, PreparableOnce}

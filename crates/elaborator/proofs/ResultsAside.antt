@@ -13,7 +13,7 @@ use Rattle.grammar.specs.Table.{variable, Item}
 use Rattle.productions.specs.Normal.{Production}
 use Rattle.firsts.specs.FirstSets.{rounds, over_all, all_nullable, null_step, nullables, opening_of, call_of, gather, first_step, sets_of, first_sets}
 use Rattle.firsts.specs.Mentions.{noted, notes}
-use Rattle.firsts.specs.Patterns.{place_bit, pattern_of, pattern_sets, patterns_in}
+use Rattle.firsts.specs.Patterns.{place_bit, pattern_of, patterns_in}
 use Rattle.firsts.specs.Reach.{kinds_reached}
 use Rattle.clashes.specs.Openings.{Openings, openings_of, lowest_of}
 use Rattle.clashes.specs.CheckFirsts.{lowest, left_recursive, shared_by, clash, any_with, any_pair, clashing, join_with, join_pairs, lowest_shared}

@@ -1,11 +1,11 @@
 -- The check of one field with a text from what the code finds: the tests of its head, the verdict of 12 and 13, and the reading.
 use Prim.Native.Nat.{ℕ, ◌*◌}
 use mathlib.Core.Path.{◌≡◌, refl, sym, ap, ◌∙◌}
-use mathlib.Core.Bool.{Bool, true, false, ◌&&◌}
+use mathlib.Core.Bool.{◌&&◌}
 use mathlib.Core.List.{List}
 use lib.Dec.{leb, ltb}
-use lib.ListN.{length, get_or, replicate}
-use Rattle.answers.specs.Checked.{Checked, ok, bad, ◌>>◌, need, verdict}
+use lib.ListN.{length, replicate}
+use Rattle.answers.specs.Checked.{Checked, ok, bad, ◌>>◌, verdict}
 use Rattle.answers.specs.declared.Verdict.{Verdict}
 use Rattle.answers.specs.declared.Verdict.TheVariants.{Passed}
 use Rattle.spellings.proofs.BytesLaws.{by_test}

@@ -1,19 +1,16 @@
 -- What is prepared by bytes is what the reading of a text asks for.
 use Prim.Native.Nat.{ℕ}
-use mathlib.Core.Path.{◌≡◌, refl, sym, ap, ap₂, ◌∙◌}
+use mathlib.Core.Path.{◌≡◌, refl, sym, ap, ◌∙◌}
 use mathlib.Core.List.{List, [], ◌∷◌, map}
-use lib.ListN.{length}
 use Rattle.grammar.proofs.LookupLaws.{few_outsides}
-use Rattle.productions.specs.Normal.{Production}
 use Rattle.productions.specs.Index.{Place, places_of, production_at, productions_at}
 use Rattle.firsts.specs.Patterns.{patterns_in}
 use Rattle.firsts.specs.Reach.{kinds_reached}
 use Rattle.firsts.specs.Room.{productions_in}
-use Rattle.steps.specs.Source.{Source, source_of, production_from, productions_from, alternative_at, SomeLent, EachLent}
+use Rattle.steps.specs.Source.{Source, production_from, productions_from, alternative_at, SomeLent, EachLent}
 use Rattle.calls.specs.Lent.{Ready}
 use Rattle.texts.specs.Reading.{TextContext}
 use Rattle.reader.specs.declared.judging.TextAnswer.{TextAnswer}
-use Rattle.reader.specs.declared.judging.TextHead.{TextHead}
 use Rattle.reader.specs.TextReadings.{Readable, Under, ReadsText}
 use Rattle.elaborator.specs.PreparedTexts.{Indexable}
 use Rattle.elaborator.specs.TextsUnder.{text_source, ReadableUnder, UnderBytes, ReadsUnder}
