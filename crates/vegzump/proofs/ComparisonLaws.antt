@@ -1,8 +1,7 @@
 -- How many comparisons two runs of bytes take, by their first difference (document 02, C-12).
 use Prim.Native.Nat.{ℕ, zero, suc, ◌+◌, ◌*◌, ◌/◌, ◌%◌, ◌<◌, ◌≤◌}
-use mathlib.Core.Path.{◌≡◌, refl, sym, ap, ◌∙◌}
+use mathlib.Core.Path.{◌≡◌, refl}
 use mathlib.Core.Logic.{◌⊎◌, inl, inr}
-use mathlib.Core.Bool.{true, false}
 use mathlib.Core.List.{List, [], ◌∷◌}
 use native.Mathlib.Omega.{arith}
 use lib.Dec.{eqb}
@@ -10,7 +9,6 @@ use lib.ListN.{length, get_or}
 use borrow.Author.Tests.{eqb-true, eqb-false}
 use Rattle.spellings.specs.Alike.{Bytes, Alike, FirstDifference}
 use Rattle.spellings.specs.Compared.{comparisons_of}
-use Rattle.spellings.specs.Eights.{eight_at}
 use Rattle.spellings.proofs.AlikeLaws.{alike_front, alike_eight}
 use Rattle.spellings.proofs.BytesLaws.{by_test}
 use Rattle.spellings.proofs.Comparing.{stop_eight, stop_tail}

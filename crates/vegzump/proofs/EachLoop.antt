@@ -1,27 +1,12 @@
 -- The loop over many formulas: a formula of the buffer, the numbers of an answer stored, and the invariant.
-use Prim.Native.Nat.{ℕ, suc, ◌+◌, ◌-◌, ◌*◌, ◌/◌, ◌≤◌, ◌<◌, min}
+use Prim.Native.Nat.{ℕ, ◌+◌, ◌-◌, ◌*◌, ◌/◌, ◌≤◌, ◌<◌, min}
 use mathlib.Core.Path.{◌≡◌, refl, sym, ap, ◌∙◌}
 use mathlib.Core.List.{List, [], ◌∷◌, ◌++◌, append_assoc, append-nil}
 use native.Mathlib.Decide.{dec_le}
 use native.Mathlib.Numerals.{add-one, add-two, add-three}
 use native.Mathlib.Omega.{arith}
 use lib.ListN.{length, get_or, set, take, drop, length-append, length-take, length-drop, take-append-drop, drop_of_length-le}
-use lib.Seq.{
-  take_all,
-  take-nil,
-  take_at,
-  drop_at,
-  take-take,
-  take-append-add,
-  drop-append-add,
-  drop-drop,
-  length-take-le,
-  drop-cons,
-  get_or-take,
-  sets,
-  length-sets,
-  sets-eq,
-}
+use lib.Seq.{take_all, take-nil, take_at, drop_at, take-append-add, drop-append-add, drop-drop, length-take-le, drop-cons, get_or-take, sets, length-sets, sets-eq}
 use borrow.Rule.Slice.PartMut.{put_mid, mid_of}
 use Rattle.answers.specs.declared.Refusal.{Refusal}
 use Rattle.answers.specs.declared.Answer.{Answer}
@@ -29,7 +14,7 @@ use Rattle.answers.specs.Refusals.{numbered}
 use Rattle.terms.specs.Emit.{text_of}
 use Rattle.meaning.specs.Expand.{Expanded, expanded, expand}
 use Rattle.meaning.specs.Each.{formula_in, numbers_of, numbers_each, written, Series, alone, behind, expand_all, expand_each}
-use Rattle.meaning.proofs.EachLaws.{Keeps, expand_keeps, all_cons, numbers_length}
+use Rattle.meaning.proofs.EachLaws.{Keeps, expand_keeps, all_cons}
 
 -- ------------------------------------------------------------------ the parts of a turn
 

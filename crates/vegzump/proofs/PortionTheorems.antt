@@ -2,7 +2,7 @@
 -- equation. What it answers, by rules: `Cause` and `Accepts` (meaning/specs/Meaning), as on the page of the demands; what it lists: `Portioned`
 -- (portions/specs/Portioned), which shares nothing with what computes the list.
 use Prim.Native.Nat.{ℕ, ◌<◌, ◌≤◌}
-use mathlib.Core.Path.{◌≡◌, ◌∙◌}
+use mathlib.Core.Path.{◌≡◌}
 use mathlib.Core.Logic.{◌↔◌}
 use mathlib.Core.List.{List, ◌++◌}
 use lib.ListN.{length, drop}

@@ -12,7 +12,6 @@ use Rattle.answers.specs.declared.Answer.{Answer}
 use Rattle.answers.specs.declared.Answer.TheVariants.{Refusing}
 use Rattle.answers.specs.Refusals.{refusal}
 use Rattle.portions.specs.Portions.{portions_of, most_portions, are_counts}
-use Rattle.portions.specs.Lists.{Counts}
 use Rattle.emitter.specs.declared.Writing.TheVariants.{Portions}
 use Rattle.emitter.specs.Writing.{Writable}
 use Rattle.handover.specs.Expands.{Expands}

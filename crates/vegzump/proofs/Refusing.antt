@@ -12,7 +12,7 @@ use Rattle.checker.specs.Check.{check}
 use Rattle.causes.specs.Unlaid.{RefusesTable, NotPassed}
 use Rattle.causes.proofs.CauseTheorems.{refused_exactly, refused_once}
 use Rattle.terms.specs.Term.{Name, Term}
-use Rattle.meaning.specs.Expand.{Expanded, expanded, refused, expand_by}
+use Rattle.meaning.specs.Expand.{Expanded, expanded, expand_by}
 use Rattle.meaning.proofs.Exactly.{not_passed}
 
 module _ (table : List ℕ) (bytes : (at : ℕ) → get_or table at 0 < 256) where

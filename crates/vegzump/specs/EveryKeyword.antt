@@ -1,7 +1,7 @@
 -- An expansion under which every keyword of a table counts, as in document 01. Document 02, C-13, holds the calls to it: "tables whose keywords are all
 -- reachable expand as before".
 use Rattle.std.specs.Prelude.{ℕ, true, false, List, []}
-use Rattle.answers.specs.Checked.{Checked, ok, bad, ◌>>=◌, ◌>>◌}
+use Rattle.answers.specs.Checked.{Checked, ok, ◌>>=◌, ◌>>◌}
 use Rattle.answers.specs.Refusals.{refusal}
 use Rattle.grammar.specs.Table.{Table, Lexicon}
 use Rattle.decoding.specs.Decode.{decode}
