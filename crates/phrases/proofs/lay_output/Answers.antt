@@ -1,6 +1,5 @@
 -- `lay_output`: the lines of the expansion, at the front of the room.
 use native.Mathlib.Omega.{arith}
-use borrow.Author.Rules.{rules}
 use Rattle.phrases.specs.Output.{lent_cells, lent_text}
 use Rattle.phrases.proofs.OutputLaws.{laid_output}
 use Rattle.phrases.proofs.lay_output.Goals as goal

@@ -1,5 +1,4 @@
 -- `lay_text`: the text of an acceptance, or nothing.
-use borrow.Author.Rules.{rules}
 use Rattle.rooms.proofs.LayingLaws.{lays_then}
 use Rattle.phrases.specs.Output.{text_line}
 use Rattle.phrases.proofs.lay_text.Goals as goal

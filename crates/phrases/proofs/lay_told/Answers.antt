@@ -1,5 +1,4 @@
 -- `lay_told`: the line of the answer, then the text.
-use borrow.Author.Rules.{rules}
 use Rattle.rooms.proofs.LayingLaws.{lays_then}
 use Rattle.phrases.proofs.OutputLaws.{told_short}
 use Rattle.phrases.proofs.lay_told.Goals as goal
