@@ -112,7 +112,13 @@ module _ (point : AtLoop) where
       }
 
   abbrev here : laws.Place
-  here = record { cells = point.loop-cells.cells; stack = point.loop-cells.stack; frames = point.loop-cells.frames; vars = point.loop-cells.vars; cursor = point.loop-cells.c }
+  here = record {
+    cells = point.loop-cells.cells;
+    stack = point.loop-cells.stack;
+    frames = point.loop-cells.frames;
+    vars = point.loop-cells.vars;
+    cursor = point.loop-cells.c;
+  }
 
   -- a source of what is lent
   abbrev source_with : (List Item → ℕ) → Source
@@ -373,7 +379,8 @@ item_step-step-requires c =
     }
 
 pub finish-outcome-requires : goal.finish-outcome-requires
-finish-outcome-requires c = let told_place = c.before.before.before.before in record { patterns = _; holds = finishing told_place (some (place (n-step told_place))) }
+finish-outcome-requires c = let told_place = c.before.before.before.before in record
+    { patterns = _; holds = finishing told_place (some (place (n-step told_place))) }
 
 pub returns-in_default : goal.returns-in_default
 returns-in_default c =

@@ -30,7 +30,11 @@ loop-j-smaller c =
     let tested = ap (λ (set : ℕ). opens_by c.args.placed set c.args.sort)
     (sym (laws.patterns_here held c.requires.1 (opens_sort c.args.placed c.args.sort) walking c.loop-j-test.true c.patterns.ensures))
     ∙ sym c.opens_by-fits.ensures ∙ c.if-fits.false in
-    omega (arith, (laws.walk-next held c.requires.1 (opens_sort c.args.placed c.args.sort) walking c.loop-j-test.true tested c.next_place-j.ensures).0, c.loop-j-test.true)
+    omega (
+      arith,
+      (laws.walk-next held c.requires.1 (opens_sort c.args.placed c.args.sort) walking c.loop-j-test.true tested c.next_place-j.ensures).0,
+      c.loop-j-test.true,
+    )
 
 pub loop-j-preserved : goal.loop-j-preserved
 loop-j-preserved c =

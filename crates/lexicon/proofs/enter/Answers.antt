@@ -23,4 +23,10 @@ link-requires c = (
 
 pub returns : goal.returns
 returns c =
-    let place = place_stored c.args.room.now (c.args.e * 2) c.args.from c.args.size in record { room_after = place; spelled = rw place (laws.enter_one _ _ _ _ c.settle-spot.result c.requires.0 c.part-s.ensures c.settle-spot.ensures c.link.ensures) }
+    let place = place_stored c.args.room.now (c.args.e * 2) c.args.from c.args.size in
+    record {
+      room_after = place;
+      spelled =
+          rw place
+          (laws.enter_one _ _ _ _ c.settle-spot.result c.requires.0 c.part-s.ensures c.settle-spot.ensures c.link.ensures);
+    }

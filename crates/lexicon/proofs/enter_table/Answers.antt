@@ -30,7 +30,8 @@ bounds-room-381 c = simp length-set (omega (arith, c.enter_leading-spellings.ens
 pub shape_of-room : goal.shape_of-room
 shape_of-room c =
     let asked = c.requires in
-    (laws.lexical _ asked.0 asked.1 c.enter_leading-keywords.ensures (c.mark_symbols.ensures.symbols, c.mark_symbols.ensures.same_places) c.after_leading-names.result
+    (laws.lexical _ asked.0 asked.1 c.enter_leading-keywords.ensures (c.mark_symbols.ensures.symbols, c.mark_symbols.ensures.same_places)
+    c.after_leading-names.result
     c.after_leading-names.ensures c.enter_leading-spellings.ensures
     ).long
     ∙ sym asked.0.long
@@ -38,5 +39,6 @@ shape_of-room c =
 pub returns : goal.returns
 returns c =
     let asked = c.requires in
-    laws.lexical _ asked.0 asked.1 c.enter_leading-keywords.ensures (c.mark_symbols.ensures.symbols, c.mark_symbols.ensures.same_places) c.after_leading-names.result
+    laws.lexical _ asked.0 asked.1 c.enter_leading-keywords.ensures (c.mark_symbols.ensures.symbols, c.mark_symbols.ensures.same_places)
+    c.after_leading-names.result
     c.after_leading-names.ensures c.enter_leading-spellings.ensures

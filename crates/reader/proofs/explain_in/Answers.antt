@@ -23,28 +23,32 @@ pub overflow_mul-end : goal.overflow_mul-end
 overflow_mul-end c =
     let bytes : (List Item → ℕ) → Source = λ patterns. source_of c.args.table.now c.args.texts.now patterns in
     let given : Source = bytes c.requires.patterns in
-    let fits : (many count : ℕ) → c.scan-scanned.result ≡ Tokens many count → TokensFit c.scan-scanned.new.tokens many = λ many count e. (laws.scanned_holds given _ _ c.args.head c.requires.holds c.scan-scanned.ensures e).tokens_fit in
+    let fits : (many count : ℕ) → c.scan-scanned.result ≡ Tokens many count → TokensFit c.scan-scanned.new.tokens many
+    = λ many count e. (laws.scanned_holds given _ _ c.args.head c.requires.holds c.scan-scanned.ensures e).tokens_fit in
     omega (arith, (fits _ _ c.in-Tokens.is).few)
 
 pub slice_bounds-explain-end : goal.slice_bounds-explain-end
 slice_bounds-explain-end c =
     let bytes : (List Item → ℕ) → Source = λ patterns. source_of c.args.table.now c.args.texts.now patterns in
     let given : Source = bytes c.requires.patterns in
-    let fits : (many count : ℕ) → c.scan-scanned.result ≡ Tokens many count → TokensFit c.scan-scanned.new.tokens many = λ many count e. (laws.scanned_holds given _ _ c.args.head c.requires.holds c.scan-scanned.ensures e).tokens_fit in
+    let fits : (many count : ℕ) → c.scan-scanned.result ≡ Tokens many count → TokensFit c.scan-scanned.new.tokens many
+    = λ many count e. (laws.scanned_holds given _ _ c.args.head c.requires.holds c.scan-scanned.ensures e).tokens_fit in
     omega (arith, (fits _ _ c.in-Tokens.is).long)
 
 pub slice_bounds-explain-end-in-Tokens : goal.slice_bounds-explain-end-in-Tokens
 slice_bounds-explain-end-in-Tokens c =
     let bytes : (List Item → ℕ) → Source = λ patterns. source_of c.args.table.now c.args.texts.now patterns in
     let given : Source = bytes c.requires.patterns in
-    let fits : (many count : ℕ) → c.scan-scanned.result ≡ Tokens many count → TokensFit c.scan-scanned.new.tokens many = λ many count e. (laws.scanned_holds given _ _ c.args.head c.requires.holds c.scan-scanned.ensures e).tokens_fit in
+    let fits : (many count : ℕ) → c.scan-scanned.result ≡ Tokens many count → TokensFit c.scan-scanned.new.tokens many
+    = λ many count e. (laws.scanned_holds given _ _ c.args.head c.requires.holds c.scan-scanned.ensures e).tokens_fit in
     sym (length-take-le _ _ (fits _ _ c.in-Tokens.is).long)
 
 pub explain-requires : goal.explain-requires
 explain-requires c =
     let bytes : (List Item → ℕ) → Source = λ patterns. source_of c.args.table.now c.args.texts.now patterns in
     let given : Source = bytes c.requires.patterns in
-    let fits : (many count : ℕ) → c.scan-scanned.result ≡ Tokens many count → TokensFit c.scan-scanned.new.tokens many = λ many count e. (laws.scanned_holds given _ _ c.args.head c.requires.holds c.scan-scanned.ensures e).tokens_fit in
+    let fits : (many count : ℕ) → c.scan-scanned.result ≡ Tokens many count → TokensFit c.scan-scanned.new.tokens many
+    = λ many count e. (laws.scanned_holds given _ _ c.args.head c.requires.holds c.scan-scanned.ensures e).tokens_fit in
     record {
       patterns = _;
       holds =

@@ -24,28 +24,32 @@ pub overflow_mul-end : goal.overflow_mul-end
 overflow_mul-end c =
     let bytes : (List Item → ℕ) → Source = λ patterns. source_of c.args.table.now c.args.texts.now patterns in
     let given : Source = bytes c.requires.patterns in
-    let fits : (many count : ℕ) → c.scan-scanned.result ≡ Tokens many count → TokensFit c.scan-scanned.new.tokens many = λ many count e. (laws.scanned_holds given _ _ c.args.head c.requires.holds c.scan-scanned.ensures e).tokens_fit in
+    let fits : (many count : ℕ) → c.scan-scanned.result ≡ Tokens many count → TokensFit c.scan-scanned.new.tokens many
+    = λ many count e. (laws.scanned_holds given _ _ c.args.head c.requires.holds c.scan-scanned.ensures e).tokens_fit in
     omega (arith, (fits _ _ c.in-Tokens.is).few)
 
 pub slice_bounds-read_tokens-end : goal.slice_bounds-read_tokens-end
 slice_bounds-read_tokens-end c =
     let bytes : (List Item → ℕ) → Source = λ patterns. source_of c.args.table.now c.args.texts.now patterns in
     let given : Source = bytes c.requires.patterns in
-    let fits : (many count : ℕ) → c.scan-scanned.result ≡ Tokens many count → TokensFit c.scan-scanned.new.tokens many = λ many count e. (laws.scanned_holds given _ _ c.args.head c.requires.holds c.scan-scanned.ensures e).tokens_fit in
+    let fits : (many count : ℕ) → c.scan-scanned.result ≡ Tokens many count → TokensFit c.scan-scanned.new.tokens many
+    = λ many count e. (laws.scanned_holds given _ _ c.args.head c.requires.holds c.scan-scanned.ensures e).tokens_fit in
     omega (arith, (fits _ _ c.in-Tokens.is).long)
 
 pub slice_bounds-read_tokens-end-in-Tokens : goal.slice_bounds-read_tokens-end-in-Tokens
 slice_bounds-read_tokens-end-in-Tokens c =
     let bytes : (List Item → ℕ) → Source = λ patterns. source_of c.args.table.now c.args.texts.now patterns in
     let given : Source = bytes c.requires.patterns in
-    let fits : (many count : ℕ) → c.scan-scanned.result ≡ Tokens many count → TokensFit c.scan-scanned.new.tokens many = λ many count e. (laws.scanned_holds given _ _ c.args.head c.requires.holds c.scan-scanned.ensures e).tokens_fit in
+    let fits : (many count : ℕ) → c.scan-scanned.result ≡ Tokens many count → TokensFit c.scan-scanned.new.tokens many
+    = λ many count e. (laws.scanned_holds given _ _ c.args.head c.requires.holds c.scan-scanned.ensures e).tokens_fit in
     sym (length-take-le _ _ (fits _ _ c.in-Tokens.is).long)
 
 pub read_tokens-attempt-requires : goal.read_tokens-attempt-requires
 read_tokens-attempt-requires c =
     let bytes : (List Item → ℕ) → Source = λ patterns. source_of c.args.table.now c.args.texts.now patterns in
     let given : Source = bytes c.requires.patterns in
-    let fits : (many count : ℕ) → c.scan-scanned.result ≡ Tokens many count → TokensFit c.scan-scanned.new.tokens many = λ many count e. (laws.scanned_holds given _ _ c.args.head c.requires.holds c.scan-scanned.ensures e).tokens_fit in
+    let fits : (many count : ℕ) → c.scan-scanned.result ≡ Tokens many count → TokensFit c.scan-scanned.new.tokens many
+    = λ many count e. (laws.scanned_holds given _ _ c.args.head c.requires.holds c.scan-scanned.ensures e).tokens_fit in
     record {
       patterns = _;
       holds =

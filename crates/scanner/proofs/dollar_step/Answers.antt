@@ -5,7 +5,8 @@ use Rattle.scanner.proofs.dollar_step.Goals as goal
 
 pub bounds-room-n : goal.bounds-room-n
 bounds-room-n c =
-    let here : let args = c.args in laws.VariableHere args.table.now args.room.now args.formula.now args.at c.in-Named.n c.in-Named.size = laws.variable_here c.requires.lexical_in.0 c.args.formula.now c.args.at c.wide_number-count.ensures
+    let here : let args = c.args in laws.VariableHere args.table.now args.room.now args.formula.now args.at c.in-Named.n c.in-Named.size = laws.variable_here
+    c.requires.lexical_in.0 c.args.formula.now c.args.at c.wide_number-count.ensures
     c.variable_at-variable.ensures
     c.in-Named.is
     c.requires.at_in_bounds.0 in
@@ -13,7 +14,8 @@ bounds-room-n c =
 
 pub overflow_add-result : goal.overflow_add-result
 overflow_add-result c =
-    let here : let args = c.args in laws.VariableHere args.table.now args.room.now args.formula.now args.at c.in-Named.n c.in-Named.size = laws.variable_here c.requires.lexical_in.0 c.args.formula.now c.args.at c.wide_number-count.ensures
+    let here : let args = c.args in laws.VariableHere args.table.now args.room.now args.formula.now args.at c.in-Named.n c.in-Named.size = laws.variable_here
+    c.requires.lexical_in.0 c.args.formula.now c.args.at c.wide_number-count.ensures
     c.variable_at-variable.ensures
     c.in-Named.is
     c.requires.at_in_bounds.0 in
@@ -21,7 +23,8 @@ overflow_add-result c =
 
 pub overflow_cast-result-in-Named : goal.overflow_cast-result-in-Named
 overflow_cast-result-in-Named c =
-    let here : let args = c.args in laws.VariableHere args.table.now args.room.now args.formula.now args.at c.in-Named.n c.in-Named.size = laws.variable_here c.requires.lexical_in.0 c.args.formula.now c.args.at c.wide_number-count.ensures
+    let here : let args = c.args in laws.VariableHere args.table.now args.room.now args.formula.now args.at c.in-Named.n c.in-Named.size = laws.variable_here
+    c.requires.lexical_in.0 c.args.formula.now c.args.at c.wide_number-count.ensures
     c.variable_at-variable.ensures
     c.in-Named.is
     c.requires.at_in_bounds.0 in
@@ -29,7 +32,8 @@ overflow_cast-result-in-Named c =
 
 pub overflow_add-result-in-Named : goal.overflow_add-result-in-Named
 overflow_add-result-in-Named c =
-    let here : let args = c.args in laws.VariableHere args.table.now args.room.now args.formula.now args.at c.in-Named.n c.in-Named.size = laws.variable_here c.requires.lexical_in.0 c.args.formula.now c.args.at c.wide_number-count.ensures
+    let here : let args = c.args in laws.VariableHere args.table.now args.room.now args.formula.now args.at c.in-Named.n c.in-Named.size = laws.variable_here
+    c.requires.lexical_in.0 c.args.formula.now c.args.at c.wide_number-count.ensures
     c.variable_at-variable.ensures
     c.in-Named.is
     c.requires.at_in_bounds.0 in
@@ -44,7 +48,8 @@ symbol_step-requires c = (
 
 pub returns-in-Named : goal.returns-in-Named
 returns-in-Named c =
-    let here : let args = c.args in laws.VariableHere args.table.now args.room.now args.formula.now args.at c.in-Named.n c.in-Named.size = laws.variable_here c.requires.lexical_in.0 c.args.formula.now c.args.at c.wide_number-count.ensures
+    let here : let args = c.args in laws.VariableHere args.table.now args.room.now args.formula.now args.at c.in-Named.n c.in-Named.size = laws.variable_here
+    c.requires.lexical_in.0 c.args.formula.now c.args.at c.wide_number-count.ensures
     c.variable_at-variable.ensures
     c.in-Named.is
     c.requires.at_in_bounds.0 in

@@ -35,7 +35,8 @@ pub check_field-step-requires : goal.check_field-step-requires
 check_field-step-requires c =
     let table : List ℕ = c.args.table.now in
     let lies : Lies table c.loop-at.at c.field_at-field.result = field_lies table c.loop-at.at c.field_at-field.ensures in
-    let ready : FieldReady c.loop-at.known table (value_in table c.field_at-field.result) c.loop-at.sorts c.loop-at.stack = let field = c.field_at-field.result in
+    let ready : FieldReady c.loop-at.known table (value_in table c.field_at-field.result) c.loop-at.sorts c.loop-at.stack
+    = let field = c.field_at-field.result in
     let few = length-take (field.to - field.from) (drop field.from table) in
     record {
       short = c.requires.0;

@@ -83,11 +83,13 @@ returns-then-kind-eq-CALL_ITEM c =
     record {
       does =
           λ I M reads g.
-          laws.call_stepped _ _ _ (sources.item_at there c.value_size.ensures c.if-table-at-ne-ITEM_TAG.false) c.if-kind-eq-CALL_ITEM.true I M state c.args.cells.now c.build_arguments-listed.result
+          laws.call_stepped _ _ _ (sources.item_at there c.value_size.ensures c.if-table-at-ne-ITEM_TAG.false) c.if-kind-eq-CALL_ITEM.true I M state
+          c.args.cells.now c.build_arguments-listed.result
           c.build_arguments-listed.new.out c.build_arguments-listed.new.cells
           (c.build_arguments-listed.ensures.lists I state M reads.rows_are g);
       advances =
-          laws.call_advances (sources.item_at there c.value_size.ensures c.if-table-at-ne-ITEM_TAG.false) state c.build_arguments-listed.result _ c.build_arguments-listed.ensures.few
+          laws.call_advances (sources.item_at there c.value_size.ensures c.if-table-at-ne-ITEM_TAG.false) state c.build_arguments-listed.result _
+          c.build_arguments-listed.ensures.few
           (omega (arith, as_long, inside));
       keeps = laws.call_keeps c.build_arguments-listed.result _ _ state _ c.build_arguments-listed.new.out c.build_arguments-listed.ensures.kept;
     })
@@ -102,6 +104,7 @@ returns c =
           λ I M reads g.
           laws.read_stepped (sources.item_at there c.value_size.ensures c.if-table-at-ne-ITEM_TAG.false) I M state c.args.cells.now c.read_item.result
           (λ C. c.read_item.ensures.reads C I _ M c.args.cells.now reads.tokens_are) _;
-      advances = laws.read_advances (sources.item_at there c.value_size.ensures c.if-table-at-ne-ITEM_TAG.false) state c.read_item.result c.read_item.ensures.spends;
+      advances = laws.read_advances (sources.item_at there c.value_size.ensures c.if-table-at-ne-ITEM_TAG.false) state c.read_item.result
+          c.read_item.ensures.spends;
       keeps = laws.read_keeps c.read_item.result _ _;
     })

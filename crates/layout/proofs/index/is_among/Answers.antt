@@ -24,7 +24,8 @@ loop-p-init c =
 
 pub returns-then-here : goal.returns-then-here
 returns-then-here c =
-    λ words x. laws.searching_found (c.loop-p.invariant.search words x) c.loop-p-test.true (λ word link e. c.is_entry-here.ensures word link e c.requires.hashed) c.if-here.true
+    λ words x. laws.searching_found (c.loop-p.invariant.search words x) c.loop-p-test.true
+    (λ word link e. c.is_entry-here.ensures word link e c.requires.hashed) c.if-here.true
 
 pub overflow_mul-p : goal.overflow_mul-p
 overflow_mul-p c = omega arith
@@ -49,7 +50,8 @@ loop-p-preserved c =
     record {
       small = omega (arith, c.wide_number-p-in-loop-p.ensures, falls, c.loop-p.invariant.small);
       search =
-          λ words x. laws.searching_next (c.loop-p.invariant.search words x) c.loop-p-test.true (λ word link e. c.is_entry-here.ensures word link e c.requires.hashed) c.if-here.false
+          λ words x. laws.searching_next (c.loop-p.invariant.search words x) c.loop-p-test.true
+          (λ word link e. c.is_entry-here.ensures word link e c.requires.hashed) c.if-here.false
           c.wide_number-p-in-loop-p.ensures;
     }
 

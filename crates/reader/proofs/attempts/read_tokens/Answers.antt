@@ -9,7 +9,8 @@ returns-then-number c = λ patterns ready. search laws.attempt_number
 
 pub run_text-outcome-requires : goal.run_text-outcome-requires
 run_text-outcome-requires c =
-    let runnable : RunnableText c.args.room.now c.as_outside.new.tokens (source_of c.args.table.now c.args.texts.now c.requires.patterns) = record { ready = c.requires.holds.ready; tokens_fit = c.as_outside.ensures.fit c.requires.holds.tokens_fit } in
+    let runnable : RunnableText c.args.room.now c.as_outside.new.tokens (source_of c.args.table.now c.args.texts.now c.requires.patterns)
+    = record { ready = c.requires.holds.ready; tokens_fit = c.as_outside.ensures.fit c.requires.holds.tokens_fit } in
     record { patterns = _; holds = runnable }
 
 pub judge-requires : goal.judge-requires

@@ -13,7 +13,8 @@ pub returns-then-calls-ge-MOST_CALLS : goal.returns-then-calls-ge-MOST_CALLS
 returns-then-calls-ge-MOST_CALLS c =
     let tokens = c.args.tokens.now in
     record {
-      starts = λ S rows h m. laws.starts_spent h tokens rows _ _ _ _ c.if-depth-eq0.false m c.if-calls-ge-MOST_CALLS.true c.refuse-then-calls-ge-MOST_CALLS.ensures;
+      starts = λ S rows h m. laws.starts_spent h tokens rows _ _ _ _ c.if-depth-eq0.false m c.if-calls-ge-MOST_CALLS.true
+          c.refuse-then-calls-ge-MOST_CALLS.ensures;
     }
 
 pub returns-then-place-lt-NO_PLACE : goal.returns-then-place-lt-NO_PLACE
