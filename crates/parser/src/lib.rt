@@ -36,6 +36,7 @@ fn halted(r: Refusal) -> Parsed
 
 // The run of tokens with a room for the templates of a table of up to 4,096 bytes. It calls itself on what it is never passed, an empty table: the
 // back end lays no such function into its caller, whose frame stays without this room.
+#[inline(never)]
 fn run_middle(cells: &mut [u32], table: &[u8], room: &[u64; ROOM], tokens: &[u32]) -> Outcome
     requires { RunnableWithin 4096 table.now room.now tokens.now }
     ensures { ran result cells.new ≡ run_in table.now tokens.now cells.old }
@@ -51,6 +52,7 @@ fn run_middle(cells: &mut [u32], table: &[u8], room: &[u64; ROOM], tokens: &[u32
 }
 
 // The same with a room for the templates of every table.
+#[inline(never)]
 fn run_long(cells: &mut [u32], table: &[u8], room: &[u64; ROOM], tokens: &[u32]) -> Outcome
     requires { RunnableWithin most.bytes table.now room.now tokens.now }
     ensures { ran result cells.new ≡ run_in table.now tokens.now cells.old }

@@ -101,6 +101,7 @@ fn print_into(
 
 // The text by the spellings of up to 256 words. It calls itself on what it is never passed, an empty room of words: the back end lays no such function
 // into its caller, whose frame stays without this room.
+#[inline(never)]
 fn print_middle(
     table: &[u8],
     formula: &[u8],
@@ -131,6 +132,7 @@ fn print_middle(
 }
 
 // The same by the spellings of any number of words.
+#[inline(never)]
 fn print_many(
     table: &[u8],
     formula: &[u8],

@@ -396,6 +396,7 @@ fn scan_with(
 
 // The scan of a formula of up to 512 bytes, with a room for the links of its words. It calls itself on what it is never passed, an empty formula: the back end
 // lays no such function into its caller, whose frame stays without this room.
+#[inline(never)]
 fn scan_middle(
     table: &[u8],
     kinds: u64,
@@ -426,6 +427,7 @@ fn scan_middle(
 }
 
 // The same of a formula of any size that is not refused for it.
+#[inline(never)]
 fn scan_long(
     table: &[u8],
     kinds: u64,

@@ -209,6 +209,7 @@ const LARGE_STACK: usize = 2 * LONGEST_TABLE + 8;
 
 // The sorts of a table of middle size. The room for its places is in no frame but this function's: one that calls itself is never laid into
 // its caller, and this one does so on an empty table, which it is not passed.
+#[inline(never)]
 fn check_middle(table: &[u8]) -> Finding
     requires { Lengthy table.now middle_table }
     ensures { result ≡ sorts_of table.now }
@@ -224,6 +225,7 @@ fn check_middle(table: &[u8]) -> Finding
 }
 
 // The same with a room for the places of every table.
+#[inline(never)]
 fn check_large(table: &[u8]) -> Finding
     requires { Lengthy table.now most.bytes }
     ensures { result ≡ sorts_of table.now }
