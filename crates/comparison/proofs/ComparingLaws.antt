@@ -20,7 +20,7 @@ use Rattle.rooms.specs.Laying.{Lays}
 use Rattle.cases.specs.declared.case.Case.{Case}
 use Rattle.cases.specs.Cases.{table_of, formula_of, left_as_expected}
 use Rattle.cases.specs.Tallies.{tallied, cases_in}
-use Rattle.comparison.specs.Comparing.{expanded_in, judged, compared_in, differs, counts}
+use Rattle.comparison.specs.Comparing.{expanded_in, judged, compared_in, differs}
 
 front_is : (room : List ℕ) (asked : ℕ) {count : ℕ} → count ≡ min asked (length room) → take count room ≡ take asked room
 front_is room asked {count} e = by (dec_le asked (length room))

@@ -1,5 +1,4 @@
 -- `lay_case`: the line of what was found, and whether that differs.
-use borrow.Author.Rules.{rules}
 use Rattle.comparison.proofs.ComparingLaws.{case_laid}
 use Rattle.comparison.proofs.lay_case.Goals as goal
 

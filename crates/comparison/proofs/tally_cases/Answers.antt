@@ -1,12 +1,8 @@
 -- `tally_cases`: what is left gives what the whole file gives.
-use Prim.Native.Nat.{◌-◌}
 use mathlib.Core.Path.{sym, ◌∙◌}
 use native.Mathlib.Omega.{arith}
-use lib.ListN.{length}
-use borrow.Author.Rules.{rules}
 use Rattle.cases.proofs.CaseLaws.{next_within}
-use Rattle.cases.proofs.TallyLaws.{Tallying, tallying_start, tallying_next, tallying_end, tallying_broken}
-use Rattle.comparison.specs.Comparing.{counts}
+use Rattle.cases.proofs.TallyLaws.{tallying_start, tallying_next, tallying_end, tallying_broken}
 use Rattle.comparison.proofs.tally_cases.Goals as goal
 
 pub loop-case-init : goal.loop-case-init

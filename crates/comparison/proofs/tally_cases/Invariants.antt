@@ -1,11 +1,7 @@
 -- `tally_cases`: what is left gives what the whole file gives.
 use Prim.Native.Nat.{◌-◌}
-use mathlib.Core.Path.{sym, ◌∙◌}
-use native.Mathlib.Omega.{arith}
 use lib.ListN.{length}
-use borrow.Author.Rules.{rules}
-use Rattle.cases.proofs.CaseLaws.{next_within}
-use Rattle.cases.proofs.TallyLaws.{Tallying, tallying_start, tallying_next, tallying_end, tallying_broken}
+use Rattle.cases.proofs.TallyLaws.{Tallying}
 use Rattle.comparison.specs.Comparing.{counts}
 use Rattle.comparison.proofs.tally_cases.Given as goal
 

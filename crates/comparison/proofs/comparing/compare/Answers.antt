@@ -1,5 +1,4 @@
 -- `compare`: in cells and text that nobody has touched.
-use borrow.Author.Rules.{rules}
 use Rattle.comparison.specs.Comparing.{untouched_cells, untouched_text}
 use Rattle.comparison.proofs.comparing.compare.Goals as goal
 

@@ -1,6 +1,4 @@
 -- `compare_in`: first the answer, then the cells and the text.
-use borrow.Author.Rules.{rules}
-use borrow.Author.Tests.{not-true, not-false}
 use Rattle.comparison.proofs.ComparingLaws.{judged_other, judged_same, judged_rooms}
 use Rattle.comparison.proofs.comparing.compare_in.Goals as goal
 

@@ -1,5 +1,4 @@
 -- `compare_in_fronts`: as much of the cells and the text as is lent.
-use borrow.Author.Rules.{rules}
 use mathlib.Core.Path.{sym}
 use native.Mathlib.Omega.{arith}
 use lib.Seq.{length-take-le}

@@ -1,5 +1,4 @@
 -- `expand_case`: the table and the formula are parts of the file.
-use borrow.Author.Rules.{rules}
 use Rattle.comparison.proofs.ComparingLaws.{expands}
 use Rattle.comparison.proofs.comparing.expand_case.Goals as goal
 
