@@ -1,7 +1,7 @@
 -- Lines of an input one after the other, and what is laid for them in a room.
 use Prim.Native.Nat.{ℕ, suc, ◌+◌, ◌-◌, ◌≤◌, ◌<◌, min}
 use mathlib.Core.Path.{◌≡◌, refl, sym, ap, ◌∙◌}
-use mathlib.Core.Bool.{Bool, true, false}
+use mathlib.Core.Bool.{true, false}
 use mathlib.Core.List.{List, [], ◌∷◌, ◌++◌, append_assoc, append-nil}
 use native.Mathlib.Decide.{dec_le}
 use native.Mathlib.Omega.{arith}
@@ -12,7 +12,6 @@ use Rattle.answers.specs.declared.Answer.{Answer}
 use Rattle.answers.specs.declared.Answer.TheVariants.{Accepted, Refusing}
 use Rattle.spellings.specs.Bytes.{longest_run}
 use Rattle.spellings.proofs.BytesLaws.{by_test, run_taken, run_left, run_prefix}
-use Rattle.terms.specs.Cells.{columns}
 use Rattle.terms.specs.Emit.{text_of}
 use Rattle.meaning.specs.Expand.{Expanded, expanded, expand}
 use Rattle.meaning.proofs.EachLaws.{expand_keeps}
@@ -20,7 +19,6 @@ use Rattle.meaning.proofs.Lent.{Alike, lent_alike}
 use Rattle.rooms.specs.Laying.{laid_end, laid, Lays}
 use Rattle.rooms.proofs.LayingLaws.{lays_length}
 use Rattle.phrases.specs.Output.{lent_cells, lent_text, text_line, told_lines, told, phrase_output}
-use Rattle.formulas.specs.declared.lines.Laid.{Laid}
 use Rattle.formulas.specs.Output.{is_line_byte, unended, lines_behind, outputs, formulas_output, placed, extent, placed_from, Tells}
 
 -- ------------------------------------------------------------------ one line

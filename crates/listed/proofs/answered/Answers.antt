@@ -1,5 +1,4 @@
 -- `answered`: the formula that is laid is the line's.
-use borrow.Author.Rules.{rules}
 use Rattle.listed.proofs.LentLaws as laws
 use Rattle.listed.proofs.answered.Goals as goal
 

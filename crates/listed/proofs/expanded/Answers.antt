@@ -1,5 +1,4 @@
 -- `expanded`: with the one text or the other.
-use borrow.Author.Rules.{rules}
 use Rattle.phrases.specs.Output.{lent_cells, lent_text}
 use Rattle.listed.specs.Lent.{long_text}
 use Rattle.listed.proofs.LentLaws.{run_long, run_short}

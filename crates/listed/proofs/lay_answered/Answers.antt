@@ -1,7 +1,6 @@
 -- `lay_answered`: the line is laid, and counted by its test.
 use mathlib.Core.Path.{refl}
 use native.Mathlib.Omega.{arith}
-use borrow.Author.Rules.{rules}
 use Rattle.listed.proofs.LentLaws as laws
 use Rattle.listed.proofs.lay_answered.Goals as goal
 

@@ -1,5 +1,4 @@
 -- `lay_own`: by the table that the line names.
-use borrow.Author.Rules.{rules}
 use Rattle.listed.specs.Lent.{bytes_of}
 use Rattle.listed.proofs.LentLaws as laws
 use Rattle.listed.proofs.lay_own.Goals as goal

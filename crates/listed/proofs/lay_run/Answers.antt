@@ -1,8 +1,5 @@
 -- `lay_run`: the lines that are told are those before the next.
-use Prim.Native.Nat.{◌-◌}
 use native.Mathlib.Omega.{arith}
-use borrow.Author.Rules.{rules}
-use Rattle.listed.specs.Lent.{files}
 use Rattle.listed.proofs.LentLaws as laws
 use Rattle.listed.proofs.lay_run.Goals as goal
 

@@ -1,8 +1,6 @@
 -- `lay_checked`: the lines told and those that are left are the lines of the input.
 use Prim.Native.Nat.{◌-◌}
-use native.Mathlib.Omega.{arith}
 use lib.ListN.{length}
-use borrow.Author.Rules.{rules}
 use Rattle.formulas.proofs.LineLaws as laws
 use Rattle.formulas.proofs.lines.lay_checked.Given as goal
 

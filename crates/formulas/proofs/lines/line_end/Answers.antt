@@ -1,6 +1,5 @@
 -- `line_end`: a run of what is left ends in it.
 use native.Mathlib.Omega.{arith}
-use borrow.Author.Rules.{rules}
 use Rattle.formulas.proofs.LineLaws.{line_end_is}
 use Rattle.formulas.proofs.lines.line_end.Goals as goal
 

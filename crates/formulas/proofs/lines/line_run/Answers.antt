@@ -1,8 +1,4 @@
 -- `line_run`: the bytes passed are the front of the run.
-use Prim.Native.Nat.{◌-◌}
-use lib.ListN.{length}
-use borrow.Author.Rules.{rules}
-use Rattle.formulas.specs.Output.{is_line_byte}
 use Rattle.spellings.proofs.Loops as loops
 use Rattle.formulas.proofs.lines.line_run.Goals as goal
 
