@@ -3,26 +3,23 @@ use Prim.Native.Nat.{ℕ, zero, suc, ◌+◌, ◌*◌, ◌/◌, ◌%◌, ◌<◌
 use mathlib.Core.Path.{◌≡◌, refl, sym, ap, ap₂, ◌∙◌}
 use mathlib.Core.Bool.{true, false, true≢false}
 use mathlib.Core.List.{List, [], ◌∷◌, foldr}
-use native.Mathlib.Numerals.{add-one}
 use native.Mathlib.Omega.{arith}
 use lib.Dec.{eqb}
-use lib.ListN.{length, get_or, set, take, drop, replicate, length-set, length-take, length-replicate}
-use lib.Seq.{get_or-set_same, get_or-set_other, drop-cons, drop-length, length-take-le}
+use lib.ListN.{length, get_or, drop, length-take}
 use borrow.Author.Tests.{eqb-true, eqb-false}
 use mir.Syntax.{w32, w64}
 use mir.Val as val
 use Rattle.spellings.specs.Bytes.{decimal, longest_word}
 use Rattle.spellings.proofs.BytesLaws.{by_test}
 use Rattle.spellings.proofs.DecimalLaws.{decimal_bound}
-use Rattle.terms.specs.Cells.{column, columns, name_base, most_cells}
+use Rattle.terms.specs.Cells.{column, columns, name_base}
 use Rattle.terms.specs.Term.{Name, Term, Fields, variable, function, apply, rcd, dot, number, nil, cons, size}
 use Rattle.terms.specs.Rows.{name_of, Constructor, var_row, fun_row, app_row, rcd_row, dot_row, nil_row, cons_row, num_row, constructor_of}
 use Rattle.terms.specs.Rows.{term_by, is_cons, fields_by}
 use Rattle.terms.specs.Rename.{new_name, written}
 use Rattle.terms.specs.TextSize.{text_size, text_size_fields}
 use Rattle.terms.specs.Labelled.{labelled, labelled_fields}
-use Rattle.rows.specs.declared.sums.Total.{Total}
-use Rattle.rows.specs.declared.sums.Total.TheVariants.{Of}
+use Rattle.std.specs.Prelude.{Option, Some}
 use Rattle.rows.specs.Sums.{row_is, parts_of, sum_of, is_fields, total_of}
 use Rattle.rows.proofs.RowLaws.{num_code, as_word, as_fresh, as_outside}
 use Rattle.rows.proofs.SumLaws.{Adds, total_adds, adds_by}
@@ -160,30 +157,6 @@ pub record Weighing (pool cells room weights : List ℕ) (row : ℕ) : Type 0 wh
   -- each of them has its own bytes
   pub each : (q : ℕ) → q < row → get_or weights q 0 ≡ own_length pool cells q
 
--- at the start no row is weighed
-pub weighing_start : {pool cells room : List ℕ} → Weighing pool cells room room 0
-weighing_start = record { long = refl; within = omega arith; each = λ q l. absurd (omega arith) }
-
-module _ {pool cells room weights : List ℕ} {row : ℕ} (weighing : Weighing pool cells room weights row) where
-  -- one row more
-  pub weighing_next : row < length weights → {own : ℕ} → own ≡ own_length pool cells row → Weighing pool cells room (set weights row own) (row + 1)
-  weighing_next l {own} e =
-      record {
-        long = length-set weights row own ∙ weighing.long;
-        within = omega (arith, weighing.long);
-        each =
-            λ q h.
-            by_test (eqb q row)
-            (λ k. let same : q ≡ row = eqb-true q row k in
-            rw (same, get_or-set_same weights row own 0 l) e)
-            (λ k. let other : q ≡ row → ⊥ = eqb-false q row k in
-            rw (get_or-set_other weights row q own 0 other) (weighing.each q (omega (arith, h, other))));
-      }
-
-  -- no row is left
-  pub weighing_end : length weights ≤ row → OwnLengths pool cells room weights
-  weighing_end l = record { long = weighing.long; each = λ q h. weighing.each q (omega arith) }
-
 -- ------------------------------------------------------------------ the sum of the numbers of new names
 
 -- The numbers of the first places are added up.
@@ -194,30 +167,6 @@ pub record Summing (numbers : List ℕ) (place sum : ℕ) : Type 0 where
   pub rest : sum + foldr ◌+◌ 0 (drop place numbers) ≡ foldr ◌+◌ 0 numbers
   -- each is of 16 bits
   pub small : sum ≤ place * 65535
-
--- at the start none is
-pub summing_start : {numbers : List ℕ} → Summing numbers 0 0
-summing_start = record { within = omega arith; rest = omega arith; small = omega arith }
-
-module _ {numbers : List ℕ} {place sum : ℕ} (summing : Summing numbers place sum) where
-  -- one number more
-  pub summing_next : place < length numbers → {shown : ℕ} → shown ≡ get_or numbers place 0 → shown < 65536 → Summing numbers (place + 1) (sum + shown)
-  summing_next l {shown} e small =
-      record {
-        within = omega arith;
-        rest =
-            let split : foldr ◌+◌ 0 (drop place numbers) ≡ shown + foldr ◌+◌ 0 (drop (suc place) numbers) =
-            rw (e, drop-cons numbers place 0 l) refl in
-            rw (add-one place) (omega (arith, split, summing.rest));
-        small = omega (arith, summing.small);
-      }
-
-  -- none is left
-  pub summing_end : length numbers ≤ place → sum ≡ foldr ◌+◌ 0 numbers
-  summing_end l =
-      let all : place ≡ length numbers = omega (arith, summing.within) in
-      let none : foldr ◌+◌ 0 (drop place numbers) ≡ 0 = rw (all, drop-length numbers) refl in
-      omega (arith, none, summing.rest)
 
 sum_none : (numbers : List ℕ) → foldr ◌+◌ 0 numbers ≡ 0 → Unnumbered numbers
 sum_none [] e place = refl
@@ -309,33 +258,10 @@ module _ (numbers : List ℕ) (none : Unnumbered numbers) where
         by_list row l num_row e k terms fields = absurd (true≢false (sym k))
 
     -- The length that a pass tells.
-    pub length_told : {root : ℕ} {total : Total} {sum : ℕ} → TextMeasurable pool cells numbers (length room) root
-        → total ≡ total_of cells 0x3FFFFFFF weights root → total ≡ Of sum → sum ≡ term_length pool cells numbers (length room) root 0
+    pub length_told : {root : ℕ} {total : Option ℕ} {sum : ℕ} → TextMeasurable pool cells numbers (length room) root
+        → total ≡ total_of cells 0x3FFFFFFF weights root → total ≡ Some sum → sum ≡ term_length pool cells numbers (length room) root 0
     length_told {root} {sum = sum} measurable is-total is_sum =
         let bound = measurable.room in
         let told = total_adds 0x3FFFFFFF root lengths_add (sym is_sum ∙ is-total) in
         let here : sum ≡ min 0x3FFFFFFF (term_length pool cells numbers (length room) root 0) = rw own.long at told in
         omega arith
-
--- ------------------------------------------------------------------ rooms for own bytes
-
--- the front of a room of zeros
-module _ (made count : ℕ) (lent : made ≤ count) where
-  -- is as long as it is asked for
-  pub front_long : length (take made (replicate {A = ℕ} count 0)) ≡ made
-  front_long = length-take-le {A = ℕ} made (replicate count 0) (omega (arith, length-replicate {A = ℕ} count 0))
-
-  -- has a place for no more rows than an expansion makes
-  pub front_few : count ≤ most_cells → length (take made (replicate {A = ℕ} count 0)) ≤ most_cells
-  front_few few = omega (arith, front_long)
-
-  -- serves a pass that measures a term of as many rows
-  pub front_measurable : {pool cells numbers : List ℕ} {root : ℕ} → TextMeasurable pool cells numbers made root
-      → TextMeasurable pool cells numbers (length (take made (replicate {A = ℕ} count 0))) root
-  front_measurable measurable = rw front_long measurable
-
-  -- and the pass gives its length
-  pub front_measured : (pool cells numbers : List ℕ) (root : ℕ) {long : ℕ}
-      → long ≡ term_length pool cells numbers (length (take made (replicate {A = ℕ} count 0))) root 0
-      → long ≡ term_length pool cells numbers made root 0
-  front_measured pool cells numbers root e = rw front_long at e

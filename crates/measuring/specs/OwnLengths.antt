@@ -24,10 +24,6 @@ own_of num_row pool cells row = 11 + length (decimal (column cells row 1))
 abbrev pub own_length : List ℕ → List ℕ → ℕ → ℕ
 own_length pool cells row = own_of (constructor_of (column cells row 0)) pool cells row
 
--- the most rows of a term that is measured by a pass over them
-abbrev pub most_shared : ℕ
-most_shared = 4096
-
 -- no name is new
 abbrev pub Unnumbered : List ℕ → Type 0
 Unnumbered numbers = (place : ℕ) → get_or numbers place 0 ≡ 0

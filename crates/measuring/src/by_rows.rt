@@ -5,10 +5,10 @@ ghost use mathlib.Core.List.{foldr};
 ghost use Rattle.terms.specs.Cells.{most_cells};
 ghost use Rattle.terms.specs.Term.{largest_term};
 ghost use Rattle.measuring.specs.Lengths.{term_length};
-ghost use Rattle.measuring.specs.OwnLengths.{own_length, Weighable, OwnLengths, Unnumbered, TextMeasurable, most_shared};
+ghost use Rattle.measuring.specs.OwnLengths.{own_length, Weighable, OwnLengths, Unnumbered, TextMeasurable};
 
 use crate::{label_length, length_term, name_length, number_length};
-use rows::sums::{Total, total_at};
+use rows::sums::total_at;
 use rows::{FEW_ROWS, column};
 use terms::{
     FIELD_CONS, FIELD_NIL, LARGEST_TERM, TERM_APP, TERM_DOT, TERM_FUN, TERM_RCD, TERM_VAR,
@@ -49,11 +49,8 @@ fn weigh(pool: &[u8], cells: &[u32], weights: &mut [u32])
     requires weights_len_bound { length weights.old ≤ most_cells }
     ensures { OwnLengths pool.now cells.now weights.old weights.new }
 {
-    let mut row: usize = 0;
-    while row < weights.len() {
-        let own = own_length(pool, cells, row as u32);
-        weights[row] = own as u32;
-        row += 1;
+    for row in 0..weights.len() {
+        weights[row] = own_length(pool, cells, row as u32) as u32;
     }
 }
 
@@ -63,10 +60,8 @@ fn numbers_sum(shown: &[u16]) -> u32
     ensures { result ≡ foldr ◌+◌ 0 shown.now }
 {
     let mut sum: u32 = 0;
-    let mut place: usize = 0;
-    while place < shown.len() {
-        sum += shown[place] as u32;
-        place += 1;
+    for number in shown {
+        sum += u32::from(*number);
     }
     sum
 }
@@ -95,26 +90,27 @@ fn length_by_rows(
 {
     let made = weights.len();
     weigh(pool, cells, weights);
-    let total = total_at(cells, root, LONGEST_TEXT, weights);
-    match total {
-        Total::Of(sum) => sum as usize,
-        Total::Unordered => length_by_walk(pool, cells, shown, made, root),
+    match total_at(cells, root, LONGEST_TEXT, weights) {
+        Some(sum) => sum as usize,
+        None => length_by_walk(pool, cells, shown, made, root),
     }
 }
 
-// The same with room for the rows of any term that it is asked of. It calls itself on what it is never passed, no numbers: the back end lays no such
-// function into its caller, whose frame stays without this room.
-fn length_of_many(pool: &[u8], cells: &[u32], shown: &[u16], made: usize, root: u32) -> usize
+// The same with a room for so many rows. Each room has a frame of its own, so that a caller's frame stays without it.
+#[inline(never)]
+fn length_in_room<const ROOM: usize>(
+    pool: &[u8],
+    cells: &[u32],
+    shown: &[u16],
+    made: usize,
+    root: u32,
+) -> usize
     requires text_measurable { TextMeasurable pool.now cells.now shown.now made root }
     requires unnumbered { Unnumbered shown.now }
-    requires shown_nonzero { (0 < length shown.now) × (made ≤ most_shared) }
+    requires room { (made ≤ ROOM) × (ROOM ≤ most_cells) }
     ensures { result ≡ term_length pool.now cells.now shown.now made root 0 }
 {
-    if shown.len() == 0 {
-        let blank = [0u16; 1];
-        return length_of_many(pool, cells, &blank, made, root);
-    }
-    let mut weights = [0u32; MOST_SHARED];
+    let mut weights = [0u32; ROOM];
     length_by_rows(pool, cells, shown, root, &mut weights[..made])
 }
 
@@ -130,9 +126,8 @@ pub fn text_length(pool: &[u8], cells: &[u32], shown: &[u16], made: usize, root:
     if 0 < numbers_sum(shown) {
         return length_by_walk(pool, cells, shown, made, root);
     }
-    if FEW_ROWS < made {
-        return length_of_many(pool, cells, shown, made, root);
+    if made <= FEW_ROWS {
+        return length_in_room::<FEW_ROWS>(pool, cells, shown, made, root);
     }
-    let mut weights = [0u32; FEW_ROWS];
-    length_by_rows(pool, cells, shown, root, &mut weights[..made])
+    length_in_room::<MOST_SHARED>(pool, cells, shown, made, root)
 }

@@ -18,26 +18,18 @@ use writer::pool::spelling;
 
 pub mod by_rows;
 
-fn wide(x: u16) -> u32
-    ensures { result ≡ x }
-{
-    x as u32
-}
-
 // The digits of a number, counted by the writer that finds no room for them.
 fn number_length(n: u32) -> usize
     ensures { result ≡ length (decimal n) }
 {
-    let mut none = [0u8; 1];
-    write_decimal(&mut none[..0], n)
+    write_decimal(&mut [], n)
 }
 
 // A label.
 fn label_length(pool: &&[u8], l: u32) -> usize
     ensures { result ≡ length (spell_in pool.now.now l) }
 {
-    let s = spelling(*pool, l);
-    s.len()
+    spelling(*pool, l).len()
 }
 
 // A name, by its value and the number of its new name.
@@ -45,7 +37,7 @@ fn name_length(pool: &&[u8], x: u32, shown: u16) -> usize
     ensures { result ≡ length (name_text pool.now.now x shown) }
 {
     if 0 < shown {
-        return 1 + number_length(wide(shown));
+        return 1 + number_length(u32::from(shown));
     }
     if x / NAME_BASE == FRESH_CLASS {
         return 2;

@@ -1,17 +1,15 @@
 -- What is left of a number of constructors without those of a term, part by part.
-use Prim.Native.Nat.{ℕ, zero, suc, ◌+◌, ◌-◌, ◌<◌, ◌≤◌, min}
+use Prim.Native.Nat.{ℕ, zero, suc, ◌+◌, ◌-◌, ◌<◌, min}
 use mathlib.Core.Path.{◌≡◌, refl, sym, ap, ◌∙◌}
 use mathlib.Core.Bool.{Bool, true, false, true≢false}
 use mathlib.Core.List.{List}
 use native.Mathlib.Omega.{arith}
-use lib.ListN.{length, get_or, take, replicate, length-replicate, get_or-replicate}
-use lib.Seq.{length-take-le, get_or-take}
-use Rattle.terms.specs.Cells.{column, most_cells}
+use lib.ListN.{length, get_or}
+use Rattle.std.specs.Prelude.{Option, Some}
+use Rattle.terms.specs.Cells.{column}
 use Rattle.terms.specs.Term.{Name, Term, Fields, variable, function, apply, rcd, dot, number, nil, cons, size, size_fields}
 use Rattle.terms.specs.Rows.{Constructor, var_row, fun_row, app_row, rcd_row, dot_row, nil_row, cons_row, num_row, constructor_of}
 use Rattle.terms.specs.Rows.{term_by, is_cons, fields_by, term_at, field_list_at}
-use Rattle.rows.specs.declared.sums.Total.{Total}
-use Rattle.rows.specs.declared.sums.Total.TheVariants.{Of}
 use Rattle.rows.specs.Sizes.{rows_held, no_spell, size_at, size_fields_at, cut_size, most_bound, Ones}
 use Rattle.rows.specs.Sums.{row_is, parts_of, sum_of, is_fields, total_of}
 use Rattle.rows.proofs.RowLaws as rows
@@ -179,27 +177,6 @@ size_adds {weights} cells ones = adds_by no_spell size size_fields by_term by_li
     by_list row l num_row e k terms fields = absurd (true≢false (sym k))
 
 -- the size that a pass tells
-pub size_told : {weights : List ℕ} (cells : List ℕ) (root : ℕ) {total : Total} {size : ℕ} → Ones weights → total ≡ total_of cells most_bound weights root
-    → total ≡ Of size → size ≡ cut_size cells (length weights) root
+pub size_told : {weights : List ℕ} (cells : List ℕ) (root : ℕ) {total : Option ℕ} {size : ℕ} → Ones weights → total ≡ total_of cells most_bound weights root
+    → total ≡ Some size → size ≡ cut_size cells (length weights) root
 size_told cells root ones is-total is-size = total_adds most_bound root (size_adds cells ones) (sym is-size ∙ is-total)
-
-module _ (made room : ℕ) (lent : made ≤ room) (few : room ≤ most_cells) where
-  -- the front of a room of ones is as long as it is asked for
-  pub front_long : length (take made (replicate {A = ℕ} room 1)) ≡ made
-  front_long = length-take-le {A = ℕ} made (replicate room 1) (omega (arith, length-replicate {A = ℕ} room 1))
-
-  -- and has a weight of 1 for each row
-  pub front_ones : Ones (take made (replicate room 1))
-  front_ones =
-      record {
-        few = omega (arith, front_long);
-        each =
-            λ row l.
-            get_or-take {A = ℕ} made (replicate room 1) row 0 (omega (arith, front_long))
-            ∙ get_or-replicate {A = ℕ} room row 1 0 (omega (arith, front_long));
-      }
-
-  -- the size by as many rows
-  pub front_size : (cells : List ℕ) (root : ℕ) {size : ℕ} → size ≡ cut_size cells (length (take made (replicate {A = ℕ} room 1))) root
-      → size ≡ cut_size cells made root
-  front_size cells root e = e ∙ ap (λ depth. cut_size cells depth root) front_long

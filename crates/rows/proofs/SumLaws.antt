@@ -9,14 +9,13 @@ use lib.Dec.{eqb, ltb}
 use lib.ListN.{length, get_or, set, length-set}
 use lib.Seq.{get_or-set_same, get_or-set_other}
 use borrow.Author.Tests.{eqb-true, eqb-false, ne_eqb, ltb-true, not-true}
+use Rattle.std.specs.Prelude.{Some, None}
 use Rattle.spellings.proofs.BytesLaws.{by_test}
-use Rattle.grammar.proofs.ReaderLaws.{get_d_past}
 use Rattle.terms.specs.Cells.{column}
 use Rattle.terms.specs.Term.{Name, Term, Fields}
 use Rattle.terms.specs.Rows.{Constructor, constructor_of, term_by, is_cons, fields_by, term_at, field_list_at}
 use Rattle.rows.specs.declared.sums.Parts.{Parts}
 use Rattle.rows.specs.declared.sums.Parts.TheVariants.{NoPart, OneTerm, TwoTerms, OneList, TermAndList}
-use Rattle.rows.specs.declared.sums.Total.TheVariants.{Of, Unordered}
 use Rattle.rows.specs.Sums.{row_is, parts_of, parts_at, sum_of, sum_in, sum_at, is_fields, is_term_before, is_list_before, are_before, are_ordered}
 use Rattle.rows.specs.Sums.{SumsRows, total_of}
 use Rattle.rows.proofs.RowLaws.{each-code}
@@ -130,32 +129,6 @@ cut_parts cap own f g (TwoTerms t u) = omega arith
 cut_parts cap own f g (OneList l) = omega arith
 cut_parts cap own f g (TermAndList t l) = omega arith
 
--- what is not there has no sum
-pub past_cut : (cap : ℕ) (sums : List ℕ) (row : ℕ) → length sums ≤ row → 0 ≡ min cap (get_or sums row 0)
-past_cut cap sums row l = omega (arith, get_d_past sums row 0 l)
-
-module _ (cap : ℕ) (sums : List ℕ) {parts : Parts} where
-  -- no part
-  pub none_cut : parts ≡ NoPart → 0 ≡ min cap (sum_in sums parts)
-  none_cut e = rw e (omega arith)
-
-  -- one term
-  pub term_cut : {t r : ℕ} → parts ≡ OneTerm t → r ≡ min cap (get_or sums t 0) → r ≡ min cap (sum_in sums parts)
-  term_cut e er = rw e er
-
-  -- one field list
-  pub list_cut : {f r : ℕ} → parts ≡ OneList f → r ≡ min cap (get_or sums f 0) → r ≡ min cap (sum_in sums parts)
-  list_cut e er = rw e er
-
-  module _ {t u a b r : ℕ} (ea : a ≡ min cap (get_or sums t 0)) (eb : b ≡ min cap (get_or sums u 0)) (er : r ≡ min cap (a + b)) where
-    -- two terms
-    pub terms_cut : parts ≡ TwoTerms t u → r ≡ min cap (sum_in sums parts)
-    terms_cut e = rw e (omega arith)
-
-    -- a term and a field list
-    pub field_cut : parts ≡ TermAndList t u → r ≡ min cap (sum_in sums parts)
-    field_cut e = rw e (omega arith)
-
 -- a room with the sums at the first rows, and the own weights of the others
 pub record Passed (cells : List ℕ) (cap : ℕ) (weights sums : List ℕ) (row : ℕ) : Type 0 where
   -- a place for each weight
@@ -188,7 +161,7 @@ module _ {cells : List ℕ} {cap : ℕ} {weights sums : List ℕ} {row : ℕ} (p
       ∙ cut_parts cap (get_or weights row 0) (λ q. sum_at depth weights cells q) (λ q. sum_at depth weights cells q) (parts_at cells row)
 
   -- one row more, whose parts stand before it
-  pub passed_next : row < length sums → {parts : Parts} {ordered : Bool} {sum : ℕ} → parts ≡ parts_at cells row → ordered ≡ are_before cells row parts
+  pub passed_next : row < length weights → {parts : Parts} {ordered : Bool} {sum : ℕ} → parts ≡ parts_at cells row → ordered ≡ are_before cells row parts
       → ordered ≡ true → sum ≡ min cap (get_or sums row 0 + sum_in sums parts)
       → Passed cells cap weights (set sums row sum) (row + 1)
   unfolding are_ordered
@@ -203,51 +176,22 @@ module _ {cells : List ℕ} {cap : ℕ} {weights sums : List ℕ} {row : ℕ} (p
             λ q depth h d.
             by_test (eqb q row)
             (λ k. let same : q ≡ row = eqb-true q row k in
-            rw (same, get_or-set_same sums row sum 0 l) (summed ∙ row_summed before depth (omega arith)))
+            rw (same, get_or-set_same sums row sum 0 (omega (arith, passed.long))) (summed ∙ row_summed before depth (omega arith)))
             (λ k. let other : q ≡ row → ⊥ = eqb-false q row k in
             rw (get_or-set_other sums row q sum 0 other) (passed.each q depth (omega (arith, h, other)) d));
         behind = λ q h. rw (get_or-set_other sums row q sum 0 (λ k. omega arith)) (passed.behind q (omega arith));
       }
 
   -- a row whose parts do not all stand before it
-  pub passed_stop : row < length sums → {parts : Parts} {ordered : Bool} → parts ≡ parts_at cells row → ordered ≡ are_before cells row parts
+  pub passed_stop : row < length weights → {parts : Parts} {ordered : Bool} → parts ≡ parts_at cells row → ordered ≡ are_before cells row parts
       → ordered ≡ false → SumsRows cells cap weights sums false
   passed_stop l ep eo t =
       let none : are_before cells row (parts_at cells row) ≡ false = cc in
       record {
         long = passed.long;
-        told = sym (unordered_at cells (length weights) row (omega (arith, passed.long)) none);
+        told = sym (unordered_at cells (length weights) row l none);
         each = λ e. absurd (true≢false (sym e));
       }
-
-  -- no row is left
-  pub passed_end : length sums ≤ row → SumsRows cells cap weights sums true
-  passed_end l =
-      let all : row ≡ length weights = omega (arith, passed.long, passed.within) in
-      record { long = passed.long; told = sym (rw (← all) passed.ordered); each = λ e q depth h d. passed.each q depth (omega arith) d }
-
--- ------------------------------------------------------------------ the sum at a row
-
-module _ {cells : List ℕ} {cap : ℕ} {weights sums : List ℕ} {ordered before : Bool} (summed : SumsRows cells cap weights sums ordered) (root : ℕ)
-    (is_before : before ≡ is_term_before cells (length weights) root)
-  where
-    both_true : (ordered && before) ≡ true → (ordered ≡ true) × (is_term_before cells (length weights) root ≡ true)
-    both_true e = let both = (and-eq-true_iff ordered before).0 e in (both.0, sym is_before ∙ both.1)
-
-    -- it is one of those summed
-    pub total_inside : (ordered && before) ≡ true → root < length sums
-    total_inside e = omega (arith, (term_before cells (length weights) root (both_true e).1).0, summed.long)
-
-    -- and has its sum
-    pub total_known : (ordered && before) ≡ true → {sum : ℕ} → sum ≡ get_or sums root 0 → Of sum ≡ total_of cells cap weights root
-    total_known e es =
-        let both = both_true e in
-        let inside = (term_before cells (length weights) root both.1).0 in
-        rw (← summed.told, both.0, both.1) (ap Of (es ∙ summed.each both.0 root (length weights) inside inside))
-
-    -- rows out of order, or no row of a term
-    pub total_unknown : (ordered && before) ≡ false → Unordered ≡ total_of cells cap weights root
-    total_unknown e = rw (← summed.told, ← is_before, e) refl
 
 -- ------------------------------------------------------------------ what a measure adds up to
 
@@ -278,17 +222,17 @@ module _ {weights cells : List ℕ} {rows : ℕ} {terms fields : ℕ → ℕ →
 
 -- The sum that a pass tells is the measure, cut off.
 pub total_adds : {weights cells : List ℕ} {terms fields : ℕ → ℕ → ℕ} (cap root : ℕ) {sum : ℕ} → Adds weights cells (length weights) terms fields
-    → Of sum ≡ total_of cells cap weights root → sum ≡ min cap (terms (length weights) root)
+    → Some sum ≡ total_of cells cap weights root → sum ≡ min cap (terms (length weights) root)
 total_adds {weights} {cells} cap root {sum} adds e =
     by_test (are_ordered cells (length weights) && is_term_before cells (length weights) root)
     (λ t.
     let both = (and-eq-true_iff (are_ordered cells (length weights)) (is_term_before cells (length weights) root)).0 t in
     let is = term_before cells (length weights) root both.1 in
-    let known : Of sum ≡ Of (min cap (sum_at (length weights) weights cells root)) = rw t at e in
+    let known : Some sum ≡ Some (min cap (sum_at (length weights) weights cells root)) = rw t at e in
     let told : sum ≡ min cap (sum_at (length weights) weights cells root) = cc in
     told ∙ ap (min cap) (sym ((adds_up adds both.0 (length weights) root is.0 is.0).0 is.1)))
     (λ t.
-    let unknown : Of sum ≡ Unordered = rw t at e in
+    let unknown : Some sum ≡ None = rw t at e in
     let z : ◌≡◌ {A = ℕ} 0 1 = cc in
     absurd (omega arith))
 

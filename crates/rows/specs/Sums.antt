@@ -1,11 +1,9 @@
 -- Sums of weights over the trees at rows, and rows in order: what one pass over the rows tells. Nobody needs this to believe `expand`.
-use Rattle.std.specs.Prelude.{ℕ, zero, suc, ◌+◌, ◌<◌, ◌≤◌, min, ◌≡◌, Bool, true, false, ◌&&◌, not, List, ltb, length, get_or}
+use Rattle.std.specs.Prelude.{ℕ, zero, suc, ◌+◌, ◌<◌, ◌≤◌, min, ◌≡◌, Bool, true, false, ◌&&◌, not, List, Option, Some, None, ltb, length, get_or}
 use Rattle.terms.specs.Cells.{column, most_cells}
 use Rattle.terms.specs.Rows.{Constructor, var_row, fun_row, app_row, rcd_row, dot_row, nil_row, cons_row, num_row, constructor_of}
 use Rattle.rows.specs.declared.sums.Parts.{Parts}
 use Rattle.rows.specs.declared.sums.Parts.TheVariants.{NoPart, OneTerm, TwoTerms, OneList, TermAndList}
-use Rattle.rows.specs.declared.sums.Total.{Total}
-use Rattle.rows.specs.declared.sums.Total.TheVariants.{Of, Unordered}
 
 -- ------------------------------------------------------------------ the parts of a row
 
@@ -68,6 +66,11 @@ is_term_before cells row part = ltb part row && not (is_fields (row_is cells par
 abbrev pub is_list_before : List ℕ → ℕ → ℕ → Bool
 is_list_before cells row part = ltb part row && is_fields (row_is cells part)
 
+-- the one or the other, as `fields` says
+abbrev pub is_part_before : List ℕ → ℕ → ℕ → Bool → Bool
+is_part_before cells row part true = is_list_before cells row part
+is_part_before cells row part false = is_term_before cells row part
+
 -- each part stands before a row and gives what its place asks
 abbrev pub are_before : List ℕ → ℕ → Parts → Bool
 are_before cells row NoPart = true
@@ -99,10 +102,10 @@ pub record SumsRows (cells : List ℕ) (cap : ℕ) (weights sums : List ℕ) (r 
   pub each : r ≡ true → (row depth : ℕ) → row < length weights → row < depth → get_or sums row 0 ≡ min cap (sum_at depth weights cells row)
 
 -- the sum at a row that gives Term, where all rows are in order
-abbrev pub total_by : Bool → ℕ → Total
-total_by true sum = Of sum
-total_by false sum = Unordered
+abbrev pub total_by : Bool → ℕ → Option ℕ
+total_by true sum = Some sum
+total_by false sum = None
 
-abbrev pub total_of : List ℕ → ℕ → List ℕ → ℕ → Total
+abbrev pub total_of : List ℕ → ℕ → List ℕ → ℕ → Option ℕ
 total_of cells cap weights root =
     total_by (are_ordered cells (length weights) && is_term_before cells (length weights) root) (min cap (sum_at (length weights) weights cells root))

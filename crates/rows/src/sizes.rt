@@ -1,8 +1,9 @@
 // The number of constructors of the tree at a row: counted while some are left, or told by a pass over the rows.
-ghost use Rattle.std.specs.Prelude.{◌-◌, ◌<◌, ◌≤◌, ◌≡◌, length};
-ghost use Rattle.rows.specs.Sizes.{rows_held, many_rows, size_at, size_fields_at, cut_size, FirstCount, Ones};
+ghost use Rattle.std.specs.Prelude.{◌-◌, ◌≤◌, ◌≡◌, length};
+ghost use Rattle.terms.specs.Cells.{most_cells};
+ghost use Rattle.rows.specs.Sizes.{rows_held, size_at, size_fields_at, cut_size, FirstCount, Ones};
 
-use crate::sums::{Total, total_at};
+use crate::sums::total_at;
 use crate::{FEW_ROWS, column};
 use terms::{COLUMNS, FIELD_CONS, LARGEST_TERM, TERM_APP, TERM_DOT, TERM_FUN, TERM_RCD};
 
@@ -77,24 +78,19 @@ fn size_by_rows(cells: &[u32], root: u32, ones: &mut [u32]) -> usize
     ensures { result ≡ cut_size cells.now (length ones.old) root }
 {
     let made = ones.len();
-    let total = total_at(cells, root, MOST_BOUND as u32, ones);
-    match total {
-        Total::Of(size) => size as usize,
-        Total::Unordered => MOST_BOUND - size_term(&cells, made, root, MOST_BOUND),
+    match total_at(cells, root, MOST_BOUND as u32, ones) {
+        Some(size) => size as usize,
+        None => MOST_BOUND - size_term(&cells, made, root, MOST_BOUND),
     }
 }
 
-// The same with room for many rows. It calls itself on what it is never passed, no cells: the back end lays no such function into its caller, whose frame
-// stays without this room.
-fn size_of_many(cells: &[u32], made: usize, root: u32) -> usize
-    requires { (0 < length cells.now) × (made ≤ many_rows) }
+// The same with a room for so many rows. Each room has a frame of its own, so that a caller's frame stays without it.
+#[inline(never)]
+fn size_in_room<const ROOM: usize>(cells: &[u32], made: usize, root: u32) -> usize
+    requires { (made ≤ ROOM) × (ROOM ≤ most_cells) }
     ensures { result ≡ cut_size cells.now made root }
 {
-    if cells.len() == 0 {
-        let blank = [0u32; COLUMNS];
-        return size_of_many(&blank, made, root);
-    }
-    let mut ones = [1u32; MANY_ROWS];
+    let mut ones = [1u32; ROOM];
     size_by_rows(cells, root, &mut ones[..made])
 }
 
@@ -113,8 +109,7 @@ pub fn size_at(cells: &[u32], root: u32) -> usize
         return MOST_BOUND;
     }
     if FEW_ROWS < made {
-        return size_of_many(cells, made, root);
+        return size_in_room::<MANY_ROWS>(cells, made, root);
     }
-    let mut ones = [1u32; FEW_ROWS];
-    size_by_rows(cells, root, &mut ones[..made])
+    size_in_room::<FEW_ROWS>(cells, made, root)
 }

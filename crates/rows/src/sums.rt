@@ -2,7 +2,7 @@
 // looked at once.
 ghost use Rattle.std.specs.Prelude.{◌<◌, ◌+◌, min, ◌≡◌, get_or};
 ghost use Rattle.terms.specs.Rows.{constructor_of};
-ghost use Rattle.rows.specs.Sums.{parts_at, sum_in, is_fields, is_term_before, is_list_before, are_before, sum_limit, Summable, SumsRows, total_of};
+ghost use Rattle.rows.specs.Sums.{parts_at, sum_in, is_fields, is_part_before, are_before, sum_limit, Summable, SumsRows, total_of};
 
 use crate::column;
 use terms::{FIELD_CONS, FIELD_NIL, TERM_APP, TERM_DOT, TERM_FUN, TERM_RCD};
@@ -15,13 +15,6 @@ pub enum Parts {
     TwoTerms(u32, u32),
     OneList(u32),
     TermAndList(u32, u32),
-}
-
-// What is told of the tree at a row: its sum, or that rows are not in order.
-#[derive(Drop)]
-pub enum Total {
-    Of(u32),
-    Unordered,
 }
 
 // The parts of a row.
@@ -48,20 +41,11 @@ fn is_fields(code: u32) -> bool
     (code == FIELD_NIL) | (code == FIELD_CONS)
 }
 
-// Whether a part stands before a row, and is a term.
-fn is_term_before(cells: &[u32], row: usize, part: u32) -> bool
-    ensures { result ≡ is_term_before cells.now row part }
+// Whether a part stands before a row, and is a field list or a term, as `fields` says.
+fn is_before(cells: &[u32], row: usize, part: u32, fields: bool) -> bool
+    ensures { result ≡ is_part_before cells.now row part fields }
 {
-    let fields = is_fields(column(cells, part, 0));
-    ((part as usize) < row) & !fields
-}
-
-// Whether a part stands before a row, and is a field list.
-fn is_list_before(cells: &[u32], row: usize, part: u32) -> bool
-    ensures { result ≡ is_list_before cells.now row part }
-{
-    let fields = is_fields(column(cells, part, 0));
-    ((part as usize) < row) & fields
+    ((part as usize) < row) & (is_fields(column(cells, part, 0)) == fields)
 }
 
 // Whether each part stands before a row and is what its place asks.
@@ -70,18 +54,12 @@ fn are_before(cells: &[u32], row: usize, parts: Parts) -> bool
 {
     match parts {
         Parts::NoPart => true,
-        Parts::OneTerm(t) => is_term_before(cells, row, t),
-        Parts::TwoTerms(t, u) => is_term_before(cells, row, t) & is_term_before(cells, row, u),
-        Parts::OneList(f) => is_list_before(cells, row, f),
-        Parts::TermAndList(t, f) => is_term_before(cells, row, t) & is_list_before(cells, row, f),
+        Parts::OneTerm(t) => is_before(cells, row, t, false),
+        Parts::TwoTerms(t, u) => is_before(cells, row, t, false) & is_before(cells, row, u, false),
+        Parts::OneList(f) => is_before(cells, row, f, true),
+        Parts::TermAndList(t, f) => is_before(cells, row, t, false)
+            & is_before(cells, row, f, true),
     }
-}
-
-// A number, cut off.
-fn cut(sum: u32, cap: u32) -> u32
-    ensures { result ≡ min cap sum }
-{
-    if cap < sum { cap } else { sum }
 }
 
 // The sum at a row, cut off; what is not there reads as 0.
@@ -90,7 +68,7 @@ fn sum_at(sums: &[u32], row: u32, cap: u32) -> u32
 {
     let at = row as usize;
     if at < sums.len() {
-        cut(sums[at], cap)
+        cap.min(sums[at])
     } else {
         0
     }
@@ -104,9 +82,9 @@ pub fn parts_sum(sums: &[u32], parts: Parts, cap: u32) -> u32
     match parts {
         Parts::NoPart => 0,
         Parts::OneTerm(t) => sum_at(sums, t, cap),
-        Parts::TwoTerms(t, u) => cut(sum_at(sums, t, cap) + sum_at(sums, u, cap), cap),
+        Parts::TwoTerms(t, u) => cap.min(sum_at(sums, t, cap) + sum_at(sums, u, cap)),
         Parts::OneList(f) => sum_at(sums, f, cap),
-        Parts::TermAndList(t, f) => cut(sum_at(sums, t, cap) + sum_at(sums, f, cap), cap),
+        Parts::TermAndList(t, f) => cap.min(sum_at(sums, t, cap) + sum_at(sums, f, cap)),
     }
 }
 
@@ -115,7 +93,7 @@ fn row_sum(sums: &[u32], row: u32, parts: Parts, cap: u32) -> u32
     requires { cap < sum_limit }
     ensures { result ≡ min cap (get_or sums.now row 0 + sum_in sums.now parts) }
 {
-    cut(sum_at(sums, row, cap) + parts_sum(sums, parts, cap), cap)
+    cap.min(sum_at(sums, row, cap) + parts_sum(sums, parts, cap))
 }
 
 // The sums at all rows that a room has a place for. The room has the own weight of each row at the start, and at the end the sum of the weights over the
@@ -124,32 +102,28 @@ pub fn sum_rows(cells: &[u32], cap: u32, sums: &mut [u32]) -> bool
     requires { Summable sums.old cap }
     ensures { SumsRows cells.now cap sums.old sums.new result }
 {
-    let mut row: usize = 0;
-    while row < sums.len() {
+    for row in 0..sums.len() {
         let here = row as u32;
         let parts = parts_at(cells, here);
         let ordered = are_before(cells, row, parts);
-        if ordered {
-            let sum = row_sum(sums, here, parts, cap);
-            sums[row] = sum;
-            row += 1;
-        } else {
+        if !ordered {
             return false;
         }
+        sums[row] = row_sum(sums, here, parts, cap);
     }
     true
 }
 
-// The sum of the weights over the tree at a row, cut off at `cap`. The room has the own weight of each row, and becomes that of the sums.
-pub fn total_at(cells: &[u32], root: u32, cap: u32, sums: &mut [u32]) -> Total
+// The sum of the weights over the tree at a row, cut off at `cap`, if the rows are in order. The room has the own weight of each row, and becomes that of the
+// sums.
+pub fn total_at(cells: &[u32], root: u32, cap: u32, sums: &mut [u32]) -> Option<u32>
     requires { Summable sums.old cap }
     ensures { result ≡ total_of cells.now cap sums.old root }
 {
     let rows = sums.len();
     let ordered = sum_rows(cells, cap, sums);
-    if ordered & is_term_before(cells, rows, root) {
-        let at = root as usize;
-        return Total::Of(sums[at]);
+    if ordered & is_before(cells, rows, root, false) {
+        return Some(sums[root as usize]);
     }
-    Total::Unordered
+    None
 }

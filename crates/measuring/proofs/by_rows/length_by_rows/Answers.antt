@@ -2,5 +2,5 @@
 use Rattle.measuring.proofs.OwnLaws as laws
 use Rattle.measuring.proofs.by_rows.length_by_rows.Goals as goal
 
-pub returns-in-Of : goal.returns-in-Of
-returns-in-Of c = search laws.length_told
+pub returns-in-Some : goal.returns-in-Some
+returns-in-Some c = search laws.length_told

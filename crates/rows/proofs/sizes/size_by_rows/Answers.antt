@@ -2,5 +2,5 @@
 use Rattle.rows.proofs.SizeLaws as laws
 use Rattle.rows.proofs.sizes.size_by_rows.Goals as goal
 
-pub returns-in-Of : goal.returns-in-Of
-returns-in-Of c = search laws.size_told
+pub returns-in-Some : goal.returns-in-Some
+returns-in-Some c = search laws.size_told
