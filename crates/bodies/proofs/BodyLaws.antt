@@ -1,25 +1,25 @@
 -- Laws of the bodies of alternatives: stacks and lists of sorts, items and results by their tests.
-use Prim.Native.Nat.{ℕ, suc, ◌+◌, ◌-◌, ◌≤◌, ◌<◌}
+use Prim.Native.Nat.{ℕ, suc, min, ◌+◌, ◌-◌, ◌≤◌, ◌<◌}
 use mathlib.Core.Path.{◌≡◌, refl, sym, ap, ap₂, ◌∙◌}
 use mathlib.Core.Bool.{Bool, true, false, ◌&&◌}
-use mathlib.Core.List.{List, [], ◌∷◌, ◌++◌}
+use mathlib.Core.List.{List, [], ◌∷◌}
 use native.Mathlib.Omega.{arith}
 use lib.Dec.{eqb, leb, ltb}
-use lib.ListN.{length, get_or, take, drop, set, length-set, length-drop, drop_of_length-le, take-append-drop}
-use lib.Seq.{drop-cons, take_all, take-suc, take-suc-set, get_or-drop, drop-drop, drop-set-lt, set_out}
-use borrow.Author.Tests.{lt-ltb, le-ltb, eq-eqb, ne_eqb, eqb-true, leb-true}
+use lib.ListN.{length, get_or, take, drop, set, length-set, length-drop, drop_of_length-le}
+use lib.Seq.{drop-cons, take_all, set_out}
+use borrow.Author.Tests.{lt-ltb, le-ltb, eq-eqb, ne_eqb, eqb-true, eqb-false, leb-true}
+use Rattle.spellings.proofs.BytesLaws.{by_test}
+use Rattle.std.specs.Prelude.{Result, Ok, Err, ⊤}
 use Rattle.grammar.specs.Sorts.{unit, binder, num}
 use Rattle.bodies.specs.declared.Known.{Known}
 use Rattle.bodies.specs.declared.ItemSort.{ItemSort}
 use Rattle.bodies.specs.declared.ItemSort.TheVariants.{As, Unsorted}
 use Rattle.bodies.specs.declared.Fault.{Fault}
 use Rattle.bodies.specs.declared.Fault.TheVariants.{Undefined}
-use Rattle.bodies.specs.declared.Tested.{Tested}
-use Rattle.bodies.specs.declared.Tested.TheVariants.{Sound, Faulty}
 use Rattle.judgements.proofs.TemplateSorts.{both}
 use Rattle.bodies.specs.TemplateBytes.{closed_bytes, fill_bytes, templates_fault, places}
 use Rattle.bodies.specs.HeadBytes.{signature_at}
-use Rattle.bodies.specs.BodyBytes.{unless_faulty, call_at, item_at, result_at, ParametersLoaded, ParameterSorts, one_more, SortAdded}
+use Rattle.bodies.specs.BodyBytes.{unless_faulty, call_at, item_at, result_at, ParametersLoaded, one_more, SortAdded}
 use Rattle.bodies.proofs.TemplateInduction.{choose}
 use Rattle.bodies.proofs.TemplateLoops.{places_set}
 
@@ -32,20 +32,15 @@ pub record Loading (sig room₀ room : List ℕ) (top left : ℕ) : Type 0 where
   -- the places taken and those to come are the signature
   pub height : top + left ≡ length sig
   -- the result is not taken
-  pub least : 1 ≤ left
+  pub least : min 1 (length sig) ≤ left
   -- the places taken hold the last parameters
   pub opened : places room top ≡ drop left sig
 
 module _ {sig room₀ : List ℕ} where
-  -- no signature has no parameters
-  pub params_none : length sig ≡ 0 → ParametersLoaded sig room₀ 0
-  unfolding places
-  params_none e = record { small = omega arith; loaded = sym (drop_of_length-le sig {i = 1} (omega arith)) }
-
   -- no place yet
-  pub loading_start : (length sig ≡ 0 → ⊥) → Loading sig room₀ room₀ 0 (length sig)
+  pub loading_start : Loading sig room₀ room₀ 0 (length sig)
   unfolding places
-  loading_start h =
+  loading_start =
       record
       { as_many = refl; height = omega arith; least = omega arith; opened = sym (drop_of_length-le sig {i = length sig} (omega arith)) }
 
@@ -66,60 +61,17 @@ module _ {sig room₀ : List ℕ} where
   -- all places
   pub loading_end : {room : List ℕ} {top left : ℕ} → Loading sig room₀ room top left → left ≤ 1 → ParametersLoaded sig room top
   loading_end {room} {top} {left} l h =
-      let one : left ≡ 1 = omega (arith, l.least) in
-      record { small = omega (arith, l.height); loaded = cc l.opened }
-
--- ------------------------------------------------------------------ the sorts of variables
-
--- the first `count` parameters of a signature are variables
-pub record Copying (sig L₀ L : List ℕ) (count place : ℕ) : Type 0 where
-  -- the sorts are as many as they were
-  pub as_many : length L ≡ length L₀
-  -- the next parameter
-  pub next : place ≡ count + 1
-  -- no more are copied than there are
-  pub most : count ≤ length sig - 1
-  -- the first ones are copied
-  pub copied : take count L ≡ take count (drop 1 sig)
-  -- the others stay
-  pub stays : drop count L ≡ drop count L₀
-
-module _ {sig L₀ : List ℕ} where
-  -- no sort yet
-  pub copying_start : Copying sig L₀ L₀ 0 1
-  copying_start = record { as_many = refl; next = refl; most = omega arith; copied = refl; stays = refl }
-
-  -- one sort more
-  pub copying_next :
-      {L : List ℕ} {count place sort : ℕ} → length sig ≤ length L₀ → Copying sig L₀ L count place → place < length sig → sort ≡ get_or sig place 0
-      → Copying sig L₀ (set L count sort) place (place + 1)
-  copying_next {L} {count} {place} {sort} h c p e =
-      let far : place ≡ suc count = omega (arith, c.next) in
-      let one : 1 + count ≡ place = omega (arith, c.next) in
-      let rest : length (drop 1 sig) ≡ length sig - 1 = length-drop 1 sig in
       record {
-        as_many = length-set L count sort ∙ c.as_many;
-        next = refl;
-        most = omega arith;
-        copied =
-            cc (
-              take-suc-set L count sort (omega (arith, c.as_many, c.next)),
-              c.copied,
-              get_or-drop 1 sig count 0,
-              take-suc (drop 1 sig) count 0 (omega (arith, c.next)),
-            );
-        stays =
-            drop-set-lt place L count sort (omega (arith, c.next))
-            ∙ (rw c.next (sym (drop-drop 1 count L) ∙ ap (drop 1) c.stays ∙ drop-drop 1 count L₀));
+        small = omega (arith, l.height);
+        loaded =
+            l.opened
+            ∙ by_test (eqb left 1) (λ e. ap (λ k. drop k sig) (eqb-true left 1 e))
+            (λ e.
+            let none : length sig ≡ 0 = omega (arith, eqb-false left 1 e, l.least) in
+            drop_of_length-le sig {i = left} (omega arith) ∙ sym (drop_of_length-le sig {i = 1} (omega arith)));
       }
 
-  -- all sorts
-  pub copying_end : {L : List ℕ} {count place : ℕ} → Copying sig L₀ L count place → length sig ≤ place → ParameterSorts sig L₀ L count
-  copying_end {L} {count} {place} c h =
-      let rest : length (drop 1 sig) ≡ length sig - 1 = length-drop 1 sig in
-      let front : take count L ≡ drop 1 sig = c.copied ∙ take_all count (drop 1 sig) (omega (arith, c.next)) in
-      let all : count ≡ length sig - 1 = omega (arith, c.next, c.most) in
-      record { count_is = all; sorts_are = sym (take-append-drop count L) ∙ ap₂ ◌++◌ front c.stays ∙ rw all refl }
+-- ------------------------------------------------------------------ the sorts of variables
 
 -- one sort more behind those of `count` variables, and none where there are 16
 module _ (L : List ℕ) (count sort : ℕ) (equal : length L ≡ 16) where
@@ -169,17 +121,17 @@ module _ (bs : List ℕ) (known : Known) (heads L : List ℕ) (count : ℕ) (arg
       let no_place : drop 1 signature ≡ [] = drop_of_length-le signature {i = 1} (leb-true (length signature) 1 b) in
       cc (call_by false (ne_eqb head 0 declared))
 
-  module _ (declared : head ≡ 0 → ⊥) {signature : List ℕ} (agrees : signature ≡ signature_at bs head) {tested : Tested}
+  module _ (declared : head ≡ 0 → ⊥) {signature : List ℕ} (agrees : signature ≡ signature_at bs head) {tested : Result ⊤ Fault}
       (also_equal : tested ≡ templates_fault known.outsides (take known.variables L) arguments (drop 1 signature)) where
     call_tested : unless_faulty (get_or signature 0 0) tested ≡ call_at bs known heads L count arguments
     call_tested = cc (call_by false (ne_eqb head 0 declared))
 
     -- the arguments have a fault
-    pub call_unfit : {fault : Fault} → tested ≡ Faulty fault → Unsorted fault ≡ call_at bs known heads L count arguments
+    pub call_unfit : {fault : Fault} → tested ≡ Err fault → Unsorted fault ≡ call_at bs known heads L count arguments
     call_unfit f = cc call_tested
 
     -- they have none
-    pub call_fit : {sort : ℕ} → tested ≡ Sound → sort ≡ get_or signature 0 0 → As sort ≡ call_at bs known heads L count arguments
+    pub call_fit : {sort : ℕ} → tested ≡ Ok tt → sort ≡ get_or signature 0 0 → As sort ≡ call_at bs known heads L count arguments
     call_fit f g = cc call_tested
 
 -- ------------------------------------------------------------------ items
@@ -199,16 +151,14 @@ module _ (bs : List ℕ) (known : Known) (heads L value : List ℕ) {kind operan
   item_is g = sym (ap₂ item_by (sym equal ∙ g) (sym agrees))
 
   -- a keyword that is defined
-  pub item_keyword : {keyword_number : ℕ} → keyword_number ≡ operand → kind ≡ 0 → keyword_number < known.keywords
-      → As 0 ≡ item_at bs known heads L value
+  pub item_keyword : kind ≡ 0 → operand < known.keywords → As 0 ≡ item_at bs known heads L value
   unfolding item_by item_tests
-  item_keyword w g h = ap (choose (As unit) (Unsorted Undefined)) (sym (lt-ltb operand known.keywords (omega arith))) ∙ item_is g
+  item_keyword g h = ap (choose (As unit) (Unsorted Undefined)) (sym (lt-ltb operand known.keywords (omega arith))) ∙ item_is g
 
   -- one that is not
-  pub item_unknown : {keyword_number : ℕ} → keyword_number ≡ operand → kind ≡ 0 → known.keywords ≤ keyword_number
-      → Unsorted Undefined ≡ item_at bs known heads L value
+  pub item_unknown : kind ≡ 0 → known.keywords ≤ operand → Unsorted Undefined ≡ item_at bs known heads L value
   unfolding item_by item_tests
-  item_unknown w g h = ap (choose (As unit) (Unsorted Undefined)) (sym (le-ltb operand known.keywords (omega arith))) ∙ item_is g
+  item_unknown g h = ap (choose (As unit) (Unsorted Undefined)) (sym (le-ltb operand known.keywords (omega arith))) ∙ item_is g
 
   -- an identifier at a sort
   pub item_ide : kind ≡ 1 → As operand ≡ item_at bs known heads L value
@@ -243,7 +193,7 @@ module _ (bs : List ℕ) (known : Known) (heads L value : List ℕ) {kind operan
 
 -- what is wrong with a result, where the sort asked is that of the signature's result
 pub result_is :
-    (bs : List ℕ) (known : Known) (L value room : List ℕ) {B : ℕ} {signature : List ℕ} {tested : Tested} → signature ≡ signature_at bs known.head
+    (bs : List ℕ) (known : Known) (L value room : List ℕ) {B : ℕ} {signature : List ℕ} {tested : Result ⊤ Fault} → signature ≡ signature_at bs known.head
     → B ≡ get_or signature 0 0 → 0 < length room
     → tested ≡ templates_fault known.outsides (take known.variables L) value (places (set room 0 B) 1) → tested ≡ result_at bs known L value
 unfolding result_at

@@ -4,6 +4,7 @@ use mathlib.Core.Path.{◌≡◌, refl, sym, ◌∙◌}
 use mathlib.Core.Bool.{Bool, true, false}
 use mathlib.Core.List.{List}
 use lib.ListN.{length}
+use Rattle.std.specs.Prelude.{Result, Ok, Err, ⊤}
 use Rattle.answers.specs.declared.Verdict.{Verdict}
 use Rattle.answers.specs.declared.Verdict.TheVariants.{Passed, Refused}
 use Rattle.answers.specs.Refusals.{refusal}
@@ -11,8 +12,6 @@ use Rattle.grammar.specs.declared.FieldSpan.{FieldSpan}
 use Rattle.grammar.specs.Lookup.{field_at, fields_at}
 use Rattle.grammar.proofs.LookupLaws.{Walk, walk_field, walk_end}
 use Rattle.bodies.specs.declared.Fault.{Fault}
-use Rattle.bodies.specs.declared.Tested.{Tested}
-use Rattle.bodies.specs.declared.Tested.TheVariants.{Sound, Faulty}
 use Rattle.bodies.specs.Faults.{cause_of}
 use Rattle.bodies.specs.HeadBytes.{ends_block, fault_at, heads_with, Defined, collected, collect_after, collect_from}
 use Rattle.bodies.proofs.TemplateInduction.{choose}
@@ -52,15 +51,15 @@ module _ {bs : List ℕ} {block from : ℕ} {heads₀ : List ℕ} {at : ℕ} {he
     pub collecting_ends : ends_block field.tag ≡ true → collected Passed heads ≡ collect_from (fields_at bs from) bs block heads₀
     collecting_ends e = field_is true e
 
-    module _ {tested : Tested} {heads' : List ℕ} (agrees : ends_block field.tag ≡ false)
+    module _ {tested : Result ⊤ Fault} {heads' : List ℕ} (agrees : ends_block field.tag ≡ false)
         (defined : Defined bs at field.tag block heads tested heads') where
       -- at a head that is refused
       pub collecting_fault :
-          {fault : Fault} {number : ℕ} {verdict : Verdict} → tested ≡ Faulty fault → number ≡ cause_of fault → verdict ≡ Refused (refusal number at 0 0)
+          {fault : Fault} {number : ℕ} {verdict : Verdict} → tested ≡ Err fault → number ≡ cause_of fault → verdict ≡ Refused (refusal number at 0 0)
           → collected verdict heads' ≡ collect_from (fields_at bs from) bs block heads₀
       collecting_fault f n q = cc (field_is false agrees, defined.tested_is, defined.heads_are)
 
       -- one field more
-      pub collecting_next : length heads' ≡ length heads → tested ≡ Sound → Collecting bs block from heads₀ field.to heads'
+      pub collecting_next : length heads' ≡ length heads → tested ≡ Ok tt → Collecting bs block from heads₀ field.to heads'
       collecting_next l z =
           record { as_many = l ∙ collecting.as_many; rest = cc (field_is false agrees, defined.tested_is, defined.heads_are) }

@@ -9,11 +9,10 @@ use lib.Dec.{eqb, leb, ltb}
 use lib.ListN.{length, get_or, take, drop, set, length-take, drop_of_length-le}
 use lib.Seq.{take_all, take-nil, take-take, drop-drop, set_out}
 use borrow.Author.Tests.{eq-eqb, ne_eqb}
+use Rattle.std.specs.Prelude.{Result, Ok, Err, ⊤}
 use Rattle.spellings.specs.Bytes.{same}
 use Rattle.bodies.specs.declared.Fault.{Fault}
 use Rattle.bodies.specs.declared.Fault.TheVariants.{NumberInUse, BadExtension}
-use Rattle.bodies.specs.declared.Tested.{Tested}
-use Rattle.bodies.specs.declared.Tested.TheVariants.{Sound, Faulty}
 use Rattle.bodies.specs.Faults.{tested_by}
 use Rattle.bodies.specs.HeadBytes.{value_at, signature_at, head_before, fault_of, Defined}
 use Rattle.bodies.proofs.TemplateInduction.{choose}
@@ -116,27 +115,27 @@ before_in_front bs heads block n e = cc e
 
 module _ (bs : List ℕ) (at tag block : ℕ) (heads : List ℕ) where
   -- no head
-  pub head_none : (tag ≡ 4 → ⊥) → Defined bs at tag block heads Sound heads
+  pub head_none : (tag ≡ 4 → ⊥) → Defined bs at tag block heads (Ok tt) heads
   head_none d =
       let e : eqb tag 4 ≡ false = ne_eqb tag 4 d in
       record { tested_is = cc; heads_are = cc }
 
-  module _ (equal : tag ≡ 4) {tested : Tested} (agrees : tested ≡ fault_of bs at block heads) where
+  module _ (equal : tag ≡ 4) {tested : Result ⊤ Fault} (agrees : tested ≡ fault_of bs at block heads) where
     head : eqb tag 4 ≡ true
     head = eq-eqb tag 4 equal
 
     -- a head that is refused is not kept
-    pub head_refused : {fault : Fault} → tested ≡ Faulty fault → Defined bs at tag block heads (Faulty fault) heads
+    pub head_refused : {fault : Fault} → tested ≡ Err fault → Defined bs at tag block heads (Err fault) heads
     head_refused f = record { tested_is = cc head; heads_are = refl }
 
-    module _ (sound : tested ≡ Sound) {nonterminal : ℕ} (numbered : nonterminal ≡ get_or bs (at + 3) 0) where
-      put : {heads' : List ℕ} → heads' ≡ set heads nonterminal at → Defined bs at tag block heads Sound heads'
+    module _ (sound : tested ≡ Ok tt) {nonterminal : ℕ} (numbered : nonterminal ≡ get_or bs (at + 3) 0) where
+      put : {heads' : List ℕ} → heads' ≡ set heads nonterminal at → Defined bs at tag block heads (Ok tt) heads'
       put p = record { tested_is = cc head; heads_are = cc head }
 
       -- one that is not refused is
-      pub head_put : Defined bs at tag block heads Sound (set heads nonterminal at)
+      pub head_put : Defined bs at tag block heads (Ok tt) (set heads nonterminal at)
       head_put = put refl
 
       -- a nonterminal past the heads is not kept
-      pub head_left : length heads ≤ nonterminal → Defined bs at tag block heads Sound heads
+      pub head_left : length heads ≤ nonterminal → Defined bs at tag block heads (Ok tt) heads
       head_left h = put (sym (set_out heads nonterminal at h))

@@ -9,16 +9,14 @@ use lib.Dec.{eqb, leb, ltb}
 use lib.ListN.{length, get_or, drop, set, length-set, drop_of_length-le}
 use lib.Seq.{drop-cons, get_or-set_same, get_or-set_other}
 use borrow.Author.Tests.{not-true, not-false, ltb-true, ltb-false, lt-ltb, le-ltb, eq-eqb, ne_eqb}
+use Rattle.std.specs.Prelude.{Option, Some, None, Result, Err, ⊤}
 use Rattle.spellings.proofs.BytesLaws.{by_test}
 use Rattle.grammar.specs.Sorts.{unit, var, label, constructor, arity}
 use Rattle.grammar.specs.SortTests.{fits}
 use Rattle.grammar.proofs.SortLaws.{arity_small}
 use Rattle.decoding.specs.Prefix.{is_name_tag}
+use Rattle.bodies.specs.declared.Fault.{Fault}
 use Rattle.bodies.specs.declared.Fault.TheVariants.{Undefined, WrongSort}
-use Rattle.bodies.specs.declared.Tested.{Tested}
-use Rattle.bodies.specs.declared.Tested.TheVariants.{Faulty}
-use Rattle.bodies.specs.declared.Filling.{Filling}
-use Rattle.bodies.specs.declared.Filling.TheVariants.{Unfit, Open}
 use Rattle.bodies.specs.Faults.{tested_by}
 use Rattle.bodies.specs.TemplateBytes.{is_closed_byte, names_next, closed_bytes, head_sort, head_params, fill_bytes, templates_fault}
 use Rattle.bodies.specs.TemplateBytes.{Places, ill_sorted, awaiting, fill_byte, places, places_at, height_of, is_filled, PlaceFilled, PlacesOpened}
@@ -36,8 +34,8 @@ ended bytes h = drop_of_length-le bytes h
 
 module _ (L : List ℕ) {byte : ℕ} where
   -- a variable has the sort that the list gives it
-  pub variable_sort : {sort variable_number : ℕ} → sort ≡ get_or L variable_number 0 → variable_number ≡ byte → byte < 16 → sort ≡ head_sort byte L
-  variable_sort e f h = cc (head_variable L byte (lt-ltb byte 16 h))
+  pub variable_sort : {sort : ℕ} → sort ≡ get_or L byte 0 → byte < 16 → sort ≡ head_sort byte L
+  variable_sort e h = cc (head_variable L byte (lt-ltb byte 16 h))
 
   -- an outside name is a Var
   pub name_sort : byte ≡ 16 → var ≡ head_sort byte L
@@ -142,47 +140,40 @@ places_top room (suc top) h =
 
 -- by the test of the sort
 fill_by :
-    (byte : ℕ) (L room : List ℕ) (filling : Filling) {top sort : ℕ} → filling ≡ Open top → (top ≡ 0 → ⊥) → sort ≡ head_sort byte L → (fitting : Bool)
-    → fits sort (get_or room (top - 1) 0) ≡ fitting
-    → choose (awaiting (head_params byte ++ places room (top - 1))) ill_sorted fitting ≡ fill_byte byte L (places_at room filling)
-fill_by byte L room filling {top} e some q fitting k = cc (places_top room top some)
+    (byte : ℕ) (L room : List ℕ) (filling : Option ℕ) {top under sort : ℕ} → filling ≡ Some top → 1 ≤ top → under ≡ top - 1
+    → sort ≡ head_sort byte L → (fitting : Bool) → fits sort (get_or room under 0) ≡ fitting
+    → choose (awaiting (head_params byte ++ places room under)) ill_sorted fitting ≡ fill_byte byte L (places_at room filling)
+fill_by byte L room filling {top} e some u q fitting k = cc (places_top room top (λ z. omega arith))
 
-module _ {byte : ℕ} {L room : List ℕ} {filling : Filling} where
+module _ {byte : ℕ} {L room : List ℕ} {filling : Option ℕ} where
   -- a template did not fit before
-  pub fill_unfit : filling ≡ Unfit → PlaceFilled byte L room filling room Unfit
+  pub fill_unfit : filling ≡ None → PlaceFilled byte L room filling room None
   fill_unfit e = record { small = omega arith; filled = cc }
 
-  module _ {top : ℕ} (open_places : filling ≡ Open top) where
+  module _ {top : ℕ} (open_places : filling ≡ Some top) where
     -- no place is open
-    pub fill_none : top ≡ 0 → PlaceFilled byte L room filling room Unfit
+    pub fill_none : (1 ≤ top → ⊥) → PlaceFilled byte L room filling room None
     unfolding places
-    fill_none z =
-        let e : filling ≡ Open 0 = cc in
-        record { small = omega arith; filled = sym (ap (λ (given : Filling). fill_byte byte L (places_at room given)) e) }
+    fill_none h =
+        let z : top ≡ 0 = omega arith in
+        let e : filling ≡ Some 0 = cc in
+        record { small = omega arith; filled = sym (ap (λ (given : Option ℕ). fill_byte byte L (places_at room given)) e) }
 
-    module _ (some : top ≡ 0 → ⊥) {sort : ℕ} (sorted : sort ≡ head_sort byte L) where
+    module _ {under : ℕ} (below : (1 ≤ top) × (under ≡ top - 1)) {sort : ℕ} (sorted : sort ≡ head_sort byte L) {fitting : Bool}
+        (tested : fitting ≡ fits sort (get_or room under 0)) where
       -- the template does not fit the place on top
-      pub fill_other : fits sort (get_or room (top - 1) 0) ≡ false → PlaceFilled byte L room filling room Unfit
-      fill_other k = record { small = omega arith; filled = fill_by byte L room filling open_places some sorted false k }
+      pub fill_other : fitting ≡ false → PlaceFilled byte L room filling room None
+      fill_other k = record { small = omega arith; filled = fill_by byte L room filling open_places below.0 below.1 sorted false (sym tested ∙ k) }
 
       -- it fits, and opens places of its own
-      pub fill_fits : {room' : List ℕ} {top' : ℕ} → fits sort (get_or room (top - 1) 0) ≡ true → PlacesOpened byte room (top - 1) room' top'
-          → PlaceFilled byte L room filling room' (Open top')
+      pub fill_fits : {room' : List ℕ} {top' : ℕ} → fitting ≡ true → PlacesOpened byte room under room' top'
+          → PlaceFilled byte L room filling room' (Some top')
       fill_fits k o =
           let high : height_of filling ≡ top = ap height_of open_places in
           record {
-            small = omega (arith, o.height, params_small byte);
-            filled = ap awaiting o.opened ∙ fill_by byte L room filling open_places some sorted true k;
+            small = omega (arith, o.height, params_small byte, below);
+            filled = ap awaiting o.opened ∙ fill_by byte L room filling open_places below.0 below.1 sorted true (sym tested ∙ k);
           }
-
--- all places are filled, or not
-pub filled_unfit : {filling : Filling} → filling ≡ Unfit → Faulty WrongSort ≡ tested_by (is_filled filling) WrongSort
-filled_unfit e = cc
-
--- by the number of places open
-pub filled_open : {filling : Filling} {top : ℕ} → filling ≡ Open top → (none : Bool) → eqb top 0 ≡ none → tested_by none WrongSort
-    ≡ tested_by (is_filled filling) WrongSort
-filled_open e none k = cc
 
 -- ------------------------------------------------------------------ both tests
 
@@ -212,14 +203,14 @@ left_byte byte bs L (awaiting (p ∷ ps)) = by (fits (head_sort byte L) p)
     by true = refl
     by false = refl
 
-left_end : (name : Bool) (L room : List ℕ) (filling : Filling) → is_filled filling ≡ fill_left name [] L (places_at room filling)
+left_end : (name : Bool) (L room : List ℕ) (filling : Option ℕ) → is_filled filling ≡ fill_left name [] L (places_at room filling)
 unfolding fill_bytes places
-left_end name L room Unfit = refl
-left_end name L room (Open zero) = refl
-left_end name L room (Open (suc top)) = ne_eqb (suc top) 0 (λ e. omega arith)
+left_end name L room None = refl
+left_end name L room (Some zero) = refl
+left_end name L room (Some (suc top)) = ne_eqb (suc top) 0 (λ e. omega arith)
 
 -- The bytes from `place` on and the places open give what all the bytes and the first places give.
-pub record Testing (bytes L : List ℕ) (outsides : ℕ) (room₀ : List ℕ) (start : ℕ) (room : List ℕ) (filling : Filling) (name : Bool) (place : ℕ) : Type 0 where
+pub record Testing (bytes L : List ℕ) (outsides : ℕ) (room₀ : List ℕ) (start : ℕ) (room : List ℕ) (filling : Option ℕ) (name : Bool) (place : ℕ) : Type 0 where
   -- the byte is within the template
   pub within : place ≤ length bytes
   -- the room is as long as it was
@@ -234,41 +225,41 @@ pub record Testing (bytes L : List ℕ) (outsides : ℕ) (room₀ : List ℕ) (s
 -- no byte yet
 pub testing_start :
     {bytes L room₀ : List ℕ} {outsides start : ℕ} → start + 2 * length bytes + 3 ≤ length room₀
-    → Testing bytes L outsides room₀ start room₀ (Open start) false 0
+    → Testing bytes L outsides room₀ start room₀ (Some start) false 0
 testing_start h = record { within = omega arith; as_many = refl; enough = omega arith; closed = refl; fills = refl }
 
 -- what is wrong, by the outcomes of both tests
 fault_by :
     (outsides : ℕ) (L bytes ps : List ℕ) (closed filled : Bool) → closed_bytes false bytes outsides (length L) ≡ closed → fill_bytes false bytes L ps ≡ filled
-    → choose (tested_by filled WrongSort) (Faulty Undefined) closed ≡ templates_fault outsides L bytes ps
+    → choose (tested_by filled WrongSort) (Err Undefined) closed ≡ templates_fault outsides L bytes ps
 unfolding templates_fault
 fault_by outsides L bytes ps closed filled e f =
     cc
 
-module _ {bytes L room₀ room : List ℕ} {outsides start place : ℕ} {filling : Filling} {name : Bool}
+module _ {bytes L room₀ room : List ℕ} {outsides start place : ℕ} {filling : Option ℕ} {name : Bool}
     (testing : Testing bytes L outsides room₀ start room filling name place) where
-  module _ (below : place < length bytes) {byte number : ℕ} (equal : byte ≡ get_or bytes place 0) (agrees : number ≡ byte) where
+  module _ (below : place < length bytes) {byte : ℕ} (equal : byte ≡ get_or bytes place 0) where
     closed_step :
-        (closed : Bool) → is_closed_byte name number outsides (length L) ≡ closed
+        (closed : Bool) → is_closed_byte name byte outsides (length L) ≡ closed
         → (closed && closed_bytes (names_next name byte) (drop (place + 1) bytes) outsides (length L)) ≡ closed_bytes false bytes outsides (length L)
     unfolding closed_bytes
     closed_step closed k =
         cc (front bytes place below equal, testing.closed)
 
-    open_fault : is_closed_byte name number outsides (length L) ≡ false → Faulty Undefined ≡ templates_fault outsides L bytes (places room₀ start)
+    open_fault : is_closed_byte name byte outsides (length L) ≡ false → Err Undefined ≡ templates_fault outsides L bytes (places room₀ start)
     open_fault k = fault_by outsides L bytes (places room₀ start) false _ (sym (closed_step false k)) refl
 
     -- a name that is not defined
-    pub testing_unnamed : name ≡ true → outsides ≤ number → Faulty Undefined ≡ templates_fault outsides L bytes (places room₀ start)
-    testing_unnamed e h = open_fault (rw e (le-ltb number outsides h))
+    pub testing_unnamed : name ≡ true → outsides ≤ byte → Err Undefined ≡ templates_fault outsides L bytes (places room₀ start)
+    testing_unnamed e h = open_fault (rw e (le-ltb byte outsides h))
 
     -- a variable that is not
     pub testing_unbound :
-        name ≡ false → not (leb 16 number || ltb number (length L)) ≡ true → Faulty Undefined ≡ templates_fault outsides L bytes (places room₀ start)
+        name ≡ false → not (leb 16 byte || ltb byte (length L)) ≡ true → Err Undefined ≡ templates_fault outsides L bytes (places room₀ start)
     testing_unbound e k = open_fault (rw e (not-true _ k))
 
     -- one byte more
-    next : (room' : List ℕ) (filling' : Filling) → is_closed_byte name number outsides (length L) ≡ true → length room' ≡ length room
+    next : (room' : List ℕ) (filling' : Option ℕ) → is_closed_byte name byte outsides (length L) ≡ true → length room' ≡ length room
         → height_of filling' ≤ height_of filling + 2
         → fill_left (names_next name byte) (drop (place + 1) bytes) L (places_at room' filling') ≡ fill_left name (byte ∷ drop (place + 1) bytes) L
         (places_at room filling)
@@ -283,14 +274,14 @@ module _ {bytes L room₀ room : List ℕ} {outsides start place : ℕ} {filling
         }
 
     -- a name's number more
-    pub testing_number : name ≡ true → number < outsides → Testing bytes L outsides room₀ start room filling false (place + 1)
+    pub testing_number : name ≡ true → byte < outsides → Testing bytes L outsides room₀ start room filling false (place + 1)
     testing_number e h =
         let left = left_number byte (drop (place + 1) bytes) L (places_at room filling) in
-        rw e at (next room filling (rw e (lt-ltb number outsides h)) refl (omega arith) (rw e left))
+        rw e at (next room filling (rw e (lt-ltb byte outsides h)) refl (omega arith) (rw e left))
 
     -- any other byte more
     pub testing_next :
-        {room' : List ℕ} {filling' : Filling} → name ≡ false → not (leb 16 number || ltb number (length L)) ≡ false → length room' ≡ length room
+        {room' : List ℕ} {filling' : Option ℕ} → name ≡ false → not (leb 16 byte || ltb byte (length L)) ≡ false → length room' ≡ length room
         → PlaceFilled byte L room filling room' filling' → Testing bytes L outsides room₀ start room' filling' (is_name_tag byte) (place + 1)
     testing_next {room'} {filling'} e k l f =
         rw e at
@@ -298,7 +289,7 @@ module _ {bytes L room₀ room : List ℕ} {outsides start place : ℕ} {filling
         (rw e (cc (f.filled, left_byte byte (drop (place + 1) bytes) L (places_at room filling)))))
 
   -- all bytes are passed
-  pub testing_end : length bytes ≤ place → {tested : Tested} → tested ≡ tested_by (is_filled filling) WrongSort
+  pub testing_end : length bytes ≤ place → {tested : Result ⊤ Fault} → tested ≡ tested_by (is_filled filling) WrongSort
       → tested ≡ templates_fault outsides L bytes (places room₀ start)
   unfolding closed_bytes
   testing_end h e =

@@ -1,22 +1,21 @@
 -- Items and results, read off the bytes of a table. The environment is a list of offsets: at the place of a nonterminal the offset of its
 -- newest definition's head, or 0. The sorts of the variables stand at the front of a room, as many as are known. Nobody needs this file to
 -- believe `expand`.
-use Rattle.std.specs.Prelude.{ℕ, ◌+◌, ◌-◌, ◌≤◌, ◌≡◌, true, false, List, [], ◌∷◌, ◌++◌, eqb, ltb, length, get_or, set, take, drop}
+use Rattle.std.specs.Prelude.{ℕ, ◌+◌, ◌-◌, ◌≤◌, ◌≡◌, true, false, List, [], ◌∷◌, ◌++◌, eqb, ltb, length, get_or, set, take, drop, Result, Ok, Err, ⊤}
 use Rattle.grammar.specs.Sorts.{unit, binder, num}
 use Rattle.grammar.specs.Variables.{most_variables}
 use Rattle.bodies.specs.declared.Known.{Known}
 use Rattle.bodies.specs.declared.ItemSort.{ItemSort}
 use Rattle.bodies.specs.declared.ItemSort.TheVariants.{As, Unsorted}
+use Rattle.bodies.specs.declared.Fault.{Fault}
 use Rattle.bodies.specs.declared.Fault.TheVariants.{Undefined}
-use Rattle.bodies.specs.declared.Tested.{Tested}
-use Rattle.bodies.specs.declared.Tested.TheVariants.{Sound, Faulty}
 use Rattle.bodies.specs.TemplateBytes.{templates_fault, places}
 use Rattle.bodies.specs.HeadBytes.{signature_at}
 
 -- a sort, unless there is a fault
-abbrev pub unless_faulty : ℕ → Tested → ItemSort
-unless_faulty s Sound = As s
-unless_faulty s (Faulty fault) = Unsorted fault
+abbrev pub unless_faulty : ℕ → Result ⊤ Fault → ItemSort
+unless_faulty s (Ok tt) = As s
+unless_faulty s (Err fault) = Unsorted fault
 
 -- a call of n with its arguments' bytes, where k is known, H has the heads and L is the room of the sorts
 unfoldable pub call_at : List ℕ → Known → List ℕ → List ℕ → ℕ → List ℕ → ItemSort
@@ -50,7 +49,7 @@ item_at bs k H L v =
     ]
 
 -- what is wrong with a result, by its value
-unfoldable pub result_at : List ℕ → Known → List ℕ → List ℕ → Tested
+unfoldable pub result_at : List ℕ → Known → List ℕ → List ℕ → Result ⊤ Fault
 result_at bs k L v = templates_fault k.outsides (take k.variables L) v (get_or (signature_at bs k.head) 0 0 ∷ [])
 
 -- the places of a signature's parameters on an empty stack

@@ -1,14 +1,11 @@
 -- The tests of templates, byte by byte on their prefix form, as the code makes them. On whole templates they are `are_closed` and
 -- `fill` (proofs/TemplatesByBytes.antt). Nobody needs this file to believe `expand`.
-use Rattle.std.specs.Prelude.{ℕ, zero, suc, ◌+◌, ◌≤◌, ◌≡◌, Bool, true, false, not, ◌&&◌, ◌||◌, List, [], ◌∷◌, ◌++◌, eqb, leb, ltb, length, get_or}
+use Rattle.std.specs.Prelude.{ℕ, zero, suc, ◌+◌, ◌≤◌, ◌≡◌, Bool, true, false, not, ◌&&◌, ◌||◌, List, [], ◌∷◌, ◌++◌, eqb, leb, ltb, length, get_or, Option, Some, None, Result, Err, ⊤}
 use Rattle.grammar.specs.Sorts.{unit, var, label, constructor}
 use Rattle.grammar.specs.SortTests.{fits}
 use Rattle.decoding.specs.Prefix.{is_name_tag}
+use Rattle.bodies.specs.declared.Fault.{Fault}
 use Rattle.bodies.specs.declared.Fault.TheVariants.{Undefined, WrongSort}
-use Rattle.bodies.specs.declared.Tested.{Tested}
-use Rattle.bodies.specs.declared.Tested.TheVariants.{Faulty}
-use Rattle.bodies.specs.declared.Filling.{Filling}
-use Rattle.bodies.specs.declared.Filling.TheVariants.{Unfit, Open}
 use Rattle.bodies.specs.Faults.{tested_by}
 
 -- ------------------------------------------------------------------ variables and names
@@ -54,9 +51,9 @@ fill_bytes false (b ∷ bs) L (p ∷ ps) = fits (head_sort b L) p && fill_bytes 
 -- ------------------------------------------------------------------ both tests in one pass
 
 -- what is wrong with templates that are to fill places: what is not defined comes before sorts and counts
-unfoldable pub templates_fault : ℕ → List ℕ → List ℕ → List ℕ → Tested
+unfoldable pub templates_fault : ℕ → List ℕ → List ℕ → List ℕ → Result ⊤ Fault
 templates_fault N L v ps =
-    elim (closed_bytes false v N (length L)) [ true ↦ tested_by (fill_bytes false v L ps) WrongSort | false ↦ Faulty Undefined ]
+    elim (closed_bytes false v N (length L)) [ true ↦ tested_by (fill_bytes false v L ps) WrongSort | false ↦ Err Undefined ]
 
 -- the places open, until a template does not fit its place
 pub data Places : Type 0 where
@@ -75,22 +72,22 @@ places room zero = []
 places room (suc k) = get_or room k 0 ∷ places room k
 
 -- the places open as the code has them: a room, and their number
-abbrev pub places_at : List ℕ → Filling → Places
-places_at room Unfit = ill_sorted
-places_at room (Open k) = awaiting (places room k)
+abbrev pub places_at : List ℕ → Option ℕ → Places
+places_at room None = ill_sorted
+places_at room (Some k) = awaiting (places room k)
 
 -- the number of places open
-abbrev pub height_of : Filling → ℕ
-height_of Unfit = 0
-height_of (Open k) = k
+abbrev pub height_of : Option ℕ → ℕ
+height_of None = 0
+height_of (Some k) = k
 
 -- no template did not fit, and no place is open
-abbrev pub is_filled : Filling → Bool
-is_filled Unfit = false
-is_filled (Open k) = eqb k 0
+abbrev pub is_filled : Option ℕ → Bool
+is_filled None = false
+is_filled (Some k) = eqb k 0
 
 -- what the byte that begins a template does to the places open
-pub record PlaceFilled (b : ℕ) (L room : List ℕ) (filling : Filling) (room' : List ℕ) (filling' : Filling) : Type 0 where
+pub record PlaceFilled (b : ℕ) (L room : List ℕ) (filling : Option ℕ) (room' : List ℕ) (filling' : Option ℕ) : Type 0 where
   pub small : height_of filling' ≤ height_of filling + 2
   pub filled : places_at room' filling' ≡ fill_byte b L (places_at room filling)
 

@@ -3,14 +3,13 @@ ghost use Rattle.std.specs.Prelude.{◌+◌, ◌≤◌, ◌≡◌, length, get_o
 ghost use Rattle.grammar.specs.Limits.{most};
 ghost use Rattle.bodies.specs.HeadBytes.{signature_at, head_before, fault_of, Defined, collected, collect_at};
 
-use crate::faults::cause_of;
-use crate::{Fault, Tested};
+use crate::Fault;
 use answers::{Verdict, refused};
 use grammar::codes::{BLOCK_TAG, EXTEND, HEAD_TAG, HEADER, ROOT_TAG, UPDATE};
 use grammar::field_at;
 use grammar::limits::MOST_PARAMETERS;
 use grammar::reader::{byte, part};
-use spellings::{equal, wide_byte};
+use spellings::equal;
 
 // A head's nonterminal, its mode and its signature, from the offset of the head on; the signature is a sort and those of the parameters.
 const NONTERMINAL: usize = HEADER;
@@ -33,7 +32,7 @@ pub fn signature_at(table: &[u8], at: usize) -> &[u8]
     if table.len() <= at {
         return part(table, at, 0);
     }
-    let size = wide_byte(byte(table, at + 1)) * 256 + wide_byte(byte(table, at + 2));
+    let size = byte(table, at + 1) as usize * 256 + byte(table, at + 2) as usize;
     if size < BEFORE_SIGNATURE {
         return part(table, at + SIGNATURE, 0);
     }
@@ -47,7 +46,7 @@ pub fn signature_at(table: &[u8], at: usize) -> &[u8]
 pub fn head_of(heads: &[u16], n: u8) -> usize
     ensures { result ≡ get_or heads.now n 0 }
 {
-    let i = wide_byte(n);
+    let i = n as usize;
     if i < heads.len() {
         heads[i] as usize
     } else {
@@ -69,7 +68,7 @@ pub fn head_before(table: &[u8], heads: &[u16], block: usize, n: u8) -> usize
 }
 
 // What is wrong with the head at an offset, in the block that begins at `block`.
-fn fault_of(table: &[u8], at: usize, block: usize, heads: &[u16]) -> Tested
+fn fault_of(table: &[u8], at: usize, block: usize, heads: &[u16]) -> Result<(), Fault>
     requires { at ≤ most.bytes }
     ensures { result ≡ fault_of table.now at block heads.now }
 {
@@ -79,35 +78,31 @@ fn fault_of(table: &[u8], at: usize, block: usize, heads: &[u16]) -> Tested
     if (mode == EXTEND) | (mode == UPDATE) {
         let alike = equal(signature_at(table, h), signature_at(table, at));
         if (h <= block) & (0 < h) & alike {
-            Tested::Sound
+            Ok(())
         } else {
-            Tested::Faulty(Fault::BadExtension)
+            Err(Fault::BadExtension)
         }
     } else if h == 0 {
-        Tested::Sound
+        Ok(())
     } else {
-        Tested::Faulty(Fault::NumberInUse)
+        Err(Fault::NumberInUse)
     }
 }
 
 // A field at an offset: a head goes among the heads, if nothing is wrong with it.
-fn define(heads: &mut [u16], table: &[u8], at: usize, tag: u8, block: usize) -> Tested
+fn define(heads: &mut [u16], table: &[u8], at: usize, tag: u8, block: usize) -> Result<(), Fault>
     requires { at ≤ most.bytes }
     ensures { Defined table.now at tag block heads.old result heads.new }
 {
     if tag != HEAD_TAG {
-        return Tested::Sound;
+        return Ok(());
     }
-    let tested = fault_of(table, at, block, heads);
-    match tested {
-        Tested::Faulty(fault) => return Tested::Faulty(fault),
-        Tested::Sound => {}
-    }
-    let n = wide_byte(byte(table, at + NONTERMINAL));
+    fault_of(table, at, block, heads)?;
+    let n = byte(table, at + NONTERMINAL) as usize;
     if n < heads.len() {
         heads[n] = at as u16;
     }
-    Tested::Sound
+    Ok(())
 }
 
 // The heads of the block that begins at an offset, from its first field on.
@@ -122,15 +117,10 @@ pub fn collect(heads: &mut [u16], table: &[u8], block: usize, from: usize) -> Ve
         if (tag == BLOCK_TAG) | (tag == ROOT_TAG) {
             return Verdict::Passed;
         }
-        let tested = define(heads, table, at, tag, block);
-        match tested {
-            Tested::Faulty(fault) => {
-                return refused(cause_of(fault), at);
-            }
-            Tested::Sound => {
-                at = field.to;
-            }
+        if let Err(fault) = define(heads, table, at, tag, block) {
+            return refused(fault.into(), at);
         }
+        at = field.to;
     }
     Verdict::Passed
 }

@@ -1,8 +1,8 @@
 -- The check of a table from what the layers below answer, for the code.
 use Prim.Native.Nat.{ℕ}
 use mathlib.Core.Path.{◌≡◌, refl, sym, ◌∙◌, ap}
-use mathlib.Core.Bool.{Bool, true, false, true≢false}
 use mathlib.Core.List.{List}
+use Rattle.std.specs.Prelude.{Some, None, IsSome, is_some}
 use Rattle.answers.specs.declared.Refusal.{Refusal}
 use Rattle.answers.specs.declared.Verdict.{Verdict}
 use Rattle.answers.specs.declared.Verdict.TheVariants.{Passed, Refused}
@@ -20,9 +20,7 @@ use Rattle.decoding.proofs.Inverse.{layout_encoded, decode_encoded}
 use Rattle.elaboration.specs.CheckSequence.{check_sorts}
 use Rattle.elaboration.proofs.SortTheorems.{sorts_exactly}
 use Rattle.elaboration.proofs.Elaborated.{elaborated_blocks}
-use Rattle.sorts.specs.declared.Finding.{Finding}
-use Rattle.sorts.specs.declared.Finding.TheVariants.{Judged, TextMet}
-use Rattle.sorts.specs.ByBytes.{sorts_of}
+use Rattle.sorts.specs.ByBytes.{sorts_of, Finding}
 use Rattle.sorts.proofs.SortedBytes.{found, bytes_checked}
 use Rattle.clashes.specs.CheckFirsts.{check_firsts}
 use Rattle.productions.specs.Index.{places_in, places_of}
@@ -84,31 +82,27 @@ module _ (bs : List ℕ) where
     sorts_here = bytes_checked bs bytes encoded.0 decoded
 
     -- its verdict
-    judged_here : {given_verdict : Verdict} → sorts_of bs ≡ Judged given_verdict → verdict (check_sorts encoded.0) ≡ given_verdict
+    judged_here : {given_verdict : Verdict} → sorts_of bs ≡ Some given_verdict → verdict (check_sorts encoded.0) ≡ given_verdict
     judged_here e = ap judgement (sym sorts_here ∙ e)
       where
         judgement : Finding → Verdict
-        judgement (Judged v) = v
-        judgement TextMet = Passed
+        judgement (Some v) = v
+        judgement None = Passed
 
     -- no text is met
-    pub no_text : sorts_of bs ≡ TextMet → ⊥
-    no_text e = true≢false (ap is_judged (sym sorts_here ∙ e))
-      where
-        is_judged : Finding → Bool
-        is_judged (Judged v) = true
-        is_judged TextMet = false
+    pub no_text : {finding : Finding} → finding ≡ sorts_of bs → IsSome finding
+    no_text e = ap is_some (e ∙ sorts_here)
 
-    refused_sorts : (refusal : Refusal) → sorts_of bs ≡ Judged (Refused refusal) → check bs ≡ Refused refusal
+    refused_sorts : (refusal : Refusal) → sorts_of bs ≡ Some (Refused refusal) → check bs ≡ Refused refusal
     refused_sorts refusal e = refused_by_sorts bs encoded.0 refusal decoded (refused_bad (check_sorts encoded.0) refusal (judged_here e))
 
-    room_left : (refusal : Refusal) → sorts_of bs ≡ Judged (Refused refusal) → (room : List ℕ) → room ≡ room_after bs room
+    room_left : (refusal : Refusal) → sorts_of bs ≡ Some (Refused refusal) → (room : List ℕ) → room ≡ room_after bs room
     unfolding room_after
     room_left refusal e room =
         cc (refused_bad (check_sorts encoded.0) refusal (judged_here e), decoded)
 
     -- and so does one refused for its sorts
-    pub into_sorts : (refusal : Refusal) → sorts_of bs ≡ Judged (Refused refusal) → (room : List ℕ) → CheckedInto bs room room (Refused refusal)
+    pub into_sorts : (refusal : Refusal) → sorts_of bs ≡ Some (Refused refusal) → (room : List ℕ) → CheckedInto bs room room (Refused refusal)
     into_sorts refusal e room =
         record { answer = sym (refused_sorts refusal e); held = room_left refusal e room; whole = λ p. never refusal p }
 
@@ -129,7 +123,7 @@ module _ (bs : List ℕ) where
     pub indexed : productions_in bs ≡ normalized (templated encoded.0.blocks)
     indexed = cc (productions_at_lem bs, encoded.1, normalized_by_lem encoded.0 encoded.2)
 
-    module _ (sorted : sorts_of bs ≡ Judged Passed) where
+    module _ (sorted : sorts_of bs ≡ Some Passed) where
       -- what its check of sorts answers
       sorts_ok : (made : Table) × (check_sorts encoded.0 ≡ ok made)
       sorts_ok = passed_ok (check_sorts encoded.0) (judged_here sorted)

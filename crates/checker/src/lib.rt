@@ -14,7 +14,7 @@ use grammar::limits::EACH_ALTERNATIVE;
 use layout::check_layout;
 use productions::index::build_index;
 use productions::room::ROOM;
-use sorts::{Finding, check_sorts};
+use sorts::check_sorts;
 
 // Checks a table, for any bytes, and lays in one lent room what an expansion needs of its grammar. The room is written where layout and
 // sorts are right, and else stays as it was. This rules out that a refused table passes, and that the room of one table holds another's.
@@ -22,17 +22,13 @@ pub fn check_into(table: &[u8], room: &mut [u64; ROOM]) -> Verdict
     ensures { CheckedInto table.now room.old room.new result }
 {
     let laid = check_layout(table);
-    match laid {
-        Verdict::Refused(r) => return Verdict::Refused(r),
-        Verdict::Passed => {}
+    if let Verdict::Refused(_) = laid {
+        return laid;
     }
     // The layout passes no text, so that the check of sorts meets none.
-    let Finding::Judged(sorted) = check_sorts(table) else {
-        return Verdict::Passed;
-    };
-    match sorted {
-        Verdict::Refused(q) => return Verdict::Refused(q),
-        Verdict::Passed => {}
+    let sorted = check_sorts(table).unwrap();
+    if let Verdict::Refused(_) = sorted {
+        return sorted;
     }
     let mut owners = [0u8; EACH_ALTERNATIVE];
     let mut starts = [0u16; EACH_ALTERNATIVE];

@@ -7,6 +7,7 @@ use native.Mathlib.Omega.{arith}
 use lib.Dec.{eqb, leb, ltb, eqb-suc-zero}
 use lib.ListN.{length, get_or, take, drop}
 use borrow.Author.Tests.{lt-leb}
+use Rattle.std.specs.Prelude.{⊤, Result, Err}
 use Rattle.answers.specs.Refusals.{refusal}
 use Rattle.answers.specs.Checked.{Checked, ok, bad, ◌>>◌, need, verdict}
 use Rattle.spellings.proofs.BytesLaws.{by_test}
@@ -26,9 +27,8 @@ use Rattle.elaboration.specs.CheckSequence.{check_result, check_root}
 use Rattle.bodies.specs.declared.Known.{Known}
 use Rattle.bodies.specs.declared.ItemSort.{ItemSort}
 use Rattle.bodies.specs.declared.ItemSort.TheVariants.{As, Unsorted}
+use Rattle.bodies.specs.declared.Fault.{Fault}
 use Rattle.bodies.specs.declared.Fault.TheVariants.{Undefined, WrongSort}
-use Rattle.bodies.specs.declared.Tested.{Tested}
-use Rattle.bodies.specs.declared.Tested.TheVariants.{Faulty}
 use Rattle.bodies.specs.Faults.{cause_of, tested_by, verdict_of}
 use Rattle.bodies.specs.TemplateBytes.{fill_bytes, templates_fault}
 use Rattle.bodies.specs.HeadBytes.{signature_at}
@@ -55,8 +55,8 @@ sorted_at at (As s) = ok s
 sorted_at at (Unsorted fault) = bad (refusal (cause_of fault) at 0 0)
 
 -- 9 before 11, by the outcomes of the tests
-abbrev fault_by : Bool → Bool → Tested
-fault_by closed filled = choose (tested_by filled WrongSort) (Faulty Undefined) closed
+abbrev fault_by : Bool → Bool → Result ⊤ Fault
+fault_by closed filled = choose (tested_by filled WrongSort) (Err Undefined) closed
 
 call_by :
     (at sort : ℕ) (defined closed filled : Bool)
@@ -73,7 +73,7 @@ result_by at made true true = refl
 result_by at made true false = refl
 result_by at made false filled = refl
 
-root_by : (at : ℕ) (defined fitting : Bool) → verdict_of at (choose (Faulty Undefined) (tested_by fitting WrongSort) (not defined))
+root_by : (at : ℕ) (defined fitting : Bool) → verdict_of at (choose (Err Undefined) (tested_by fitting WrongSort) (not defined))
     ≡ verdict (need defined 9 at >> need fitting 11 at)
 root_by at true true = refl
 root_by at true false = refl

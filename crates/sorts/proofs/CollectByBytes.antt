@@ -7,6 +7,8 @@ use lib.Dec.{eqb, leb}
 use lib.ListN.{length, get_or, set}
 use lib.Seq.{get_or-set_same, get_or-set_other, set_out}
 use borrow.Author.Tests.{eqb-true, eqb-false, leb-true, leb-false}
+use Rattle.bodies.specs.declared.Fault.{Fault}
+use Rattle.std.specs.Prelude.{⊤, Result, Ok, Err}
 use Rattle.answers.specs.declared.Verdict.TheVariants.{Passed, Refused}
 use Rattle.answers.specs.Checked.{Checked, ok, bad, ◌>>◌}
 use Rattle.spellings.proofs.BytesLaws.{by_test}
@@ -19,8 +21,6 @@ use Rattle.decoding.proofs.Split.{spread}
 use Rattle.judgements.specs.CheckSorts.{collect}
 use Rattle.judgements.specs.Scopes.{Env, entry_of}
 use Rattle.judgements.specs.Sizes.{field_size, definition_size, definitions_size}
-use Rattle.bodies.specs.declared.Tested.{Tested}
-use Rattle.bodies.specs.declared.Tested.TheVariants.{Sound, Faulty}
 use Rattle.bodies.specs.HeadBytes.{fault_of, with_head, Collected, collected, collect_after, collect_from}
 use Rattle.sorts.proofs.PlacedFields.{Placed, Part, part_begin, part_item, part_result, part_text, over_alternatives}
 use Rattle.sorts.proofs.HeadsByBytes.{check_of, Collects, head_same, head_more}
@@ -60,10 +60,10 @@ module _ (bs : List ℕ) (E : Env) (block : ℕ) (follow : List Field)
     (ends : (at : ℕ) (heads : List ℕ) → collect_from (spread at follow) bs block heads ≡ collected Passed heads) where
   -- refused by both, or one more
   refused_or_more :
-      (limit : ℕ) (tested : Tested) (at : ℕ) (heads : List ℕ) (checked : Checked Env) (more : Collected)
-      → (tested ≡ Sound → Agree bs E block limit checked more) → Agree bs E block limit (check_of at tested >> checked) (collect_after tested at heads more)
-  refused_or_more limit Sound at heads checked more a = a refl
-  refused_or_more limit (Faulty fault) at heads checked more a = refl
+      (limit : ℕ) (tested : Result ⊤ Fault) (at : ℕ) (heads : List ℕ) (checked : Checked Env) (more : Collected)
+      → (tested ≡ Ok tt → Agree bs E block limit checked more) → Agree bs E block limit (check_of at tested >> checked) (collect_after tested at heads more)
+  refused_or_more limit (Ok tt) at heads checked more a = a refl
+  refused_or_more limit (Err fault) at heads checked more a = refl
 
   -- the heads of a block are collected from the bytes as from its definitions
   pub collect_agrees :

@@ -9,6 +9,7 @@ use lib.Dec.{eqb, leb, ltb}
 use lib.ListN.{length, get_or, drop, set, length-set, length-take}
 use lib.Seq.{take_all, get_or-drop, get_or-take, get_or-set_same, get_or-set_other}
 use borrow.Author.Tests.{eqb-true, eqb-false, eq-eqb, ne_eqb, lt-ltb, ltb-true, ltb-false, lt-leb, not-true}
+use Rattle.std.specs.Prelude.{⊤, Result, Ok, Err}
 use Rattle.answers.specs.Refusals.{refusal}
 use Rattle.answers.specs.Checked.{Checked, ok, bad, need}
 use Rattle.spellings.specs.Bytes.{same}
@@ -23,8 +24,6 @@ use Rattle.judgements.specs.Scopes.{Declaration, Env, entry_of}
 use Rattle.judgements.proofs.Environments.{defined_here, defined_later, signature_here, signature_later}
 use Rattle.bodies.specs.declared.Fault.{Fault}
 use Rattle.bodies.specs.declared.Fault.TheVariants.{NumberInUse, BadExtension}
-use Rattle.bodies.specs.declared.Tested.{Tested}
-use Rattle.bodies.specs.declared.Tested.TheVariants.{Sound, Faulty}
 use Rattle.bodies.specs.Faults.{cause_of, tested_by}
 use Rattle.bodies.specs.HeadBytes.{value_at, signature_at, head_before, fault_of, with_head}
 use Rattle.bodies.proofs.HeadLaws.{fault_earlier, fault_new, before_kept, before_same_head}
@@ -96,9 +95,9 @@ append_signature (e ∷ own) E nonterminal h =
     (λ q. signature_later e (own ++ E) nonterminal q ∙ append_signature own E nonterminal (sym (defined_later e own nonterminal q) ∙ h))
 
 -- what a test finds at an offset, as a check
-abbrev pub check_of : ℕ → Tested → Checked (Unit {0})
-check_of at Sound = ok tt
-check_of at (Faulty fault) = bad (refusal (cause_of fault) at 0 0)
+abbrev pub check_of : ℕ → Result ⊤ Fault → Checked (Unit {0})
+check_of at (Ok tt) = ok tt
+check_of at (Err fault) = bad (refusal (cause_of fault) at 0 0)
 
 -- what a block has defined lies behind its beginning
 pub record Collects (bs : List ℕ) (E own : Env) (block : ℕ) (known_heads : List ℕ) : Type 0 where
@@ -112,13 +111,13 @@ pub record Collects (bs : List ℕ) (E own : Env) (block : ℕ) (known_heads : L
   pub before : (nonterminal : ℕ) → nonterminal < 64 → KnowsHead bs E (head_before bs known_heads block nonterminal) nonterminal
 
 -- a test that finds nothing
-tested_sound : (test : Bool) (fault : Fault) → tested_by test fault ≡ Sound → test ≡ true
+tested_sound : (test : Bool) (fault : Fault) → tested_by test fault ≡ Ok tt → test ≡ true
 tested_sound true fault e = refl
 tested_sound false fault e = absurd (true≢false (sym (ap is_sound e)))
   where
-    is_sound : Tested → Bool
-    is_sound Sound = true
-    is_sound (Faulty other) = false
+    is_sound : Result ⊤ Fault → Bool
+    is_sound (Ok tt) = true
+    is_sound (Err other) = false
 
 -- three tests, each of which is asked only after those before it
 three :
@@ -203,7 +202,7 @@ module _ (bs : List ℕ) (E own : Env) (block : ℕ) (known_heads : List ℕ) (c
       by update q = before_outcome q refl
 
   -- one head more, if nothing is wrong with it
-  module _ (later : block < at) (sound : fault_of bs at block known_heads ≡ Sound) where
+  module _ (later : block < at) (sound : fault_of bs at block known_heads ≡ Ok tt) where
     abbrev e : Declaration
     e = entry_of definition
 

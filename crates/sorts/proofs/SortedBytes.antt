@@ -10,6 +10,7 @@ use lib.Dec.{ltb}
 use lib.ListN.{length, get_or, drop, set, length-append, length-drop, length-set, replicate, length-replicate}
 use lib.Seq.{take_at, take-suc-set}
 use borrow.Author.Tests.{le-leb, lt-ltb}
+use Rattle.std.specs.Prelude.{Some}
 use Rattle.answers.specs.declared.Verdict.TheVariants.{Passed, Refused}
 use Rattle.answers.specs.Checked.{Checked, ok, bad, ◌>>=◌, ◌>>◌, verdict}
 use Rattle.grammar.specs.Sorts.{Signature}
@@ -37,9 +38,7 @@ use Rattle.bodies.specs.declared.ItemSort.TheVariants.{As, Unsorted}
 use Rattle.bodies.specs.HeadBytes.{signature_at, Collected, collected, collect_from}
 use Rattle.bodies.specs.BodyBytes.{one_more, item_at}
 use Rattle.bodies.proofs.HeadLaws.{before_in_front}
-use Rattle.sorts.specs.declared.Finding.{Finding}
-use Rattle.sorts.specs.declared.Finding.TheVariants.{Judged}
-use Rattle.sorts.specs.ByBytes.{stepped, counting, verdict_step, after_block, after_item, step_at, go_on, sorts_from, sorts_of}
+use Rattle.sorts.specs.ByBytes.{stepped, counting, verdict_step, after_block, after_item, step_at, go_on, sorts_from, sorts_of, Finding}
 use Rattle.sorts.proofs.StepLaws.{sorts_short}
 use Rattle.sorts.proofs.PlacedFields.{Placed, over_alternatives, placed_fields}
 use Rattle.sorts.proofs.HeadsByBytes.{bytes_of, KnowsHead, Knows, Collects, head_signature}
@@ -51,11 +50,11 @@ use Rattle.sorts.proofs.BodiesByBytes.{known_of, Carries, sorted_at, item_agrees
 -- what comes after a check that passes
 abbrev after : {A : Type 0} → Checked A → (A → Finding) → Finding
 after (ok a) f = f a
-after (bad r) f = Judged (Refused r)
+after (bad r) f = Some (Refused r)
 
 -- what a check finds
 abbrev pub found : {A : Type 0} → Checked A → Finding
-found checked = Judged (verdict checked)
+found checked = Some (verdict checked)
 
 after_bind : {A B : Type 0} (first : Checked A) (second : A → Checked B) (last : B → Finding)
     → after first (λ a. after (second a) last) ≡ after (first >>= second) last
@@ -247,7 +246,7 @@ module _ (bs : List ℕ) (root : ℕ) (low : root < 64) (whole : List (List Defi
   block_goes E block limit known room rest (ok own) (collected Passed heads) (c, b) last f = f own heads c b
   block_goes E block limit known room rest (ok own) (collected (Refused r) heads) a last f = absurd a
   block_goes E block limit known room rest (bad r) (collected Passed heads) a last f = absurd a
-  block_goes E block limit known room rest (bad r) (collected (Refused q) heads) a last f = ap (λ p. Judged (Refused p)) (sym a)
+  block_goes E block limit known room rest (bad r) (collected (Refused q) heads) a last f = ap (λ p. Some (Refused p)) (sym a)
 
   -- behind the blocks the root is checked
   abbrev root_after : ℕ → Before → Checked Table
@@ -264,7 +263,7 @@ module _ (bs : List ℕ) (root : ℕ) (low : root < 64) (whole : List (List Defi
   unfolding spread blocks_then sorts_from step_at check_blocks blocks_size is_defined
   blocks_sorted each_none P heads at s p head count room r =
       rw (add-zero at)
-      (ap Judged (root_agrees bs (scope_after P []) heads s.knows at root low) ∙ value_given (check_root P.env at root) (whole P.blocks))
+      (ap Some (root_agrees bs (scope_after P []) heads s.knows at root low) ∙ value_given (check_root P.env at root) (whole P.blocks))
   blocks_sorted (each_more {x = b} {xs = blocks} w ws) P heads at s p head count room r =
       let E : Env = P.env in
       let behind : ℕ = at + 3 + definitions_size b in

@@ -7,6 +7,7 @@ use native.Mathlib.Omega.{arith}
 use lib.Dec.{eqb, leb}
 use lib.ListN.{length, get_or, replicate}
 use borrow.Author.Tests.{le-leb, lt-leb, eq-eqb, ne_eqb}
+use Rattle.std.specs.Prelude.{⊤, Some, None, Result, Ok, Err}
 use Rattle.answers.specs.declared.Verdict.{Verdict}
 use Rattle.answers.specs.declared.Verdict.TheVariants.{Passed, Refused}
 use Rattle.answers.specs.Refusals.{refusal}
@@ -18,18 +19,13 @@ use Rattle.grammar.specs.Limits.{most}
 use Rattle.bodies.specs.declared.Known.{Known}
 use Rattle.bodies.specs.declared.ItemSort.{ItemSort}
 use Rattle.bodies.specs.declared.ItemSort.TheVariants.{As, Unsorted}
-use Rattle.sorts.specs.declared.FieldStep.{FieldStep}
-use Rattle.sorts.specs.declared.FieldStep.TheVariants.{Next, Stop, Text}
-use Rattle.sorts.specs.declared.Finding.TheVariants.{Judged, TextMet}
 use Rattle.bodies.specs.HeadBytes.{signature_at, collected, collect_at}
 use Rattle.bodies.specs.BodyBytes.{ParameterSorts, SortAdded, item_at, result_at}
 use Rattle.bodies.specs.declared.Fault.{Fault}
 use Rattle.bodies.specs.declared.Fault.TheVariants.{Undefined, WrongSort}
-use Rattle.bodies.specs.declared.Tested.{Tested}
-use Rattle.bodies.specs.declared.Tested.TheVariants.{Faulty}
 use Rattle.bodies.specs.Faults.{cause_of, tested_by, verdict_of}
 use Rattle.sorts.specs.ByBytes.{root_at, unknown, counting, with_variables, verdict_step, stepped, step_at, go_on, sorts_from, sorts_of}
-use Rattle.sorts.specs.ByBytes.{Counts, ItemChecked, FieldChecked}
+use Rattle.sorts.specs.ByBytes.{Finding, FieldStep, Counts, ItemChecked, FieldChecked}
 use Rattle.bodies.proofs.TemplateInduction.{choose}
 
 -- ------------------------------------------------------------------ the root
@@ -38,13 +34,13 @@ module _ (bs heads : List ℕ) (nonterminal : ℕ) {head : ℕ} (equal : head �
   -- by its tests
   root_by :
       (missing fitting : Bool) → eqb head 0 ≡ missing → (leb (length (signature_at bs head)) 1 && eqb (get_or (signature_at bs head) 0 0) term) ≡ fitting
-      → choose (Faulty Undefined) (tested_by fitting WrongSort) missing ≡ root_at bs heads nonterminal
+      → choose (Err Undefined) (tested_by fitting WrongSort) missing ≡ root_at bs heads nonterminal
   unfolding root_at
   root_by missing fitting d f =
       cc
 
   -- it is not defined
-  pub root_undefined : head ≡ 0 → Faulty Undefined ≡ root_at bs heads nonterminal
+  pub root_undefined : head ≡ 0 → Err Undefined ≡ root_at bs heads nonterminal
   root_undefined z = root_by true _ (eq-eqb head 0 z) refl
 
   -- by the code's test of its signature
@@ -103,7 +99,7 @@ module _ (known : Known) (tag at : ℕ) where
   one_at_most count true = omega arith
   one_at_most count false = omega arith
 
-  counts : Counts known (Next (counting known tag at))
+  counts : Counts known (Ok (counting known tag at))
   unfolding counting
   counts = (one_at_most known.keywords (eqb tag 1), one_at_most known.outsides (eqb tag 2))
 
@@ -114,13 +110,13 @@ module _ {bs : List ℕ} {at : ℕ} {value : List ℕ} {known : Known} {heads L 
   -- an item's refusal
   pub item_refused :
       {fault : Fault} {number : ℕ} {verdict : Verdict} → item_sort ≡ Unsorted fault → number ≡ cause_of fault → verdict ≡ Refused (refusal number at 0 0)
-      → ItemChecked bs at value known heads L (Stop verdict) L
+      → ItemChecked bs at value known heads L (Err (Some verdict)) L
   item_refused f n q = record { steps = cc; counts = tt }
 
   -- one variable more
   pub item_added :
       {sort count : ℕ} {L' : List ℕ} → item_sort ≡ As sort → SortAdded L known.variables sort L' count
-      → ItemChecked bs at value known heads L (Next (with_variables known count)) L'
+      → ItemChecked bs at value known heads L (Ok (with_variables known count)) L'
   item_added f q = record { steps = cc (q.count_is, q.sorts_are); counts = (omega arith, omega arith) }
 
 -- ------------------------------------------------------------------ one field
@@ -140,7 +136,7 @@ module _ {bs : List ℕ} {at tag : ℕ} {value : List ℕ} {to : ℕ} {known : K
   -- an alternative's variables are its parameters
   pub step_parameters :
       {count : ℕ} {L' signature : List ℕ} → tag ≡ 5 → signature ≡ signature_at bs known.head → ParameterSorts signature L L' count
-      → FieldChecked bs at tag value to known heads L (Next (with_variables known count)) heads L'
+      → FieldChecked bs at tag value to known heads L (Ok (with_variables known count)) heads L'
   unfolding step_at
   step_parameters e p q = record { steps = rw e (cc (q.count_is, q.sorts_are)); counts = (omega arith, omega arith) }
 
@@ -152,21 +148,21 @@ module _ {bs : List ℕ} {at tag : ℕ} {value : List ℕ} {to : ℕ} {known : K
 
   -- a result
   pub step_result :
-      {tested : Tested} {verdict : Verdict} {field_step : FieldStep} → tag ≡ 7 → tested ≡ result_at bs known L value → verdict ≡ verdict_of at tested
+      {tested : Result ⊤ Fault} {verdict : Verdict} {field_step : FieldStep} → tag ≡ 7 → tested ≡ result_at bs known L value → verdict ≡ verdict_of at tested
       → field_step ≡ verdict_step known verdict → FieldChecked bs at tag value to known heads L field_step heads L
   unfolding step_at
   step_result {verdict} e p q f = record { steps = rw e (cc); counts = subst (Counts known) (sym f) (verdict_counts known verdict) }
 
   -- the root
   pub step_root :
-      {nonterminal : ℕ} {tested : Tested} {verdict : Verdict} → tag ≡ 8 → nonterminal ≡ get_or value 0 0 → tested ≡ root_at bs heads nonterminal
+      {nonterminal : ℕ} {tested : Result ⊤ Fault} {verdict : Verdict} → tag ≡ 8 → nonterminal ≡ get_or value 0 0 → tested ≡ root_at bs heads nonterminal
       → verdict ≡ verdict_of at tested
-      → FieldChecked bs at tag value to known heads L (Stop verdict) heads L
+      → FieldChecked bs at tag value to known heads L (Err (Some verdict)) heads L
   unfolding step_at
   step_root e p q f = record { steps = rw e (cc); counts = tt }
 
   -- a text
-  pub step_text : tag ≡ 9 → FieldChecked bs at tag value to known heads L Text heads L
+  pub step_text : tag ≡ 9 → FieldChecked bs at tag value to known heads L (Err None) heads L
   unfolding step_at
   step_text e = record { steps = rw e refl; counts = tt }
 
@@ -174,7 +170,7 @@ module _ {bs : List ℕ} {at tag : ℕ} {value : List ℕ} {to : ℕ} {known : K
   pub step_counts :
       {known' : Known}
       → (((((Unit {0} × (tag ≡ 3 → ⊥)) × (tag ≡ 5 → ⊥)) × (tag ≡ 6 → ⊥)) × (tag ≡ 7 → ⊥)) × (tag ≡ 8 → ⊥)) × (tag ≡ 9 → ⊥)
-      → known' ≡ counting known tag at → FieldChecked bs at tag value to known heads L (Next known') heads L
+      → known' ≡ counting known tag at → FieldChecked bs at tag value to known heads L (Ok known') heads L
   unfolding step_at
   step_counts ((((((u, a), b), c), d), e), f) q =
       record {
@@ -185,7 +181,7 @@ module _ {bs : List ℕ} {at tag : ℕ} {value : List ℕ} {to : ℕ} {known : K
 -- ------------------------------------------------------------------ the walk
 
 -- a table that is too long is not looked at; of any other the fields give the answer
-pub sorts_long : (bs : List ℕ) → most.bytes < length bs → Judged Passed ≡ sorts_of bs
+pub sorts_long : (bs : List ℕ) → most.bytes < length bs → Some Passed ≡ sorts_of bs
 unfolding sorts_of
 sorts_long bs h = cc (lt-leb (length bs) most.bytes h)
 
@@ -216,12 +212,12 @@ sorting_start =
     record { heads = refl; sorts = refl; full = refl; keywords = omega arith; outsides = omega arith; rest = refl }
 
 module _ {bs heads₀ L₀ stack₀ heads L stack : List ℕ} {at : ℕ} {known : Known} (sorting : Sorting bs heads₀ L₀ stack₀ heads L stack at known) where
-  walks : Walk (λ fs. sorts_from fs bs known heads L) (Judged Passed)
+  walks : Walk (λ fs. sorts_from fs bs known heads L) (Some Passed)
   unfolding sorts_from step_at
   walks = record { at-end = λ at. refl; at_cut = λ at. refl; at_none = λ at to. refl }
 
   -- at the end
-  pub sorting_end : length bs ≤ at → Judged Passed ≡ sorts_from (fields_at bs 0) bs unknown heads₀ L₀
+  pub sorting_end : length bs ≤ at → Some Passed ≡ sorts_from (fields_at bs 0) bs unknown heads₀ L₀
   sorting_end h = sym (walk_end walks bs at h) ∙ sorting.rest
 
   module _ {field : FieldSpan} {step : FieldStep} {heads' L' : List ℕ} (equal : field ≡ field_at bs at)
@@ -233,16 +229,12 @@ module _ {bs heads₀ L₀ stack₀ heads L stack : List ℕ} {at : ℕ} {known 
     step_gives h = cc (field_checked.steps, walk_field walks bs at equal, sorting.rest)
 
     -- a field stops the check
-    pub sorting_stop : {verdict : Verdict} → step ≡ Stop verdict → Judged verdict ≡ sorts_from (fields_at bs 0) bs unknown heads₀ L₀
+    pub sorting_stop : {finding : Finding} → step ≡ Err finding → finding ≡ sorts_from (fields_at bs 0) bs unknown heads₀ L₀
     sorting_stop h = step_gives h
-
-    -- a text stops it
-    pub sorting_text : step ≡ Text → TextMet ≡ sorts_from (fields_at bs 0) bs unknown heads₀ L₀
-    sorting_text h = step_gives h
 
     -- the check goes on behind it
     pub sorting_next :
-        {known' : Known} {stack' : List ℕ} → at < length bs → step ≡ Next known' → length heads' ≡ length heads → length L' ≡ length L
+        {known' : Known} {stack' : List ℕ} → at < length bs → step ≡ Ok known' → length heads' ≡ length heads → length L' ≡ length L
         → length stack' ≡ length stack → Sorting bs heads₀ L₀ stack₀ heads' L' stack' field.to known'
     sorting_next {known'} w h a b c =
         let more : (known'.keywords ≤ known.keywords + 1) × (known'.outsides ≤ known.outsides + 1) = subst (Counts known) h field_checked.counts in

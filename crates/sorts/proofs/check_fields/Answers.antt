@@ -31,8 +31,8 @@ slice_bounds-v-end c =
     let lies : Lies table c.loop-at.at c.field_at-field.result = field_lies table c.loop-at.at c.field_at-field.ensures in
     omega (arith, lies)
 
-pub check_field-step-requires : goal.check_field-step-requires
-check_field-step-requires c =
+pub check_field-requires : goal.check_field-requires
+check_field-requires c =
     let table : List ℕ = c.args.table.now in
     let lies : Lies table c.loop-at.at c.field_at-field.result = field_lies table c.loop-at.at c.field_at-field.ensures in
     let ready : FieldReady c.loop-at.known table (value_in table c.field_at-field.result) c.loop-at.sorts c.loop-at.stack
@@ -53,13 +53,9 @@ check_field-step-requires c =
     } in
     ready
 
-pub returns-in-Stop : goal.returns-in-Stop
-returns-in-Stop c =
-    laws.sorting_stop c.loop-at.invariant c.field_at-field.ensures c.check_field-step.ensures c.in-Stop.is
-
-pub returns-in-Text : goal.returns-in-Text
-returns-in-Text c =
-    laws.sorting_text c.loop-at.invariant c.field_at-field.ensures c.check_field-step.ensures c.in-Text.is
+pub returns-in-Err : goal.returns-in-Err
+returns-in-Err c =
+    laws.sorting_stop c.loop-at.invariant c.field_at-field.ensures c.check_field.ensures c.in-Err.is
 
 pub loop-at-smaller : goal.loop-at-smaller
 loop-at-smaller c =
@@ -72,5 +68,5 @@ returns c = search laws.sorting_end
 
 pub loop-at-preserved : goal.loop-at-preserved
 loop-at-preserved c =
-    laws.sorting_next c.loop-at.invariant c.field_at-field.ensures c.check_field-step.ensures c.loop-at-test.true
-    c.in-Next.is c.check_field-step.auto.heads c.check_field-step.auto.sorts c.check_field-step.auto.stack
+    laws.sorting_next c.loop-at.invariant c.field_at-field.ensures c.check_field.ensures c.loop-at-test.true
+    c.in-Ok.is c.check_field.auto.heads c.check_field.auto.sorts c.check_field.auto.stack

@@ -3,8 +3,8 @@ use mathlib.Core.Path.{refl}
 use Rattle.sorts.proofs.StepLaws as laws
 use Rattle.sorts.proofs.check_variable.Goals as goal
 
-pub check_item-item-requires : goal.check_item-item-requires
-check_item-item-requires c = c.requires.places
+pub check_item-requires : goal.check_item-requires
+check_item-requires c = c.requires.places
 
 pub shape_of-sorts-in-Unsorted : goal.shape_of-sorts-in-Unsorted
 shape_of-sorts-in-Unsorted c = refl

@@ -10,11 +10,11 @@ loop-at-init c = laws.collecting_start
 pub returns-then-tag : goal.returns-then-tag
 returns-then-tag c = search laws.collecting_ends
 
-pub define-tested-requires : goal.define-tested-requires
-define-tested-requires c = omega arith
+pub define-requires : goal.define-requires
+define-requires c = omega arith
 
-pub returns-in-Faulty : goal.returns-in-Faulty
-returns-in-Faulty c = search laws.collecting_fault
+pub returns-in-Err : goal.returns-in-Err
+returns-in-Err c = search laws.collecting_fault
 
 pub loop-at-smaller : goal.loop-at-smaller
 loop-at-smaller c =

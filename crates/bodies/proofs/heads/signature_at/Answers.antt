@@ -1,7 +1,4 @@
 -- `signature_at`: two bytes after the head's first two, up to the length that it states.
-use mathlib.Core.Path.{◌≡◌, ◌∙◌}
-use Prim.Native.Nat.{◌+◌}
-use lib.ListN.{get_or}
 use Rattle.bodies.proofs.HeadLaws as laws
 use Rattle.bodies.proofs.heads.signature_at.Goals as goal
 
@@ -10,18 +7,11 @@ returns-then-table-at c = cc (laws.signature_past _ _ c.if-table-at.true)
 
 pub returns-then-size-lt-BEFORE_SIGNATURE : goal.returns-then-size-lt-BEFORE_SIGNATURE
 returns-then-size-lt-BEFORE_SIGNATURE c =
-    let high : c.wide_byte.result ≡ get_or c.args.table.now (c.args.at + 1) 0 = c.wide_byte.ensures ∙ c.byte.ensures in
-    let low : c.wide_byte-2.result ≡ get_or c.args.table.now (c.args.at + 2) 0 = c.wide_byte-2.ensures ∙ c.byte-2.ensures in
-    cc (laws.signature_none _ _ high low c.if-size-lt-BEFORE_SIGNATURE.true)
+    cc (laws.signature_none _ _ c.byte.ensures c.byte-2.ensures c.if-size-lt-BEFORE_SIGNATURE.true)
 
 pub returns-then-size-lt-LONGEST_HEAD : goal.returns-then-size-lt-LONGEST_HEAD
 returns-then-size-lt-LONGEST_HEAD c =
-    let high : c.wide_byte.result ≡ get_or c.args.table.now (c.args.at + 1) 0 = c.wide_byte.ensures ∙ c.byte.ensures in
-    let low : c.wide_byte-2.result ≡ get_or c.args.table.now (c.args.at + 2) 0 = c.wide_byte-2.ensures ∙ c.byte-2.ensures in
-    cc (laws.signature_some _ _ high low c.if-size-lt-LONGEST_HEAD.true)
+    cc (laws.signature_some _ _ c.byte.ensures c.byte-2.ensures c.if-size-lt-LONGEST_HEAD.true)
 
 pub returns : goal.returns
-returns c =
-    let high : c.wide_byte.result ≡ get_or c.args.table.now (c.args.at + 1) 0 = c.wide_byte.ensures ∙ c.byte.ensures in
-    let low : c.wide_byte-2.result ≡ get_or c.args.table.now (c.args.at + 2) 0 = c.wide_byte-2.ensures ∙ c.byte-2.ensures in
-    cc (laws.signature_most _ _ high low c.if-size-lt-LONGEST_HEAD.false)
+returns c = cc (laws.signature_most _ _ c.byte.ensures c.byte-2.ensures c.if-size-lt-LONGEST_HEAD.false)

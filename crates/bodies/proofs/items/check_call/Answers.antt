@@ -20,22 +20,22 @@ open_params-top-requires c =
     = omega (arith, ap length c.signature_at-signature.ensures, signature_short c.args.table.now c.head_of-h.result) in
     omega (arith, short)
 
-pub returns-in-Faulty : goal.returns-in-Faulty
-returns-in-Faulty c =
-    let fault : c.fault_in-tested.result ≡ templates_fault c.args.known.outsides (take c.args.known.variables c.args.sorts.now) c.args.arguments.now
+pub returns-in-Err : goal.returns-in-Err
+returns-in-Err c =
+    let fault : c.fault_in.result ≡ templates_fault c.args.known.outsides (take c.args.known.variables c.args.sorts.now) c.args.arguments.now
     (drop 1 c.signature_at-signature.result.now) = let a = c.args in
-    cc (c.fault_in-tested.ensures, c.open_params-top.ensures.loaded) in
+    cc (c.fault_in.ensures, c.open_params-top.ensures.loaded) in
     search (laws.call_unfit, fault)
 
-pub returns-in-Sound : goal.returns-in-Sound
-returns-in-Sound c =
-    let fault : c.fault_in-tested.result ≡ templates_fault c.args.known.outsides (take c.args.known.variables c.args.sorts.now) c.args.arguments.now
+pub returns-in-Ok : goal.returns-in-Ok
+returns-in-Ok c =
+    let fault : c.fault_in.result ≡ templates_fault c.args.known.outsides (take c.args.known.variables c.args.sorts.now) c.args.arguments.now
     (drop 1 c.signature_at-signature.result.now) = let a = c.args in
-    cc (c.fault_in-tested.ensures, c.open_params-top.ensures.loaded) in
+    cc (c.fault_in.ensures, c.open_params-top.ensures.loaded) in
     search (laws.call_fit, fault)
 
-pub fault_in-tested-requires : goal.fault_in-tested-requires
-fault_in-tested-requires c =
+pub fault_in-requires : goal.fault_in-requires
+fault_in-requires c =
     let short : length c.signature_at-signature.result.now ≤ 5
     = omega (arith, ap length c.signature_at-signature.ensures, signature_short c.args.table.now c.head_of-h.result) in
     omega (arith, c.open_params-top.ensures.small, c.open_params-top.auto.stack)

@@ -5,15 +5,15 @@ use Rattle.bodies.proofs.BodyLaws as laws
 use native.Mathlib.Omega.{arith}
 use Rattle.bodies.proofs.items.check_item.Goals as goal
 
-pub returns-then-wide_byte-known : goal.returns-then-wide_byte-known
-returns-then-wide_byte-known c = search laws.item_keyword
+pub returns-then-operand-known : goal.returns-then-operand-known
+returns-then-operand-known c = search laws.item_keyword
 
 pub check_call-requires : goal.check_call-requires
 check_call-requires c =
     omega (arith, ap length c.part.ensures, length-take (length c.args.v.now) (drop 2 c.args.v.now))
 
-pub returns-else-wide_byte-known : goal.returns-else-wide_byte-known
-returns-else-wide_byte-known c = search laws.item_unknown
+pub returns-else-operand-known : goal.returns-else-operand-known
+returns-else-operand-known c = search laws.item_unknown
 
 pub returns-in-1 : goal.returns-in-1
 returns-in-1 c = search laws.item_ide

@@ -3,11 +3,8 @@ use native.Mathlib.Omega.{arith}
 use Rattle.bodies.proofs.BodyLaws as laws
 use Rattle.bodies.proofs.items.open_params.Goals as goal
 
-pub returns-then-signature-eq0 : goal.returns-then-signature-eq0
-returns-then-signature-eq0 c = laws.params_none c.if-signature-eq0.true
-
 pub loop-j-init : goal.loop-j-init
-loop-j-init c = laws.loading_start c.if-signature-eq0.false
+loop-j-init c = laws.loading_start
 
 pub bounds-signature-j : goal.bounds-signature-j
 bounds-signature-j c = omega arith

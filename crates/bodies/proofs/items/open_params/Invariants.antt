@@ -4,6 +4,3 @@ use Rattle.bodies.proofs.items.open_params.Given as goal
 
 abbrev pub invariant-loop-j : goal.invariant-loop-j
 invariant-loop-j l = laws.Loading l.signature l.initial.stack l.stack l.top l.j
-
-abbrev pub decreases-loop-j : goal.decreases-loop-j
-decreases-loop-j l = l.j

@@ -1,24 +1,16 @@
 -- `fill`: no place, no fit, or the places of the template.
-use mathlib.Core.Path.{sym, ap, ◌∙◌}
-use native.Mathlib.Omega.{arith}
-use Rattle.bodies.specs.TemplateBytes.{height_of}
 use Rattle.bodies.proofs.TemplateLoops as laws
 use Rattle.bodies.proofs.templates.fill.Goals as goal
 
-pub returns-in_default : goal.returns-in_default
-returns-in_default c = search laws.fill_unfit
-
-pub returns-then-top-eq0 : goal.returns-then-top-eq0
-returns-then-top-eq0 c = search laws.fill_none
-
-pub bounds-stack-under : goal.bounds-stack-under
-bounds-stack-under c = omega (arith, ap height_of c.in-Open.is)
-
-pub open_places-requires : goal.open_places-requires
-open_places-requires c = omega (arith, ap height_of c.in-Open.is)
+pub returns-in_err-under : goal.returns-in_err-under
+returns-in_err-under c =
+    rw c.from_residual-in_err-under.ensures (laws.fill_none c.in_ok-filling.was c.in_err-under.ensures)
 
 pub returns-then-not-fitting : goal.returns-then-not-fitting
-returns-then-not-fitting c = search (laws.fill_other, sym c.fits-fitting.ensures ∙ c.if-not-fitting.true)
+returns-then-not-fitting c =
+    laws.fill_other c.in_ok-filling.was c.in_ok-under.ensures c.head_sort.ensures c.fits-fitting.ensures c.if-not-fitting.true
 
 pub returns : goal.returns
-returns c = search (laws.fill_fits, sym c.fits-fitting.ensures ∙ c.if-not-fitting.false)
+returns c =
+    laws.fill_fits c.in_ok-filling.was c.in_ok-under.ensures c.head_sort.ensures c.fits-fitting.ensures c.if-not-fitting.false
+    c.open_places.ensures

@@ -4,6 +4,3 @@ use Rattle.bodies.proofs.templates.open_places.Given as goal
 
 abbrev pub invariant-loop-k : goal.invariant-loop-k
 invariant-loop-k l = laws.Opening l.initial.stack l.start l.b l.stack l.top l.k
-
-abbrev pub decreases-loop-k : goal.decreases-loop-k
-decreases-loop-k l = l.k
