@@ -6,13 +6,13 @@ use mathlib.Core.List.{List}
 use native.Mathlib.Nat.{mod-lt}
 use native.Mathlib.Omega.{arith}
 use lib.Dec.{eqb, ltb}
-use lib.ListN.{length, get_or, set, replicate, length-set, get_or-replicate}
+use lib.ListN.{length, get_or, set, length-set}
 use lib.Seq.{get_or-set_same, get_or-set_other}
 use borrow.Author.Tests.{eq-eqb, eqb-true, eqb-false, ltb-true, ltb-false}
 use Rattle.spellings.proofs.BytesLaws.{by_test}
 use Rattle.terms.specs.Cells.{column, columns, most_cells}
 use Rattle.binders.specs.Slots.{binds, slot_from}
-use Rattle.binders.specs.Links.{FirstBinding, NewestRow, LinkedTo, RowsLinked, links_with_row}
+use Rattle.binders.specs.Links.{FirstBinding, NewestRow, LinkedTo, links_with_row}
 
 -- ------------------------------------------------------------------ first rows
 
@@ -229,22 +229,6 @@ newest_on {cells} {half} {hash} {below} {link} w d =
       hashed = w.hashed;
     }
 
--- a row that is no first row changes nothing
-pub linked_skip : {rows : ℕ} {cells links : List ℕ} → LinkedTo rows cells links → rows < length links / 2 → rows < most_cells → (FirstBinding cells rows → ⊥)
-    → LinkedTo (rows + 1) cells links
-linked_skip {rows} {cells} {links} k r l d =
-    record {
-      few = omega arith;
-      some = k.some;
-      room = omega arith;
-      heads = λ h b. newest_on (k.heads h b) (λ f e. d f);
-      nexts =
-          λ i b f.
-          by_test (eqb i rows)
-          (λ t. absurd (d (subst (FirstBinding cells) (eqb-true i rows t) f)))
-          (λ t. k.nexts i (omega (arith, eqb-false i rows t)) f);
-    }
-
 module _ {rows : ℕ} {cells links : List ℕ} (linked : LinkedTo rows cells links) (below : rows < length links / 2) (under : rows < most_cells)
     (binds_first : FirstBinding cells rows) where
   x : ℕ
@@ -360,24 +344,6 @@ module _ {rows : ℕ} {cells links : List ℕ} (linked : LinkedTo rows cells lin
 
 -- ------------------------------------------------------------------ the loop
 
-linked_none : (cells links : List ℕ) → 0 < length links / 2 → links ≡ replicate (length links) 0 → LinkedTo 0 cells links
-linked_none cells links s e =
-    record {
-      few = omega arith;
-      some = s;
-      room = omega arith;
-      heads =
-          λ h b.
-          let z : get_or links h 0 ≡ 0 = cc (get_or-replicate {A = ℕ} (length links) h 0 0 (omega arith)) in
-          record {
-            small = omega (arith, z);
-            all = λ j l. absurd (omega arith);
-            first = λ q w. absurd (omega (arith, z, w));
-            hashed = λ q w. absurd (omega (arith, z, w));
-          };
-      nexts = λ i l. absurd (omega arith);
-    }
-
 -- rows before `row` are linked
 pub record Linking (cells links₀ links : List ℕ) (row : ℕ) : Type 0 where
   -- `row` is a row or the end
@@ -398,18 +364,6 @@ module _ {cells links₀ links : List ℕ} {row : ℕ}
   pub row_small : row < most_cells
   row_small = omega arith
 
-  skip : (FirstBinding cells row → ⊥) → Linking cells links₀ links (row + 1)
-  skip d = record { inside = omega arith; long = linking.long; linked = linked_skip linking.linked row_fits row_small d }
-
-  -- a row that is no function binds nothing
-  pub skip_code : {code : ℕ} → code ≡ column cells row 0 → (code ≡ 0x21 → ⊥) → Linking cells links₀ links (row + 1)
-  skip_code e d = skip (λ f. d (e ∙ binds_code cells row (column cells row 1) f.binding))
-
-  -- a row whose name an earlier one binds is not a first one
-  pub skip_found : {name there : ℕ} → name ≡ column cells row 1 → there ≡ slot_from row cells 0 name → (there ≡ most_cells → ⊥)
-      → Linking cells links₀ links (row + 1)
-  skip_found ex et d = skip (λ f. d (et ∙ ap (slot_from row cells 0) ex ∙ f.earliest))
-
   -- a row that binds its name first is linked
   pub add_row : {code name there : ℕ} → code ≡ column cells row 0 → name ≡ column cells row 1 → code ≡ 0x21 → there ≡ slot_from row cells 0 name
       → there ≡ most_cells → {links' : List ℕ} → links' ≡ links_with_row links row name → Linking cells links₀ links' (row + 1)
@@ -424,14 +378,3 @@ module _ {cells links₀ links : List ℕ} {row : ℕ}
             (length links / 2 + row) _ ∙ linking.long;
         linked = linked_more linking.linked row_fits row_small f el';
       }
-
--- no row is linked yet
-pub linking_start : (cells links : List ℕ) → 0 < length links / 2 → links ≡ replicate (length links) 0 → Linking cells links links 0
-linking_start cells links s e = record { inside = omega arith; long = refl; linked = linked_none cells links s e }
-
--- where no row is left, all are linked
-pub linking_end : {cells links₀ links : List ℕ} {row : ℕ} → Linking cells links₀ links row → length cells ≤ most_cells * columns
-    → length cells / columns ≤ row → RowsLinked cells links
-linking_end {cells} {links₀} {links} {row} w few l =
-    let z : row ≡ length cells / columns = omega (arith, w.inside) in
-    record { few = few; linked = (rw z at w).linked }
