@@ -337,11 +337,6 @@ module _ (formula room : List ℕ) where
       → value ≡ take size (drop at formula) → value ≡ spanned formula room place
   word_is place ea es ev = cc
 
-  -- word `place` is short enough, if all are
-  pub word_short : (place count : ℕ) {value : List ℕ} → ((index : ℕ) → index < count → length (spanned formula room index) < spelling_room) → place < count
-      → value ≡ spanned formula room place → length value < spelling_room
-  word_short place count hs l e = omega (arith, hs place l, ap length e)
-
 -- `done` words are stored
 pub record Storing (formula room pool₀ pool : List ℕ) (count done : ℕ) : Type 0 where
   -- `done` is a word or the end
@@ -350,12 +345,6 @@ pub record Storing (formula room pool₀ pool : List ℕ) (count done : ℕ) : T
   pub long : length pool ≡ length pool₀
   -- storing the others stores all
   pub rest : stored_from pool (done + first_word) (words_from formula room done (count - done)) ≡ stored_from pool₀ first_word (words_from formula room 0 count)
-
--- no word is stored yet
-pub storing_start : (formula room pool : List ℕ) (count : ℕ) → Storing formula room pool pool count 0
-storing_start formula room pool count =
-    let all : count - 0 ≡ count = omega arith in
-    record { inside = omega arith; long = refl; rest = rw all refl }
 
 module _ {formula room pool₀ pool : List ℕ} {count done : ℕ} (storing : Storing formula room pool₀ pool count done) where
   -- one more word is stored

@@ -12,19 +12,13 @@ use terms::{
     FIELD_CONS, FIELD_NIL, FRESH_CLASS, NAME_BASE, TERM_APP, TERM_DOT, TERM_FUN, TERM_RCD, TERM_VAR,
 };
 
-fn wide(x: u16) -> u32
-    ensures { result ≡ x }
-{
-    x as u32
-}
-
 // A name, by its value and the number of its new name.
 fn write_name(out: &mut [u8], pool: &&[u8], x: u32, shown: u16) -> usize
     requires { Fits (name_text pool.now.now x shown) out.old }
     ensures { Written (name_text pool.now.now x shown) out.old result out.new }
 {
     if 0 < shown {
-        let number = wide(shown);
+        let number = u32::from(shown);
         let digits = write_byte(out, b'_');
         return digits + write_number(&mut out[digits..], number);
     }

@@ -9,7 +9,7 @@ use crate::writing::{write_byte, write_bytes};
 use grammar::codes::{KEYWORD_TAG, OUTSIDE_TAG};
 use grammar::limits::MOST_OUTSIDES;
 use grammar::reader::{byte, part};
-use spellings::{LONGEST_WORD, wide_byte, wide_number};
+use spellings::LONGEST_WORD;
 
 // The bytes of a spelling number: the length of a spelling, and the longest spelling.
 pub const SPELLING_ROOM: usize = LONGEST_WORD + 1;
@@ -22,14 +22,7 @@ pub fn spelling(pool: &[u8], n: u32) -> &[u8]
     ensures { result.now ≡ spell_in pool.now n }
 {
     let i = (n as usize) * SPELLING_ROOM;
-    part(pool, i + 1, wide_byte(byte(pool, i)))
-}
-
-fn narrow(n: usize) -> u8
-    requires { n < 256 }
-    ensures { result ≡ n }
-{
-    n as u8
+    part(pool, i + 1, usize::from(byte(pool, i)))
 }
 
 // Stores a spelling at a number.
@@ -39,7 +32,7 @@ fn store(pool: &mut [u8], i: usize, s: &[u8])
     ensures { pool.new ≡ sets pool.old (i * spelling_room) (length s.now ∷ s.now) }
 {
     let at = i * SPELLING_ROOM;
-    let first = at + write_byte(&mut pool[at..], narrow(s.len()));
+    let first = at + write_byte(&mut pool[at..], s.len() as u8);
     write_bytes(&mut pool[first..], s);
 }
 
@@ -49,10 +42,8 @@ fn fill_outsides(table: &[u8], pool: &mut [u8])
     requires by_index { (m : ℕ) → length (one_of (lexicon_of table.now).outsides m) < spelling_room }
     ensures { pool.new ≡ stored_from pool.old 0 (lexicon_of table.now).outsides }
 {
-    let start = grammar::after_leading(table, KEYWORD_TAG);
-    let mut at = start;
-    let mut i: usize = 0;
-    while i < OUTSIDES {
+    let mut at = grammar::after_leading(table, KEYWORD_TAG);
+    for i in 0..OUTSIDES {
         let front = grammar::front_at(table, at);
         match front {
             grammar::Front::Nothing => {
@@ -68,7 +59,6 @@ fn fill_outsides(table: &[u8], pool: &mut [u8])
                 let from = at + 3;
                 store(pool, i, part(table, from, size));
                 at = from + size;
-                i += 1;
             }
         }
     }
@@ -80,11 +70,9 @@ pub fn fill(table: &[u8], formula: &[u8], words: &[u32], count: usize, pool: &mu
     ensures { pool.new ≡ filled table.now formula.now words.now count pool.old }
 {
     fill_outsides(table, pool);
-    let mut i: usize = 0;
-    while i < count {
-        let at = wide_number(words[i * 2]);
-        let size = wide_number(words[i * 2 + 1]);
+    for i in 0..count {
+        let at = words[i * 2] as usize;
+        let size = words[i * 2 + 1] as usize;
         store(pool, i + OUTSIDES, part(formula, at, size));
-        i += 1;
     }
 }

@@ -4,4 +4,4 @@ use Rattle.writer.proofs.WriteLaws.{spelled}
 use Rattle.writer.proofs.pool.spelling.Goals as goal
 
 pub returns : goal.returns
-returns c = spelled _ _ (c.wide_byte.ensures ∙ c.byte.ensures) c.part.ensures
+returns c = spelled _ _ (c.from.ensures ∙ c.byte.ensures) c.part.ensures
