@@ -1,6 +1,6 @@
 -- Laws of the spellings that are kept: each keyword keeps its number, and its spelling if it counts.
 use Prim.Native.Nat.{ℕ, zero, suc, ◌+◌, ◌<◌, ◌≤◌}
-use mathlib.Core.Path.{◌≡◌, refl, sym, ap, ◌∙◌}
+use mathlib.Core.Path.{◌≡◌, refl, ap}
 use mathlib.Core.Bool.{Bool, true, false}
 use mathlib.Core.List.{List, [], ◌∷◌}
 use native.Mathlib.Omega.{arith}
@@ -41,23 +41,6 @@ kept_less false kinds number size {kept} e = by (has_kind kinds (keyword_kind nu
     by : (test : Bool) → kept ≡ (elim test as (λ b. ℕ) [ true ↦ size | false ↦ 0 ]) → kept ≤ size
     by true q = omega (arith, q)
     by false q = omega (arith, q)
-
--- the code's answers
-pub kept_every : (kinds number size : ℕ) {every : Bool} → every ≡ true → size ≡ kept_size every kinds number size
-kept_every kinds number size e = sym (ap (λ (b : Bool). kept_size b kinds number size) e)
-
-module _ (kinds number size : ℕ) {every : Bool} (not_every : every ≡ false) {test : Bool} (tested : test ≡ has_kind kinds (keyword_kind number)) where
-  kept_by : {told : Bool} → test ≡ told → (elim told as (λ b. ℕ) [ true ↦ size | false ↦ 0 ]) ≡ kept_size every kinds number size
-  kept_by f =
-      ap (λ (b : Bool). elim b as (λ x. ℕ) [ true ↦ size | false ↦ 0 ]) (sym f ∙ tested) ∙ sym (ap (λ (b : Bool). kept_size b kinds number size) not_every)
-
-  -- a keyword that counts keeps all bytes
-  pub kept_all : test ≡ true → size ≡ kept_size every kinds number size
-  kept_all f = kept_by f
-
-  -- another keeps none
-  pub kept_no : test ≡ false → 0 ≡ kept_size every kinds number size
-  kept_no f = kept_by f
 
 -- the spelling of keyword k, by whether it counts
 pub kept_at : (kinds first : ℕ) (spellings : List (List ℕ)) (k : ℕ) (counts : Bool) → has_kind kinds (keyword_kind (first + k)) ≡ counts

@@ -11,10 +11,9 @@ pub fn kept_size(every: bool, kinds: u64, k: usize, size: usize) -> usize
     requires { k < 128 }
     ensures { result ≡ kept_size every kinds k size }
 {
-    if every {
-        return size;
+    if every || has_kind(kinds, k as u32 + KEYWORD_KIND) {
+        size
+    } else {
+        0
     }
-    let kind = k as u32 + KEYWORD_KIND;
-    let counts = has_kind(kinds, kind);
-    if counts { size } else { 0 }
 }
