@@ -1,12 +1,11 @@
 -- Laws of reading a value: a byte past the end, the constructors' arities as a table, and parts of a slice.
 use Prim.Native.Nat.{ℕ, zero, suc, ◌+◌, ◌-◌, ◌<◌, ◌≤◌}
-use mathlib.Core.Path.{◌≡◌, refl, sym, ap, ◌∙◌}
+use mathlib.Core.Path.{◌≡◌, refl, sym, ◌∙◌}
 use mathlib.Core.List.{List, [], ◌∷◌}
 use mathlib.Core.Bool.{true, and-eq-true_iff}
 use native.Mathlib.Omega.{arith}
 use lib.Dec.{leb}
-use lib.ListN.{length, get_or, take, drop, length-drop, drop_of_length-le, get_or-map}
-use lib.Seq.{take-nil, take_all}
+use lib.ListN.{length, get_or, take, drop, get_or-map}
 use borrow.Author.Tests.{leb-true}
 use Rattle.spellings.specs.Bytes.{every}
 use Rattle.grammar.specs.Sorts.{Signature, gives, unit, constructor_signatures, constructor, arity}
@@ -60,20 +59,6 @@ pub arity_few : (code : ℕ) → arity code ≤ 3
 unfolding every
 arity_few code = omega (arith, arity_at code, entry_few arities (code - 32) refl)
 
--- ------------------------------------------------------------------ a part of a slice
-
-module _ (bytes : List ℕ) (at size : ℕ) where
-  -- past the end a part is empty
-  pub part_past : length bytes ≤ at → [] ≡ take size (drop at bytes)
-  part_past h = sym (ap (take size) (drop_of_length-le bytes h) ∙ take-nil size)
-
-  -- a part that runs past the end stops there
-  pub part-rest : length bytes - at ≤ size → take (length bytes - at) (drop at bytes) ≡ take size (drop at bytes)
-  part-rest h =
-      let k : length (drop at bytes) ≤ size = omega (arith, length-drop at bytes) in
-      let j : length (drop at bytes) ≤ length bytes - at = omega (arith, length-drop at bytes) in
-      take_all (length bytes - at) (drop at bytes) j ∙ sym (take_all size (drop at bytes) k)
-
-  -- a part that ends in time is the one asked for
-  pub part_within : take (at + size - at) (drop at bytes) ≡ take size (drop at bytes)
-  part_within = let z : at + size - at ≡ size = omega arith in cc
+-- a part of a slice that ends in time is the one asked for
+pub part_within : (bytes : List ℕ) (at size : ℕ) → take (at + size - at) (drop at bytes) ≡ take size (drop at bytes)
+part_within bytes at size = let z : at + size - at ≡ size = omega arith in cc

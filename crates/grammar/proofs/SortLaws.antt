@@ -1,23 +1,15 @@
 -- Laws of the sorts of constructors: each of the code's tables has, at a constructor's code, what `constructor` says.
-use Prim.Native.Nat.{ℕ, ◌-◌, ◌<◌, ◌≤◌}
+use Prim.Native.Nat.{ℕ, ◌-◌, ◌≤◌}
 use mathlib.Core.Path.{◌≡◌, refl, sym}
-use mathlib.Core.List.{List, [], ◌∷◌}
+use mathlib.Core.List.{[], ◌∷◌}
 use native.Mathlib.Omega.{arith}
 use lib.Dec.{leb, ltb}
-use lib.ListN.{length, get_or, get_or-map}
+use lib.ListN.{get_or, get_or-map}
 use borrow.Author.Tests.{leb-true, ltb-true, ltb-false}
 use Rattle.spellings.proofs.BytesLaws.{by_test, every_at}
 use Rattle.spellings.specs.Bytes.{every}
 use Rattle.grammar.specs.Sorts.{Signature, gives, unit, constructor_signatures, constructor, arity}
 use Rattle.grammar.proofs.ReaderLaws.{get_d_past, arities, arity_at, arity_high}
-
--- a code below the first reads the first, one past the last nothing
-pub code_low : (entries : List ℕ) (code : ℕ) → code < 32 → get_or entries 0 0 ≡ get_or entries (code - 32) 0
-code_low entries code h = let z : 0 ≡ code - 32 = omega arith in cc
-
--- past a list of eight stands the default
-pub code_high : (entries : List ℕ) (code : ℕ) → length entries ≡ 8 → 8 ≤ code - 32 → 0 ≡ get_or entries (code - 32) 0
-code_high entries code e h = sym (get_d_past entries (code - 32) 0 (omega arith))
 
 -- the results of the eight constructors
 pub results : (code : ℕ) → get_or (4 ∷ 4 ∷ 4 ∷ 4 ∷ 4 ∷ 5 ∷ 5 ∷ 4 ∷ []) (code - 32) 0 ≡ (constructor code).result

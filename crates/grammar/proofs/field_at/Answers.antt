@@ -1,6 +1,7 @@
 -- `field_at`: by what stands at the offset.
 use Prim.Native.Nat.{◌+◌, ◌≤◌}
 use mathlib.Core.Path.{◌≡◌, sym, ◌∙◌}
+use mathlib.Core.Logic.{inl, inr}
 use native.Mathlib.Omega.{arith}
 use lib.ListN.{length, drop}
 use Rattle.grammar.specs.declared.Front.TheVariants.{Field}
@@ -23,10 +24,12 @@ pub overflow_add-result : goal.overflow_add-result
 overflow_add-result c = omega (arith, inside c)
 
 pub returns-in-Nothing : goal.returns-in-Nothing
-returns-in-Nothing c = c.no_field.ensures ∙ laws.field_is _ _ (sym c.in-Nothing.is ∙ c.front_at-front.ensures)
-
-pub returns-in-Short : goal.returns-in-Short
-returns-in-Short c = c.no_field-in-Short.ensures ∙ laws.field_is _ _ (sym c.in-Short.is ∙ c.front_at-front.ensures)
+returns-in-Nothing c =
+    c.no_field.ensures
+    ∙ elim c.in-Nothing.is [
+      | inl e ↦ laws.field_is _ _ (sym e ∙ c.front_at-front.ensures)
+      | inr e ↦ laws.field_is _ _ (sym e ∙ c.front_at-front.ensures)
+    ]
 
 pub returns-in-Field : goal.returns-in-Field
 returns-in-Field c = laws.field_is _ _ (stands c)
