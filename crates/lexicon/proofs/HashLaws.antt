@@ -20,35 +20,36 @@ crossed_fits product l = joined (product % 4294967296) (product / 4294967296) (o
 
 -- ------------------------------------------------------------------ eight bytes at a time
 
--- `left` times eight bytes are left from index `place` on, and `hash` is the hash so far
-pub record Chunking (spelling : List ℕ) (chunks start hash place left : ℕ) : Type 0 where
-  -- the bytes left to it are there
-  pub within : place + left * 8 ≤ length spelling
+-- `hash` is the hash of the first `count` times eight bytes
+pub record Chunking (spelling : List ℕ) (chunks start hash count : ℕ) : Type 0 where
+  -- all eights are there
+  pub within : chunks * 8 ≤ length spelling
   -- the eights left, behind what has the `hash`, have the hash of all eights
-  pub rest : chunks_from left spelling place hash ≡ chunks_from chunks spelling 0 start
+  pub rest : chunks_from (chunks - count) spelling (count * 8) hash ≡ chunks_from chunks spelling 0 start
 
 -- before the first
-pub chunking_start : {spelling : List ℕ} {chunks start : ℕ} → chunks * 8 ≤ length spelling → Chunking spelling chunks start start 0 chunks
-chunking_start l = record { within = omega arith; rest = refl }
+pub chunking_start : {spelling : List ℕ} {chunks start : ℕ} → chunks * 8 ≤ length spelling → Chunking spelling chunks start start 0
+chunking_start {spelling} {chunks} {start} l = let all : chunks - 0 ≡ chunks = omega arith in record { within = l; rest = cc }
 
-module _ {spelling : List ℕ} {chunks start hash place left : ℕ} (chunking : Chunking spelling chunks start hash place left) where
+module _ {spelling : List ℕ} {chunks start hash count : ℕ} (chunking : Chunking spelling chunks start hash count) where
   -- eight bytes more
-  pub chunking_next : 0 < left → {word hash' : ℕ} → word ≡ eight_at spelling place → hash' ≡ mixed hash word
-      → Chunking spelling chunks start hash' (place + 8) (left - 1)
+  pub chunking_next : count < chunks → {word hash' : ℕ} → word ≡ eight_at spelling (count * 8) → hash' ≡ mixed hash word
+      → Chunking spelling chunks start hash' (count + 1)
   unfolding chunks_from
   chunking_next l e f =
-      let one : left ≡ suc (left - 1) = omega arith in
+      let one : chunks - count ≡ suc (chunks - (count + 1)) = omega arith in
+      let next : (count + 1) * 8 ≡ count * 8 + 8 = omega arith in
       record {
-        within = omega (arith, chunking.within);
-        rest = cc (e, f, ap (λ (n : ℕ). chunks_from n spelling place hash) one, chunking.rest);
+        within = chunking.within;
+        rest = cc (e, f, next, ap (λ (n : ℕ). chunks_from n spelling (count * 8) hash) one, chunking.rest);
       }
 
   -- nothing is left
-  pub chunking_end : left ≤ 0 → hash ≡ chunks_from chunks spelling 0 start
+  pub chunking_end : chunks ≤ count → hash ≡ chunks_from chunks spelling 0 start
   unfolding chunks_from
   chunking_end l =
-      let none : left ≡ 0 = omega arith in
-      sym (ap (λ (n : ℕ). chunks_from n spelling place hash) none) ∙ chunking.rest
+      let none : chunks - count ≡ 0 = omega arith in
+      sym (ap (λ (n : ℕ). chunks_from n spelling (count * 8) hash) none) ∙ chunking.rest
 
 -- ------------------------------------------------------------------ short spellings
 

@@ -11,9 +11,7 @@ pub fn enter_sorts(sorts: &[u8], room: &mut [u32])
     ensures { SortsEntered sorts.now room.old room.new }
 {
     room[VARIABLE_COUNT] = sorts.len() as u32;
-    let mut i: usize = 0;
-    while i < sorts.len() {
+    for i in 0..sorts.len() {
         room[VARIABLES + i] = sorts[i] as u32;
-        i += 1;
     }
 }

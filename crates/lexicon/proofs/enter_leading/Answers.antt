@@ -1,6 +1,7 @@
 -- `enter_leading`: the fields entered and those left are those asked for.
-use Prim.Native.Nat.{◌-◌}
-use mathlib.Core.Path.{sym, ◌∙◌}
+use Prim.Native.Nat.{◌+◌, ◌-◌}
+use mathlib.Core.Path.{◌≡◌, sym, ◌∙◌}
+use mathlib.Core.Logic.{inl, inr}
 use native.Mathlib.Omega.{arith}
 use Rattle.grammar.specs.declared.Front.TheVariants.{Nothing, Short, Field}
 use Rattle.keywords.proofs.KeptLaws.{kept_less}
@@ -12,11 +13,10 @@ loop-e-init c = laws.entering_start _ _ c.requires
 
 pub returns-in-Nothing : goal.returns-in-Nothing
 returns-in-Nothing c =
-    laws.entering_stop c.loop-e.invariant Nothing (sym c.in-Nothing.is ∙ c.front_at-front.ensures) tt
-
-pub returns-in-Short : goal.returns-in-Short
-returns-in-Short c =
-    laws.entering_stop c.loop-e.invariant Short (sym c.in-Short.is ∙ c.front_at-front.ensures) tt
+    elim c.in-Nothing.is [
+      | inl e ↦ laws.entering_stop c.loop-e.invariant Nothing (sym e ∙ c.front_at-front.ensures) tt
+      | inr e ↦ laws.entering_stop c.loop-e.invariant Short (sym e ∙ c.front_at-front.ensures) tt
+    ]
 
 pub returns-then-t-tag : goal.returns-then-t-tag
 returns-then-t-tag c =
@@ -65,4 +65,6 @@ loop-e-preserved c =
     c.enter.ensures.spelled
 
 pub returns : goal.returns
-returns c = laws.entering_end c.loop-e.invariant c.loop-e-test.false
+returns c =
+    let end : c.args.first + c.args.most ≡ c.loop-e.e = omega (arith, c.loop-e.invariant.upto) in
+    rw end (laws.entering_end c.loop-e.invariant c.loop-e-test.false)

@@ -1,4 +1,5 @@
 -- `mark_symbols`: the symbols are marked by the keywords passed, the last first.
+use mathlib.Core.Path.{refl}
 use Rattle.lexicon.proofs.LexiconLaws as laws
 use Rattle.lexicon.proofs.mark_symbols.Goals as goal
 
@@ -9,7 +10,7 @@ loop-k-init c =
 
 pub loop-k-preserved : goal.loop-k-preserved
 loop-k-preserved c =
-    laws.marking_next c.loop-k.invariant c.loop-k-test.true c.wide_number-at.ensures c.wide_number-size.ensures c.part.ensures
+    laws.marking_next c.loop-k.invariant c.loop-k-test.true refl refl c.part.ensures
     c.mark.ensures
 
 pub returns : goal.returns

@@ -4,6 +4,3 @@ use Rattle.lexicon.proofs.mark_symbols.Given as goal
 
 abbrev pub invariant-loop-k : goal.invariant-loop-k
 invariant-loop-k l = laws.Marking l.table l.initial.room l.count l.room l.k
-
-abbrev pub decreases-loop-k : goal.decreases-loop-k
-decreases-loop-k l = l.k

@@ -14,7 +14,7 @@ bounds-links-slot c =
 
 pub loop-p-init : goal.loop-p-init
 loop-p-init c =
-    laws.searching_start c.requires.planted c.requires.hash_value refl c.wide_number-p.ensures c.hashed_turns-turns.ensures
+    laws.searching_start c.requires.planted c.requires.hash_value refl refl c.hashed_turns-turns.ensures
 
 pub is_spelled-here-requires : goal.is_spelled-here-requires
 is_spelled-here-requires c = laws.place_inside c.loop-p.invariant.standing c.loop-p-test.true
@@ -61,7 +61,7 @@ loop-p-preserved c =
     c.refill-ahead.ensures
     refl
     refl
-    c.wide_number-p-in-loop-p.ensures
+    refl
 
 pub returns : goal.returns
 returns c = laws.searching_end c.loop-p.invariant c.loop-p-test.false

@@ -3,14 +3,14 @@ use Rattle.lexicon.proofs.HashLaws as laws
 use native.Mathlib.Omega.{arith}
 use Rattle.lexicon.proofs.trees.mix_front.Goals as goal
 
-pub loop-left-init : goal.loop-left-init
-loop-left-init c = search laws.chunking_start
+pub loop-i-init : goal.loop-i-init
+loop-i-init c = search laws.chunking_start
 
 pub eight-requires : goal.eight-requires
-eight-requires c = omega (arith, c.loop-left.invariant.within)
+eight-requires c = omega (arith, c.loop-i.invariant.within)
 
-pub loop-left-preserved : goal.loop-left-preserved
-loop-left-preserved c = search laws.chunking_next
+pub loop-i-preserved : goal.loop-i-preserved
+loop-i-preserved c = search laws.chunking_next
 
 pub returns : goal.returns
-returns c = laws.chunking_end c.loop-left.invariant c.loop-left-test.false
+returns c = laws.chunking_end c.loop-i.invariant c.loop-i-test.false

@@ -2,8 +2,5 @@
 use Rattle.lexicon.proofs.HashLaws as laws
 use Rattle.lexicon.proofs.trees.mix_front.Given as goal
 
-abbrev pub invariant-loop-left : goal.invariant-loop-left
-invariant-loop-left l = laws.Chunking l.s l.k l.start l.h l.i l.left
-
-abbrev pub decreases-loop-left : goal.decreases-loop-left
-decreases-loop-left l = l.left
+abbrev pub invariant-loop-i : goal.invariant-loop-i
+invariant-loop-i l = laws.Chunking l.s l.k l.start l.h l.i

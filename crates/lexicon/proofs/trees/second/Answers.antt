@@ -2,11 +2,11 @@
 use Rattle.lexicon.proofs.PathLaws as laws
 use Rattle.lexicon.proofs.trees.second.Goals as goal
 
-pub loop-i-init : goal.loop-i-init
-loop-i-init c = laws.mixing_start _
+pub loop-b-init : goal.loop-b-init
+loop-b-init c = laws.mixing_start _
 
-pub loop-i-preserved : goal.loop-i-preserved
-loop-i-preserved c = search laws.mixing_next
+pub loop-b-preserved : goal.loop-b-preserved
+loop-b-preserved c = search laws.mixing_next
 
 pub returns : goal.returns
 returns c = search laws.mixing_end

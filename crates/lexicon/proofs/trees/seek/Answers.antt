@@ -15,7 +15,7 @@ bounds-links-slot c =
 
 pub loop-p-init : goal.loop-p-init
 loop-p-init c =
-    laws.seeking_start c.requires.planted c.requires.hash_value refl c.wide_number-p.ensures (search rules) refl
+    laws.seeking_start c.requires.planted c.requires.hash_value refl refl (search rules) refl
 
 pub is_spelled-here-requires : goal.is_spelled-here-requires
 is_spelled-here-requires c = laws.place_inside c.loop-p.invariant.standing c.loop-p-test.true
@@ -59,7 +59,7 @@ pub loop-p-preserved : goal.loop-p-preserved
 loop-p-preserved c =
     let inv = c.loop-p.invariant in
     laws.seeking_next inv c.loop-p-test.true c.is_spelled-here.ensures
-    c.if-here.false refl refl c.wide_number-p-in-loop-p.ensures
+    c.if-here.false refl refl refl
 
 pub returns : goal.returns
 returns c = laws.seeking_end c.loop-p.invariant c.loop-p-test.false c.if-turns-eq0.false
