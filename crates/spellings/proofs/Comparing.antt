@@ -224,11 +224,10 @@ module _ {left right : List ℕ} {place : ℕ} (tailing : Tailing left right pla
       (sym (stop_tail left right tailing.long place tailing.behind h tailing.alike d))
 
   -- where nothing is left, all agree
-  pub tailing_end : length left ≤ place → ◌≡◌ {A = Comparison} (record { equal = true; count = place / 8 + place % 8 }) (compared left right)
+  pub tailing_end : length left ≤ place → ◌≡◌ {A = Comparison} (record { equal = true; count = length left / 8 + length left % 8 }) (compared left right)
   tailing_end h =
-      let end : place ≡ length left = omega (arith, tailing.within) in
       answer_is (alike_same tailing.alike tailing.long h)
-      (rw (← alike_end tailing.alike tailing.long h, end) (sym (whole_compared left)))
+      (rw (← alike_end tailing.alike tailing.long h) (sym (whole_compared left)))
 
 -- fewer than eight bytes are a tail alone
 pub tail_alone : {left right : List ℕ} → length right < 8 → length left ≡ length right → TailLeft left right 0

@@ -4,6 +4,3 @@ use Rattle.spellings.proofs.write_decimal.Given as goal
 
 abbrev pub invariant-loop-at : goal.invariant-loop-at
 invariant-loop-at l = writes.Writing l.initial.out l.n l.at l.rest l.out
-
-abbrev pub decreases-loop-at : goal.decreases-loop-at
-decreases-loop-at l = l.at
