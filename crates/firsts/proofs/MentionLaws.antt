@@ -1,7 +1,7 @@
 -- Laws of the loops that note what productions mention: over the items of an alternative, and over the productions.
 use Prim.Native.Nat.{ℕ, ◌+◌, ◌-◌, ◌<◌, ◌≤◌}
 use mathlib.Core.Path.{◌≡◌, refl, sym, ap, ◌∙◌}
-use mathlib.Core.Bool.{Bool, true, false, ◌&&◌, and-true, and-false, and_assoc}
+use mathlib.Core.Bool.{Bool, false, ◌&&◌, and-true, and-false, and_assoc}
 use mathlib.Core.List.{List, [], ◌∷◌}
 use lib.Bits.{bit_or, or_zero_r}
 use lib.ListN.{length, get_or, set, replicate, length-set}
@@ -46,15 +46,9 @@ module _ (found : Gathered) where
 
   module _ {symbol : Symbol} {nonterminal : ℕ} (es : symbol ≡ Call nonterminal) {own called : ℕ} (eo : own ≡ only nonterminal)
       (ec : called ≡ bit_or found.calls own) {test : Bool} (et : test ≡ has_kind every_one nonterminal) where
-    -- a call gives its nonterminal
-    pub mention_call : test ≡ true
-        → record { kinds = found.kinds; calls = called; nullable = found.nullable } ≡ with_mention (with_symbol symbol) found
-    mention_call e = rw (es, or_zero_r found.kinds, ec, eo, sym et ∙ e, and-true found.nullable) refl
-
-    -- a nonterminal that there cannot be is never nullable
-    pub mention_strange : test ≡ false
-        → record { kinds = found.kinds; calls = called; nullable = false } ≡ with_mention (with_symbol symbol) found
-    mention_strange e = rw (es, or_zero_r found.kinds, ec, eo, sym et ∙ e, and-false found.nullable) refl
+    -- a call gives its nonterminal; one that there cannot be is never nullable
+    pub mention_call : record { kinds = found.kinds; calls = called; nullable = found.nullable && test } ≡ with_mention (with_symbol symbol) found
+    mention_call = rw (es, or_zero_r found.kinds, ec, eo, et) refl
 
 -- ------------------------------------------------------------------ all items
 

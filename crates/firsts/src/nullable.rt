@@ -41,8 +41,7 @@ fn needs_of(
         whose.new needs.new kinds.new calls.new }
 {
     let mut k: usize = 0;
-    let mut j: usize = 0;
-    while j < m {
+    for j in 0..m {
         let owner = byte(owners, j);
         let start = offset(starts, j);
         let found = note(table, owner, start, kinds, calls);
@@ -50,9 +49,6 @@ fn needs_of(
             whose[k] = owner;
             needs[k] = found.calls;
             k += 1;
-            j += 1;
-        } else {
-            j += 1;
         }
     }
     k
@@ -83,11 +79,9 @@ fn null_pass(whose: &[u8], needs: &[u64], k: usize, down: bool, nulls: u64) -> u
     ensures { result ≡ need_pass (step_place down k) k whose.now needs.now nulls }
 {
     let mut set = nulls;
-    let mut j: usize = 0;
-    while j < k {
+    for j in 0..k {
         let i = step_place(down, k, j);
         set = null_step(byte(whose, i), set_at(needs, i), set);
-        j += 1;
     }
     set
 }

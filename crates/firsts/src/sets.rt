@@ -20,8 +20,7 @@ pub(crate) fn join_at(sets: &mut [u64], n: u8, found: u64)
 {
     let i = n as usize;
     if i < sets.len() {
-        let old = sets[i];
-        sets[i] = join(old, found);
+        sets[i] = join(sets[i], found);
     }
 }
 
@@ -55,12 +54,10 @@ fn first_round(
     ensures { RoundTaken nulls (productions_by m table.now owners.now starts.now)
         kinds.old calls.old kinds.new calls.new }
 {
-    let mut j: usize = 0;
-    while j < m {
+    for j in 0..m {
         let owner = byte(owners, j);
         let start = offset(starts, j);
         first_step(table, owner, start, nulls, kinds, calls);
-        j += 1;
     }
 }
 
@@ -79,14 +76,12 @@ fn take_callee(calls: &mut [u64], kinds: &mut [u64], many: u8, k: u8)
 {
     let more_calls = set_at(calls, k as usize);
     let more_kinds = set_at(kinds, k as usize);
-    let mut n: u8 = 0;
-    while n < many {
+    for n in 0..many {
         let i = n as usize;
         let old = calls[i];
         let given = kinds[i];
         calls[i] = with_callee(old, k, old, more_calls);
         kinds[i] = with_callee(old, k, given, more_kinds);
-        n += 1;
     }
 }
 
@@ -96,11 +91,8 @@ fn callees(calls: &[u64], many: u8) -> u64
     ensures { result ≡ union_of many calls.now }
 {
     let mut all: u64 = 0;
-    let mut n: u8 = 0;
-    while n < many {
-        let set = calls[n as usize];
-        all = join(all, set);
-        n += 1;
+    for set in &calls[..many as usize] {
+        all = join(all, *set);
     }
     all
 }
@@ -112,14 +104,10 @@ fn close(calls: &mut [u64], kinds: &mut [u64], many: u8)
     ensures { ClosedBoth most.nonterminals calls.old kinds.old calls.new kinds.new }
 {
     let called = callees(calls, many);
-    let mut k: u8 = 0;
-    while k < many {
+    for k in 0..many {
         let taken = has(called, k);
         if taken {
             take_callee(calls, kinds, many, k);
-            k += 1;
-        } else {
-            k += 1;
         }
     }
 }

@@ -7,14 +7,13 @@ use grammar::codes::{ALTERNATIVE_TAG, HEAD_TAG, UPDATE};
 use grammar::field_at;
 use grammar::limits::EACH_ALTERNATIVE;
 use grammar::reader::byte;
-use spellings::wide_short;
 
 // The offset at a place of the index, 0 past its end.
 pub fn offset(starts: &[u16], j: usize) -> usize
     ensures { result ≡ get_or starts.now j 0 }
 {
     if j < starts.len() {
-        wide_short(starts[j])
+        usize::from(starts[j])
     } else {
         0
     }
@@ -24,10 +23,7 @@ pub fn offset(starts: &[u16], j: usize) -> usize
 pub fn root_of(table: &[u8]) -> u8
     ensures { result ≡ root_in table.now }
 {
-    if table.len() == 0 {
-        return 0;
-    }
-    table[table.len() - 1]
+    table.last().copied().unwrap_or(0)
 }
 
 // Lays a production behind the first k.
@@ -46,18 +42,14 @@ fn without(owners: &mut [u8], starts: &mut [u16], k: usize, n: u8) -> usize
     ensures { LaidIndex (places_without n (places_in k owners.old starts.old)) k result
         owners.old starts.old owners.new starts.new }
 {
-    let mut i: usize = 0;
     let mut w: usize = 0;
-    while i < k {
+    for i in 0..k {
         let owner = owners[i];
         let start = starts[i];
-        if owner == n {
-            i += 1;
-        } else {
+        if owner != n {
             owners[w] = owner;
             starts[w] = start;
             w += 1;
-            i += 1;
         }
     }
     w

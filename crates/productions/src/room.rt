@@ -2,7 +2,7 @@
 // fault: what is not there is 0.
 ghost use Rattle.std.specs.Prelude.{◌+◌, ◌*◌, ◌/◌, ◌<◌, ◌≤◌, ◌≡◌, length, get_or, true, false};
 ghost use Rattle.grammar.specs.Limits.{most};
-ghost use Rattle.productions.specs.Room.{room_size, productions_at, links_at, place_base, nullable_base, flag_number};
+ghost use Rattle.productions.specs.Room.{room_size, productions_at, links_at, place_base, nullable_base};
 ghost use Rattle.productions.specs.Room.{begun, laid, patterned, RoomAndSets, RoomAt, PatternsAt};
 ghost use Rattle.productions.specs.Room.{kinds_in, first_set_in, first_place_in, nullable_place_in, first_in, start_in, next_place_in, nullable_in, patterns_in};
 
@@ -36,12 +36,6 @@ const NULLABLE: u64 = START_BASE * PLACE_BASE;
 
 const PATTERNS: u64 = NULLABLE * 2;
 
-fn size(x: u64) -> usize
-    ensures { result ≡ x }
-{
-    x as usize
-}
-
 // The kinds that occur in the alternatives that the root reaches.
 pub fn reached(room: &[u64; ROOM]) -> u64
     ensures { result ≡ kinds_in room.now }
@@ -60,14 +54,14 @@ pub fn first_set(room: &[u64; ROOM], n: u8) -> u64
 pub fn first_place(room: &[u64; ROOM], n: u8) -> usize
     ensures { result ≡ first_place_in room.now n }
 {
-    size(room[PLACES + n as usize] % PLACE_BASE)
+    (room[PLACES + n as usize] % PLACE_BASE) as usize
 }
 
 // The place of a nonterminal's nullable production, 256 if it has none.
 pub fn nullable_place(room: &[u64; ROOM], n: u8) -> usize
     ensures { result ≡ nullable_place_in room.now n }
 {
-    size(room[PLACES + n as usize] / PLACE_BASE)
+    (room[PLACES + n as usize] / PLACE_BASE) as usize
 }
 
 // One of the two numbers of the production at a place.
@@ -96,14 +90,14 @@ fn link(room: &[u64; ROOM], j: usize) -> u64
 pub fn start(room: &[u64; ROOM], j: usize) -> usize
     ensures { result ≡ start_in room.now j }
 {
-    size(link(room, j) % START_BASE)
+    (link(room, j) % START_BASE) as usize
 }
 
 // The place of the next production of the same nonterminal, 256 if there is none.
 pub fn next_place(room: &[u64; ROOM], j: usize) -> usize
     ensures { result ≡ next_place_in room.now j }
 {
-    size(link(room, j) / START_BASE % PLACE_BASE)
+    (link(room, j) / START_BASE % PLACE_BASE) as usize
 }
 
 // Whether all its items may read nothing.
@@ -126,19 +120,8 @@ pub fn begin(room: &mut [u64], kinds: u64, sets: &[u64])
     ensures { room.new ≡ begun kinds sets.now room.old }
 {
     room[0] = kinds;
-    let mut n: usize = 0;
-    while n < EACH_NONTERMINAL {
-        room[FIRST_SETS + n] = sets[n];
-        room[PLACES + n] = NO_PLACES;
-        n += 1;
-    }
-}
-
-// What a production adds to its link where it is nullable.
-fn flag(nullable: bool) -> u64
-    ensures { result ≡ nullable_base * flag_number nullable }
-{
-    if nullable { NULLABLE } else { 0 }
+    room[FIRST_SETS..PLACES].copy_from_slice(sets);
+    room[PLACES..PRODUCTIONS].fill(NO_PLACES);
 }
 
 // Where the productions of a nonterminal are, with one more at a place in front of the others.
@@ -146,11 +129,8 @@ fn places_from(nullable: bool, place: u64, old: u64) -> u64
     requires { place < most.alternatives }
     ensures { result ≡ place + place_base * (elim nullable [ true ↦ place | false ↦ old / place_base ]) }
 {
-    if nullable {
-        place + PLACE_BASE * place
-    } else {
-        place + PLACE_BASE * (old / PLACE_BASE)
-    }
+    let null = if nullable { place } else { old / PLACE_BASE };
+    place + PLACE_BASE * null
 }
 
 // Lays a production at a place, in front of those at later places. Nothing reads a variable in a room for a formula.
@@ -161,7 +141,9 @@ pub fn lay(room: &mut [u64], j: usize, owner: u8, start: u16, first: u64, nullab
     let own = PLACES + owner as usize;
     let old = room[own];
     room[PRODUCTIONS + 2 * j] = first;
-    room[LINKS + 2 * j] = start as u64 + START_BASE * (old % PLACE_BASE) + flag(nullable);
+    room[LINKS + 2 * j] = start as u64
+        + START_BASE * (old % PLACE_BASE)
+        + NULLABLE * u64::from(nullable);
     room[own] = places_from(nullable, j as u64, old);
 }
 

@@ -2,21 +2,22 @@
 use Rattle.firsts.proofs.NeedsLaws as laws
 use Rattle.firsts.proofs.MentionLaws as notes
 use Rattle.firsts.proofs.nullable.needs_of.Goals as goal
+use Rattle.firsts.proofs.nullable.needs_of.Goals.{then-found, else-found}
 
 pub loop-j-init : goal.loop-j-init
 loop-j-init c = (search laws.holding_start, search notes.noting_start)
 
-pub loop-j-preserved-then-found : goal.loop-j-preserved-then-found
-loop-j-preserved-then-found c =
-    let i = c.loop-j.invariant in (
-      laws.holding_held i.0 c.loop-j-test.true c.byte-owner.ensures c.offset-start.ensures c.note-found.ensures.found_is c.if-found.true,
-      notes.noting_next i.1 c.loop-j-test.true c.byte-owner.ensures c.offset-start.ensures c.note-found.ensures,
-    )
-
 pub loop-j-preserved : goal.loop-j-preserved
 loop-j-preserved c =
     let i = c.loop-j.invariant in (
-      laws.holding_other i.0 c.loop-j-test.true c.byte-owner.ensures c.offset-start.ensures c.note-found.ensures.found_is c.if-found.false,
+      elim c.if-found.branch [
+        | then-found w ↦
+            rw (w.whose-is, w.needs-is, w.k-is)
+            (laws.holding_held i.0 c.loop-j-test.true c.byte-owner.ensures c.offset-start.ensures c.note-found.ensures.found_is w.if-found.true)
+        | else-found w ↦
+            rw (w.whose-is, w.needs-is, w.k-is)
+            (laws.holding_other i.0 c.loop-j-test.true c.byte-owner.ensures c.offset-start.ensures c.note-found.ensures.found_is w.if-found.false)
+      ],
       notes.noting_next i.1 c.loop-j-test.true c.byte-owner.ensures c.offset-start.ensures c.note-found.ensures,
     )
 

@@ -1,10 +1,6 @@
 -- `without`: the entries that are kept move down, those of the nonterminal are dropped.
-use Prim.Native.Nat.{◌-◌}
 use Rattle.productions.proofs.IndexLaws as laws
 use Rattle.productions.proofs.index.without.Given as goal
 
 abbrev pub invariant-loop-i : goal.invariant-loop-i
 invariant-loop-i l = laws.Dropping l.n l.k l.initial.owners l.initial.starts l.i l.w l.owners l.starts
-
-abbrev pub decreases-loop-i : goal.decreases-loop-i
-decreases-loop-i l = l.k - l.i
