@@ -1,5 +1,5 @@
 -- Refusal 13 by two rooms: one has what opens productions by their kinds, the other the sorts of the pattern places that do (document 02, C-14).
-use Prim.Native.Nat.{ℕ, zero, suc, ◌+◌, ◌<◌, ◌≤◌}
+use Prim.Native.Nat.{ℕ, min, zero, suc, ◌+◌, ◌<◌, ◌≤◌}
 use mathlib.Core.Path.{◌≡◌, refl, sym, ap, ap₂, ◌∙◌, fun_ext}
 use mathlib.Core.Bool.{Bool, true, false, ◌&&◌, ◌||◌, and-false}
 use mathlib.Core.List.{List, [], ◌∷◌, map}
@@ -7,7 +7,7 @@ use native.Mathlib.Omega.{arith}
 use lib.Bits.{or_zero_r, and_zero_l}
 use lib.Count.{count_trailing_zeros}
 use lib.Dec.{ltb}
-use borrow.Author.Tests.{ltb-true, ltb-false, lt-ltb, le-ltb}
+use borrow.Author.Tests.{ltb-true, lt-ltb}
 use Rattle.spellings.proofs.BytesLaws.{by_test}
 use Rattle.answers.specs.Refusals.{refusal}
 use Rattle.answers.specs.Checked.{Checked, ok, bad}
@@ -17,7 +17,7 @@ use Rattle.productions.specs.Index.{Place, productions_at}
 use Rattle.productions.specs.Room.{HoldsEntries}
 use Rattle.clashes.specs.Openings.{Openings, lowest_of}
 use Rattle.clashes.specs.CheckFirsts.{both_of, shared_by, clash, lowest, clashing, lowest_shared, no_clash, any_with, any_pair, join_with, join_pairs}
-use Rattle.clashes.specs.Pairs.{clashing_in, all_shared_in, no_clash_in, lower_of, no_clash_with}
+use Rattle.clashes.specs.Pairs.{clashing_in, all_shared_in, no_clash_in, no_clash_with}
 use Rattle.clashes.proofs.HeldPairs.{entry_by, clash_by, clashing_is, shared_is}
 
 -- ------------------------------------------------------------------ two searches in one
@@ -40,11 +40,11 @@ module _ {A : Type 0} (one other : A → A → Bool) where
   pair_or (x ∷ xs) = rw (with_or x xs, pair_or xs) (swap (any_with (one x) xs) (any_with (other x) xs) (any_pair one xs) (any_pair other xs))
 
 -- The lower of two numbers, where one is known.
-pub lower_left : (a b : ℕ) → a ≤ b → lower_of a b ≡ a
-lower_left a b h = by_test (ltb a b) (λ t. rw (t, lower_of) refl) (λ t. rw (t, lower_of) (omega (arith, ltb-false a b t)))
+pub lower_left : (a b : ℕ) → a ≤ b → min a b ≡ a
+lower_left a b h = omega arith
 
-pub lower_right : (a b : ℕ) → b ≤ a → lower_of a b ≡ b
-lower_right a b h = rw (le-ltb a b h, lower_of) refl
+pub lower_right : (a b : ℕ) → b ≤ a → min a b ≡ b
+lower_right a b h = omega arith
 
 lowest_after : (count : ℕ) (test : ℕ → Bool) (start : ℕ) → start ≤ lowest count test start
 unfolding lowest
@@ -53,7 +53,7 @@ lowest_after (suc count) test start =
     by_test (test start) (λ t. rw (t, lowest) (omega arith)) (λ t. rw (t, lowest) (omega (arith, lowest_after count test (start + 1))))
 
 lowest_or : (count : ℕ) (one other : ℕ → Bool) (start : ℕ)
-    → lowest count (λ n. one n || other n) start ≡ lower_of (lowest count one start) (lowest count other start)
+    → lowest count (λ n. one n || other n) start ≡ min (lowest count one start) (lowest count other start)
 unfolding lowest
 lowest_or zero one other start = sym (lower_left start start (omega arith))
 lowest_or (suc count) one other start =
@@ -90,7 +90,7 @@ module _ (o : Openings) where
       ∙ pair_or (by_kinds nonterminal) (by_sorts nonterminal) g
 
   clashing_or : (g : List Production)
-      → clashing o g ≡ lower_of (lowest 64 (λ n. any_pair (by_kinds n) g) 0) (lowest 64 (λ n. any_pair (by_sorts n) g) 0)
+      → clashing o g ≡ min (lowest 64 (λ n. any_pair (by_kinds n) g) 0) (lowest 64 (λ n. any_pair (by_sorts n) g) 0)
   clashing_or g =
       ap (λ (test : ℕ → Bool). lowest 64 test 0) (fun_ext (any_or g)) ∙ lowest_or 64 (λ n. any_pair (by_kinds n) g) (λ n. any_pair (by_sorts n) g) 0
 
@@ -116,10 +116,10 @@ module _ (bs : List ℕ) (o : Openings) (places : List Place) {sets room : List 
       → no_clash_with room sorts ≡ no_clash o (productions_at bs places)
   unfolding no_clash_with no_clash answer
   with_sorts {sorts = sorts} sorts-held =
-      answers (lower_of (clashing_in room) (clashing_in sorts)) (clashing o g) (λ n. lowest_of (all_shared_in room n) (all_shared_in sorts n)) (lowest_shared o g)
+      answers (min (clashing_in room) (clashing_in sorts)) (clashing o g) (λ n. lowest_of (all_shared_in room n) (all_shared_in sorts n)) (lowest_shared o g)
       (sym
       (clashing_or o g
-      ∙ ap₂ lower_of (sym (clashing_is bs o.kinds o.nullable places held)) (sym (clashing_is bs o.sorts (λ p. false) places sorts-held))))
+      ∙ ap₂ min (sym (clashing_is bs o.kinds o.nullable places held)) (sym (clashing_is bs o.sorts (λ p. false) places sorts-held))))
       (λ n small. ap₂ lowest_of (shared_is bs o.kinds o.nullable places held n small) (shared_is bs o.sorts (λ p. false) places sorts-held n small))
 
 -- ------------------------------------------------------------------ where no place opens a production

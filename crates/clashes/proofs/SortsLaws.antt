@@ -1,5 +1,5 @@
 -- Laws of refusal 13 where pattern places open productions (document 02, C-14), and of when none does.
-use Prim.Native.Nat.{ℕ, ◌+◌, ◌<◌, ◌≤◌}
+use Prim.Native.Nat.{ℕ, min, ◌+◌, ◌<◌, ◌≤◌}
 use mathlib.Core.Path.{◌≡◌, refl, sym, ◌∙◌}
 use mathlib.Core.Bool.{Bool, true, false, false≢true}
 use mathlib.Core.List.{List, []}
@@ -31,7 +31,7 @@ use Rattle.patterns.specs.Opened.{place_of, places_first}
 use Rattle.clashes.specs.Openings.{place_sorts, lowest_of}
 use Rattle.clashes.specs.CheckFirsts.{any_pair}
 use Rattle.clashes.specs.CheckCalls.{PlacesBelowBoth}
-use Rattle.clashes.specs.Pairs.{linked, clash_in, PlacesBelow, clashing_below, clashing_in, all_shared_in, lower_of, no_clash_with}
+use Rattle.clashes.specs.Pairs.{linked, clash_in, PlacesBelow, clashing_below, clashing_in, all_shared_in, no_clash_with}
 use Rattle.clashes.proofs.BothRooms.{lower_left, lower_right}
 use Rattle.clashes.proofs.Clashing.{sorts_are}
 use Rattle.clashes.proofs.PairsLaws.{lowest_within, lowest_beyond, linked_none}
@@ -104,7 +104,7 @@ module _ {room : List ℕ} {below : ℕ} (places_are : PlacesBelow below room) w
   beyond h = lowest_beyond places_are.small none_clashes refl h
 
 module _ {room sorts : List ℕ} {below : ℕ} (places_are : PlacesBelowBoth below room sorts) {one other : ℕ} (one_is : one ≡ clashing_below below room)
-    (other_is : other ≡ clashing_below below sorts) {nonterminal : ℕ} (lower_is : nonterminal ≡ lower_of one other) where
+    (other_is : other ≡ clashing_below below sorts) {nonterminal : ℕ} (lower_is : nonterminal ≡ min one other) where
   one_within : one < below → one ≡ clashing_in room
   one_within h = one_is ∙ within places_are.kinds_below (rw one_is at h)
 
@@ -120,10 +120,10 @@ module _ {room sorts : List ℕ} {below : ℕ} (places_are : PlacesBelowBoth bel
   small : below ≤ 64
   small = places_are.kinds_below.small
 
-  lower_within : nonterminal < below → nonterminal ≡ lower_of (clashing_in room) (clashing_in sorts)
+  lower_within : nonterminal < below → nonterminal ≡ min (clashing_in room) (clashing_in sorts)
   lower_within h = by (dec_lt one below) (dec_lt other below)
     where
-      by : Dec (one < below) → Dec (other < below) → nonterminal ≡ lower_of (clashing_in room) (clashing_in sorts)
+      by : Dec (one < below) → Dec (other < below) → nonterminal ≡ min (clashing_in room) (clashing_in sorts)
       by (yes a) (yes b) = rw (← (one_within a), ← (other_within b)) lower_is
       by (yes a) (no b) =
           rw (← (one_within a), ← (other_beyond (omega arith)))
@@ -135,10 +135,10 @@ module _ {room sorts : List ℕ} {below : ℕ} (places_are : PlacesBelowBoth bel
           dite (dec_lt one other) (λ l. absurd (omega (arith, lower_is ∙ lower_left one other (omega arith))))
           (λ l. absurd (omega (arith, lower_is ∙ lower_right one other (omega arith))))
 
-  lower_beyond : below ≤ nonterminal → 64 ≡ lower_of (clashing_in room) (clashing_in sorts)
+  lower_beyond : below ≤ nonterminal → 64 ≡ min (clashing_in room) (clashing_in sorts)
   lower_beyond h = by (dec_lt one other)
     where
-      by : Dec (one < other) → 64 ≡ lower_of (clashing_in room) (clashing_in sorts)
+      by : Dec (one < other) → 64 ≡ min (clashing_in room) (clashing_in sorts)
       by (yes l) =
           let e : nonterminal ≡ one = lower_is ∙ lower_left one other (omega arith) in
           rw (← (one_beyond (omega arith)), ← (other_beyond (omega arith))) (sym (lower_left 64 64 (omega arith)))
@@ -149,7 +149,7 @@ module _ {room sorts : List ℕ} {below : ℕ} (places_are : PlacesBelowBoth bel
   abbrev told : Bool → ℕ → Checked (Unit {0})
   told test number = elim test [ true ↦ bad (refusal 13 number (lowest_of (all_shared_in room number) (all_shared_in sorts number)) 0) | false ↦ ok tt ]
 
-  tests : (number : ℕ) → number ≡ lower_of (clashing_in room) (clashing_in sorts) → (test : Bool) → ltb number 64 ≡ test
+  tests : (number : ℕ) → number ≡ min (clashing_in room) (clashing_in sorts) → (test : Bool) → ltb number 64 ≡ test
       → verdict (told test number) ≡ verdict (no_clash_with room sorts)
   unfolding no_clash_with
   tests number e test f = rw (← f, e) refl

@@ -1,6 +1,6 @@
 -- The search for a clash by the links of a room: over the productions of each nonterminal, place by place. Where the room holds a grammar it is
 -- the search over the productions themselves. These mirror code: nobody needs them to believe `expand`.
-use Rattle.std.specs.Prelude.{ℕ, zero, suc, ◌-◌, ◌<◌, ◌≤◌, ◌≡◌, Bool, true, false, ◌&&◌, ◌||◌, List, [], ◌∷◌, ltb, get_or}
+use Rattle.std.specs.Prelude.{ℕ, min, zero, suc, ◌-◌, ◌<◌, ◌≤◌, ◌≡◌, Bool, true, false, ◌&&◌, ◌||◌, List, [], ◌∷◌, ltb, get_or}
 use Rattle.std.specs.Int.Bits.{bit_and, bit_or}
 use Rattle.std.specs.Int.Count.{count_trailing_zeros}
 use Rattle.answers.specs.Refusals.{refusal}
@@ -70,12 +70,8 @@ no_clash_in room =
     let n : ℕ = clashing_in room in
     elim (ltb n most.nonterminals) [ true ↦ bad (refusal 13 n (count_trailing_zeros 64 (all_shared_in room n)) 0) | false ↦ ok tt ]
 
--- the lower of two numbers
-abbrev pub lower_of : ℕ → ℕ → ℕ
-lower_of a b = elim (ltb a b) [ true ↦ a | false ↦ b ]
-
 -- the same with the sorts of pattern places (document 02, C-14): the room `sorts` has them for the kinds, and no production in it is nullable
 unfoldable pub no_clash_with : List ℕ → List ℕ → Checked (Unit {0})
 no_clash_with room sorts =
-    let n : ℕ = lower_of (clashing_in room) (clashing_in sorts) in
+    let n : ℕ = min (clashing_in room) (clashing_in sorts) in
     elim (ltb n most.nonterminals) [ true ↦ bad (refusal 13 n (lowest_of (all_shared_in room n) (all_shared_in sorts n)) 0) | false ↦ ok tt ]

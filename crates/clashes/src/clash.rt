@@ -12,16 +12,14 @@ use productions::room::{NO_PLACE, ROOM, first, first_place, is_nullable, next_pl
 pub(crate) fn left_recursive(calls: &[u64], many: u8) -> u8
     ensures { result ≡ recursive_below many calls.now }
 {
-    let mut n: u8 = 0;
-    while n < many {
+    for n in 0..many {
         let reached = set_at(calls, n as usize);
         let found = has(reached, n);
         if found {
             return n;
         }
-        n += 1;
     }
-    n
+    many
 }
 
 // The place that the link at place i leads to; 256 if it leads to none, or not on.
@@ -85,6 +83,7 @@ pub(crate) fn clashing(room: &[u64; ROOM], many: u8) -> u8
     ensures { result ≡ clashing_below many room.now }
 {
     let mut n: u8 = 0;
+    // The label leaves all three loops at the first clash, and n is what is told.
     'search: while n < many {
         let mut seen = Seen {
             kinds: 0,

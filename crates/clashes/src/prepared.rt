@@ -39,9 +39,7 @@ fn fill(
 {
     begin(room, kinds, sets);
     let mut places: u64 = 0;
-    let mut j = m;
-    while 0 < j {
-        j -= 1;
+    for j in (0..m).rev() {
         let owner = owners[j];
         let start = offset(starts, j);
         let found = opening(table, start, nulls, sets);
@@ -57,15 +55,8 @@ fn bound(owners: &[u8; EACH_ALTERNATIVE], m: usize) -> u8
     ensures { OwnersBelow result m owners.now }
 {
     let mut many: u8 = 0;
-    let mut j: usize = 0;
-    while j < m {
-        let owner = owners[j];
-        if many <= owner {
-            many = owner + 1;
-            j += 1;
-        } else {
-            j += 1;
-        }
+    for owner in &owners[..m] {
+        many = many.max(*owner + 1);
     }
     many
 }

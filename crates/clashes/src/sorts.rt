@@ -4,7 +4,7 @@ ghost use Rattle.std.specs.Prelude.{◌≡◌};
 ghost use Rattle.answers.specs.Checked.{verdict};
 ghost use Rattle.productions.specs.Index.{places_in};
 ghost use Rattle.clashes.specs.Openings.{lowest_of};
-ghost use Rattle.clashes.specs.Pairs.{lower_of, no_clash_with};
+ghost use Rattle.clashes.specs.Pairs.{no_clash_with};
 ghost use Rattle.clashes.specs.CheckCalls.{FillRoom, sorts_filled, PlacesBelowBoth, SortsAsked, sorts_room};
 
 use super::clash::{clashing, shared};
@@ -34,21 +34,12 @@ fn fill_sorts(
         ≡ sorts_filled table.now m owners.now starts.now nulls sets.now room.old }
 {
     begin(room, 0, sets);
-    let mut j = m;
-    while 0 < j {
-        j -= 1;
+    for j in (0..m).rev() {
         let owner = owners[j];
         let start = offset(starts, j);
         let found = gather(table, start, nulls, sets);
         lay(room, j, owner, starts[j], found / BELOW_PLACES, false);
     }
-}
-
-// The lower of two nonterminals.
-fn lower(a: u8, b: u8) -> u8
-    ensures { result ≡ lower_of a b }
-{
-    if a < b { a } else { b }
 }
 
 // What 13 names of some kinds and sorts that are shared.
@@ -69,7 +60,7 @@ fn check_both(room: &[u64; ROOM], sorts: &[u64; ROOM], many: u8) -> Verdict
     requires { PlacesBelowBoth many room.now sorts.now }
     ensures { result ≡ verdict (no_clash_with room.now sorts.now) }
 {
-    let n = lower(clashing(room, many), clashing(sorts, many));
+    let n = clashing(room, many).min(clashing(sorts, many));
     if n < many {
         let name = name_of(shared(room, n), shared(sorts, n));
         Verdict::Refused(refuse(AMBIGUOUS, n as u64, name, 0))

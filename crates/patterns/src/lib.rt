@@ -57,9 +57,8 @@ fn pattern_of(t: Terminal) -> u64
     ensures { result ≡ pattern_of (terminal (terminal_in t)) }
 {
     match t {
-        Terminal::Keyword(_) => 0,
+        Terminal::Keyword(_) | Terminal::Number => 0,
         Terminal::Ide(sort) => ide_bit(sort),
-        Terminal::Number => 0,
         Terminal::Place(sort) => place_bit(sort),
     }
 }
@@ -148,13 +147,11 @@ fn round(
         starts.now) sets.old) sets.old sets.new result }
 {
     let mut grew = false;
-    let mut j: usize = 0;
-    while j < m {
+    for j in 0..m {
         let owner = byte(owners, j);
         let start = offset(starts, j);
         let more = step(table, owner, start, nulls, sets);
         grew = grew | more;
-        j += 1;
     }
     grew
 }
@@ -171,12 +168,9 @@ pub fn pattern_sets(
     ensures { sets.new ≡ pattern_sets nulls (productions_by m table.now owners.now starts.now) }
 {
     *sets = [0u64; EACH_NONTERMINAL];
-    let mut k: usize = 0;
-    while k < EACH_NONTERMINAL {
+    for _ in 0..EACH_NONTERMINAL {
         let grew = round(table, owners, starts, m, nulls, sets);
-        if grew {
-            k += 1;
-        } else {
+        if !grew {
             return;
         }
     }

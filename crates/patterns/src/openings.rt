@@ -18,10 +18,8 @@ fn place_of(t: Terminal) -> u64
     ensures { result ≡ place_of (terminal (terminal_in t)) }
 {
     match t {
-        Terminal::Keyword(_) => 0,
-        Terminal::Ide(_) => 0,
-        Terminal::Number => 0,
         Terminal::Place(sort) => place_bit(sort),
+        _ => 0,
     }
 }
 

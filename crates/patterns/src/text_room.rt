@@ -30,11 +30,9 @@ fn null_set(owners: &[u8], m: usize, room: &[u64; ROOM]) -> u64
     ensures { result ≡ nulls_in m owners.now room.now }
 {
     let mut set: u64 = 0;
-    let mut j: usize = 0;
-    while j < m {
+    for j in 0..m {
         let nullable = is_nullable(room, j);
         set = with_owner(set, byte(owners, j), nullable);
-        j += 1;
     }
     set
 }
@@ -44,12 +42,10 @@ fn add_all(table: &[u8], starts: &[u16], m: usize, nulls: u64, sets: &[u64], roo
     requires { MayAdd m sets.now room.old }
     ensures { Patterned (pattern_at table.now starts.now nulls sets.now) room.old m room.new }
 {
-    let mut j: usize = 0;
-    while j < m {
+    for j in 0..m {
         let start = offset(starts, j);
         let found = gather(table, start, nulls, sets);
         add_patterns(room, j, found);
-        j += 1;
     }
 }
 

@@ -1,5 +1,6 @@
 -- `left_recursive`: no lower nonterminal reaches itself.
-use mathlib.Core.Path.{◌∙◌}
+use mathlib.Core.Path.{◌≡◌, ◌∙◌}
+use native.Mathlib.Omega.{arith}
 use Rattle.clashes.proofs.PairsLaws as laws
 use Rattle.clashes.proofs.clash.left_recursive.Goals as goal
 
@@ -17,4 +18,6 @@ loop-n-preserved c =
     (laws.reach_is _ c.set_at-reached.ensures c.has-found.ensures ∙ c.if-found.false)
 
 pub returns : goal.returns
-returns c = search laws.lowest_end
+returns c =
+    let z : c.args.many ≡ c.loop-n.n = omega (arith, c.loop-n-test.false, c.loop-n.auto.n-end) in
+    z ∙ laws.lowest_end c.loop-n.invariant c.loop-n-test.false

@@ -4,6 +4,3 @@ use Rattle.clashes.proofs.prepared.fill.Given as goal
 
 abbrev pub invariant-loop-j : goal.invariant-loop-j
 invariant-loop-j l = laws.Opening l.table l.m l.owners l.starts l.kinds l.nulls l.sets l.initial.room l.j l.room l.places
-
-abbrev pub decreases-loop-j : goal.decreases-loop-j
-decreases-loop-j l = l.j

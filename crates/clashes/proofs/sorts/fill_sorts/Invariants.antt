@@ -7,6 +7,3 @@ use Rattle.clashes.proofs.sorts.fill_sorts.Given as goal
 
 abbrev pub invariant-loop-j : goal.invariant-loop-j
 invariant-loop-j l = Filling 0 l.sets (map (sorts_at l.table l.nulls l.sets) (places_in l.m l.owners l.starts)) l.initial.room l.j l.room
-
-abbrev pub decreases-loop-j : goal.decreases-loop-j
-decreases-loop-j l = l.j

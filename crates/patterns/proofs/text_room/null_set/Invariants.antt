@@ -1,10 +1,6 @@
 -- `null_set`: the nonterminals of the nullable productions so far.
-use Prim.Native.Nat.{◌-◌}
 use Rattle.patterns.proofs.TextRoomLaws as laws
 use Rattle.patterns.proofs.text_room.null_set.Given as goal
 
 abbrev pub invariant-loop-j : goal.invariant-loop-j
 invariant-loop-j l = laws.Nulling l.owners l.m l.room l.j l.set
-
-abbrev pub decreases-loop-j : goal.decreases-loop-j
-decreases-loop-j l = l.m - l.j
