@@ -35,7 +35,7 @@ use Rattle.expansion.specs.TextTokens.{is_opened, is_placed}
 use Rattle.expansion.specs.Expansion.{Rule, Grammar, rule_of, Choice, unfit, chosen, first_rule, choice, ready_by, ready_for}
 use Rattle.expansion.proofs.AsBefore.{opened_as_before, placed_never, opened_variable, placed_variable, opened_outside, placed_outside}
 use Rattle.choices.proofs.SameSets.{nullables_same, sets_same}
-use Rattle.choices.specs.Held.{HeldFor, HoldsSome}
+use Rattle.choices.specs.Held.{HeldFor}
 use Rattle.choices.specs.Chosen.{first_sets_of, kinds_in, entries_for, of_with, opens, places, holds_kind, opens_by, opens_sort, first_with, or_else, chosen_place}
 use Rattle.choices.specs.Chosen.{chosen_start_for, memory_size, slot, RemembersFor}
 
@@ -743,7 +743,3 @@ module _ {patterns : List Item → ℕ} {bs room : List ℕ} (held : HeldFor pat
         -- What holds at the beginning of each production holds there.
         pub chosen_each : (P : ℕ → Type 0) → Each (λ (p : Place). P p.start) (places_of bs) → P (start_in room spot)
         chosen_each P each = rw start_is (each_at each spot at_place)
-
--- no nonterminal's first place lies behind the one that is no production's
-pub never_behind : {room : List ℕ} {nonterminal spot : ℕ} → HoldsSome room → nonterminal < 64 → spot ≡ first_place_in room nonterminal → 256 < spot → ⊥
-never_behind some small e h = omega (arith, first_within some.held small (λ entry. true) e, h)

@@ -15,7 +15,6 @@ use kinds::{NO_KIND, OUTSIDE_KIND, VARIABLE_KIND, WORD_KIND, has_kind};
 use productions::room::{
     NO_PLACE, ROOM, first, first_place, first_set, next_place, nullable_place, patterns,
 };
-use spellings::wide_byte;
 
 const KINDS: usize = NO_KIND as usize;
 
@@ -67,11 +66,7 @@ fn opens_ide(patterns: u64, sort: u32) -> bool
 {
     match sort {
         VAR => has_kind(patterns, VAR),
-        BINDER => {
-            let var = has_kind(patterns, VAR);
-            let binder = has_kind(patterns, BINDER);
-            var | binder
-        }
+        BINDER => has_kind(patterns, VAR) | has_kind(patterns, BINDER),
         LABEL => has_kind(patterns, LABEL),
         _ => false,
     }
@@ -105,7 +100,9 @@ fn opened_by(room: &[u64; ROOM], n: u8, placed: bool, sort: u32) -> usize
     NO_PLACE
 }
 
-// The same for a token of a text: an outside name chooses as a word does, a variable an ide that it fits before a place of its sort.
+// The same for a token of a text: an outside name chooses as a word does, a variable an ide that it fits before a place of its sort. It stands apart from
+// the choice for a formula, which is looked for more often.
+#[inline(never)]
 fn search_text(room: &[u64; ROOM], n: u8, kind: u32) -> usize
     requires { HoldsSome room.now × (n < most.nonterminals) × (no_kind < kind) }
     ensures { (P : List Item → ℕ) (bs : List ℕ) → HeldFor P bs room.now → result ≡ chosen_place (entries_for P bs) n kind }
@@ -125,20 +122,6 @@ fn search_text(room: &[u64; ROOM], n: u8, kind: u32) -> usize
     nullable_place(room, n)
 }
 
-// The same. It calls itself, on what it never is passed, a room in which a nonterminal's first place lies behind the last: so the back end keeps it
-// apart from the choice for a formula.
-fn search_apart(room: &[u64; ROOM], n: u8, kind: u32) -> usize
-    requires { HoldsSome room.now × (n < most.nonterminals) × (no_kind < kind) }
-    ensures { (P : List Item → ℕ) (bs : List ℕ) → HeldFor P bs room.now → result ≡ chosen_place (entries_for P bs) n kind }
-{
-    let from = first_place(room, n);
-    if NO_PLACE < from {
-        let none = [0u64; ROOM];
-        return search_apart(&none, n, kind);
-    }
-    search_text(room, n, kind)
-}
-
 // The same, remembered: a choice is searched for where it is met first, and then looked up. A place is remembered as it is, and 0 says that
 // none is. So place 0 is searched for each time, and so is what is not there; but place 0 is that of a nonterminal's first production, which is
 // looked at first, and the first set says that there is none.
@@ -152,12 +135,12 @@ pub fn choose(room: &[u64; ROOM], memory: &mut [u8; MEMORY], n: u8, kind: u32) -
     }
     if NO_KIND <= kind {
         if NO_KIND < kind {
-            return search_apart(room, n, kind);
+            return search_text(room, n, kind);
         }
         return search(room, n, kind);
     }
     let at = n as usize * KINDS + kind as usize;
-    let known = wide_byte(memory[at]);
+    let known = usize::from(memory[at]);
     if 0 < known {
         return known;
     }

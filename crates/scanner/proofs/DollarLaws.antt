@@ -20,11 +20,11 @@ use Rattle.tokens.specs.Tokens.{token, longest_formula}
 use Rattle.tokens.specs.Variables.{dollar, dollar_digits, is_dollar, is_variable, dollars_below, variable_name, variable_token, VariableFront}
 use Rattle.tokens.proofs.StepLaws.{front_byte, step_by_lem, rest_lent}
 use Rattle.tokens.proofs.FrontLaws.{lexeme_variable}
-use Rattle.tokens.proofs.VariableLaws.{no_variables, variable_front, front_variable, none_found, none_above}
+use Rattle.tokens.proofs.VariableLaws.{no_variables, variable_front, none_found, none_above}
 use Rattle.lexicon.specs.LexiconRoom.{variable_count_at, variables_at, sorts_in, lexicon_in, LexicalIn}
 use Rattle.lexicon.proofs.SortLaws.{sorts_counted, sort_at}
-use Rattle.scanner.specs.declared.dollars.Variable.{Variable}
-use Rattle.scanner.specs.declared.dollars.Variable.TheVariants.{Named, Unnamed}
+use Rattle.std.proofs.Common.{Option, Some, None}
+use Rattle.std.specs.Option.{is_some}
 use Rattle.scanner.specs.Dollars.{variable_of, is_named}
 use Rattle.scanner.specs.Stepping.{SymbolHere, Marks}
 
@@ -59,15 +59,15 @@ module _ (text : List ℕ) (at : ℕ) where
 
 module _ (count : ℕ) (rest : List ℕ) where
   -- what is no variable is found to be none
-  unnamed_is : is_variable count rest ≡ false → Unnamed ≡ variable_of count rest
+  unnamed_is : is_variable count rest ≡ false → None ≡ variable_of count rest
   unnamed_is e = rw (e, variable_of) refl
 
   -- where there are no variables, there is none
-  pub none_is : count ≡ 0 → Unnamed ≡ variable_of count rest
+  pub none_is : count ≡ 0 → None ≡ variable_of count rest
   none_is e = unnamed_is (rw e (no_variables rest))
 
   -- nor is there one where there is no `$` before a digit
-  pub plain_is : false ≡ is_dollar rest → Unnamed ≡ variable_of count rest
+  pub plain_is : false ≡ is_dollar rest → None ≡ variable_of count rest
   unfolding is_variable
   plain_is e = unnamed_is (rw (← e, is_variable) refl)
 
@@ -102,7 +102,7 @@ module _ (text : List ℕ) (at : ℕ) {size : ℕ} (counted : size ≡ length (l
   pub named_is : (count : ℕ) {value : ℕ} → true ≡ is_dollar (drop at text)
       → Value value ≡ number_of (take size (take (length text - (at + 1)) (drop (at + 1) text)))
       → value < count
-      → Named value (size + 1) ≡ variable_of count (drop at text)
+      → Some (value, size + 1) ≡ variable_of count (drop at text)
   unfolding is_variable
   named_is count {value} here told below =
       let rest : List ℕ = drop at text in
@@ -112,12 +112,12 @@ module _ (text : List ℕ) (at : ℕ) {size : ℕ} (counted : size ≡ length (l
 
   -- digits worth more name none
   pub over_is : (count : ℕ) {value : ℕ} → Value value ≡ number_of (take size (take (length text - (at + 1)) (drop (at + 1) text))) → count ≤ value
-      → Unnamed ≡ variable_of count (drop at text)
+      → None ≡ variable_of count (drop at text)
   over_is count told over = unnamed_is count (drop at text) (none_above count (drop at text) (omega (arith, value_told _ told, ap value_of taken)))
 
   -- nor do digits worth more than a number may be
   pub large_is : (count : ℕ) → TooLarge ≡ number_of (take size (take (length text - (at + 1)) (drop (at + 1) text))) → count ≤ most_variables
-      → Unnamed ≡ variable_of count (drop at text)
+      → None ≡ variable_of count (drop at text)
   large_is count told few = unnamed_is count (drop at text) (none_above count (drop at text) (omega (arith, large_told _ told, ap value_of taken)))
 
 -- what is found tells which variable stands at the front
@@ -130,20 +130,21 @@ record NamedBy (count : ℕ) (rest : List ℕ) (number size : ℕ) : Type 0 wher
   size_is : size ≡ 1 + length (dollar_digits rest)
 
 module _ (count : ℕ) (rest : List ℕ) where
-  named_found : is_variable count rest ≡ true → variable_of count rest ≡ Named (value_of (dollar_digits rest)) (length (dollar_digits rest) + 1)
+  named_found : is_variable count rest ≡ true → variable_of count rest ≡ Some (value_of (dollar_digits rest), length (dollar_digits rest) + 1)
   named_found e = rw (e, variable_of) refl
 
-  named_by : {number size : ℕ} → Named number size ≡ variable_of count rest → NamedBy count rest number size
+  named_by : {number size : ℕ} → Some (number, size) ≡ variable_of count rest → NamedBy count rest number size
   named_by {number} {size} found =
       by_test (is_variable count rest)
       (λ e.
       let z = named_found e in
-      let n : number ≡ value_of (dollar_digits rest) = cc in
-      let l : size ≡ length (dollar_digits rest) + 1 = cc in
+      let same : ◌≡◌ {A = ℕ × ℕ} (number, size) (value_of (dollar_digits rest), length (dollar_digits rest) + 1) = cc in
+      let n : number ≡ value_of (dollar_digits rest) = ap (λ (p : ℕ × ℕ). p.0) same in
+      let l : size ≡ length (dollar_digits rest) + 1 = ap (λ (p : ℕ × ℕ). p.1) same in
       record { front = variable_front e; number_is = n; size_is = omega arith })
       (λ e. let z = unnamed_is count rest e in let q : ◌≡◌ {A = ℕ} 0 1 = cc in absurd (omega arith))
 
-  unnamed_by : Unnamed ≡ variable_of count rest → is_variable count rest ≡ false
+  unnamed_by : None ≡ variable_of count rest → is_variable count rest ≡ false
   unnamed_by found =
       by_test (is_variable count rest) (λ e. let z = named_found e in let q : ◌≡◌ {A = ℕ} 0 1 = cc in absurd (omega arith)) (λ e. e)
 
@@ -153,15 +154,10 @@ module _ (count : ℕ) (rest : List ℕ) where
   pub plain_named : false ≡ is_dollar rest → true ≡ is_named count rest
   plain_named e = rw (← e, is_named) refl
 
-  -- so may a variable
-  pub variable_named : {number size : ℕ} → Named number size ≡ variable_of count rest → true ≡ is_named count rest
-  variable_named found =
-      let v : is_variable count rest ≡ true = front_variable (named_by found).front in
-      by_test (is_dollar rest) (λ e. rw (e, v, is_named) refl) (λ e. rw (e, is_named) refl)
-
-  -- any other `$` before a digit may not
-  pub dollar_unnamed : true ≡ is_dollar rest → Unnamed ≡ variable_of count rest → false ≡ is_named count rest
-  dollar_unnamed here found = rw (← here, unnamed_by found, is_named) refl
+  -- so may a variable, and no other `$` before a digit
+  pub dollar_named : true ≡ is_dollar rest → is_some (variable_of count rest) ≡ is_named count rest
+  dollar_named here =
+      by_test (is_variable count rest) (λ v. rw (← here, v, variable_of, is_named) refl) (λ v. rw (← here, v, variable_of, is_named) refl)
 
 -- the text from an offset on passes exactly if the whole does
 pub record Passing (count : ℕ) (text : List ℕ) (at : ℕ) : Type 0 where
@@ -230,12 +226,12 @@ pub record VariableHere (table room formula : List ℕ) (at number size : ℕ) :
 
 -- what is found, by the variables that the lexicon's room has
 module _ {table room tree : List ℕ} (rooms : LexicalIn table room tree) (formula : List ℕ) (at : ℕ) {count : ℕ}
-    (counted : count ≡ get_or room variable_count_at 0) {variable : Variable} (found : variable ≡ variable_of count (drop at formula)) where
+    (counted : count ≡ get_or room variable_count_at 0) {variable : Option (ℕ × ℕ)} (found : variable ≡ variable_of count (drop at formula)) where
   sorts_many : count ≡ length (sorts_in room)
   sorts_many = counted ∙ sym (sorts_counted rooms.held.long rooms.sorts_fit)
 
   -- a variable that is found stands there
-  pub variable_here : {number size : ℕ} → variable ≡ Named number size → at < length formula → VariableHere table room formula at number size
+  pub variable_here : {number size : ℕ} → variable ≡ Some (number, size) → at < length formula → VariableHere table room formula at number size
   variable_here {number} {size} named inside =
       let rest : List ℕ = drop at formula in
       let told : NamedBy count rest number size = named_by count rest (sym named ∙ found) in
@@ -251,7 +247,7 @@ module _ {table room tree : List ℕ} (rooms : LexicalIn table room tree) (formu
       }
 
   -- any other `$` is a symbol
-  pub dollar_symbol : variable ≡ Unnamed → get_or formula at 0 ≡ dollar → at < length formula → length formula ≤ longest_formula
+  pub dollar_symbol : variable ≡ None → get_or formula at 0 ≡ dollar → at < length formula → length formula ≤ longest_formula
       → SymbolHere (lexicon_in table room) formula at
   dollar_symbol unnamed here below short =
       record {

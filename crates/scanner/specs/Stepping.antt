@@ -1,6 +1,6 @@
 -- What the functions of one step of the scan promise. Nobody needs these definitions to believe `scan`: the contracts of private
 -- functions cite them, and its own does not.
-use Rattle.std.specs.Prelude.{ℕ, ◌+◌, ◌*◌, ◌<◌, ◌≤◌, ◌≡◌, true, false, List, length, get_or, take, drop}
+use Rattle.std.specs.Prelude.{ℕ, ◌+◌, ◌*◌, ◌<◌, ◌≤◌, ◌≡◌, true, false, List, length, get_or, replicate, take, drop}
 use Rattle.spellings.specs.Bytes.{is_symbol}
 use Rattle.grammar.specs.Limits.{most}
 use Rattle.grammar.specs.Table.{Lexicon}
@@ -84,8 +84,8 @@ short_formula = 64
 abbrev pub middle_formula : ℕ
 middle_formula = 512
 
--- what a scan with a room of links for formulas up to a size asks: a formula that is not empty and not longer
-pub record LentWithin (longest : ℕ) (table sorts formula tokens words : List ℕ) : Type 0 where
+-- what a scan asks that makes a room of links itself: as many as the formula's words may need, and no more than there are for the largest formula
+pub record LentToLink (links mask : ℕ) (table sorts formula tokens words : List ℕ) : Type 0 where
   pub lent : LentToScan table sorts formula tokens words
-  pub some : 0 < length formula
-  pub within : length formula ≤ longest
+  pub few : links ≤ 10240
+  pub linked : Scannable formula (replicate links 0) mask

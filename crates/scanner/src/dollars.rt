@@ -4,17 +4,10 @@ ghost use Rattle.tokens.specs.Variables.{is_dollar, dollars_below};
 ghost use Rattle.grammar.specs.Variables.{most_variables};
 ghost use Rattle.scanner.specs.Dollars.{is_named, variable_of};
 
-use spellings::{Number, wide_number};
+use spellings::Number;
 
 // The byte `$`.
-pub const DOLLAR: u8 = 36;
-
-// A variable by its number, with the bytes that its token has; or none.
-#[derive(Drop)]
-pub enum Variable {
-    Named(u32, usize),
-    Unnamed,
-}
+pub const DOLLAR: u8 = b'$';
 
 // Whether `$` directly before a digit stands at an offset.
 fn is_dollar(text: &[u8], at: usize) -> bool
@@ -31,29 +24,30 @@ fn is_dollar(text: &[u8], at: usize) -> bool
     spellings::is_digit(text[next])
 }
 
-// Which of `count` variables stands at an offset. There may be thousands of digits: a value too large for a number is no variable's.
-pub fn variable_at(text: &[u8], at: usize, count: usize) -> Variable
+// Which of `count` variables stands at an offset, by its number, with the bytes that its token has. There may be thousands of digits: a value too large for
+// a number is no variable's.
+pub fn variable_at(text: &[u8], at: usize, count: usize) -> Option<(u32, usize)>
     requires { (at < length text.now) × (count ≤ most_variables) }
     ensures { result ≡ variable_of count (drop at text.now) }
 {
     if count == 0 {
-        return Variable::Unnamed;
+        return None;
     }
     let dollar = is_dollar(text, at);
     if !dollar {
-        return Variable::Unnamed;
+        return None;
     }
     let digits = &text[at + 1..];
     let n = spellings::digit_run(digits);
     let number = spellings::value(&digits[..n]);
     match number {
         Number::Value(v) => {
-            if wide_number(v) < count {
-                return Variable::Named(v, n + 1);
+            if (v as usize) < count {
+                return Some((v, n + 1));
             }
-            Variable::Unnamed
+            None
         }
-        Number::TooLarge => Variable::Unnamed,
+        Number::TooLarge => None,
     }
 }
 
@@ -66,11 +60,7 @@ fn is_named(text: &[u8], at: usize, count: usize) -> bool
     if !dollar {
         return true;
     }
-    let variable = variable_at(text, at, count);
-    match variable {
-        Variable::Named(_, _) => true,
-        Variable::Unnamed => false,
-    }
+    variable_at(text, at, count).is_some()
 }
 
 // Whether every `$` directly before a digit names one of `count` variables, wherever in a text it stands.
@@ -79,13 +69,11 @@ pub fn dollars_below(text: &[u8], count: usize) -> bool
     requires { count ≤ most_variables }
     ensures { result ≡ dollars_below count text.now }
 {
-    let mut at: usize = 0;
-    while at < text.len() {
+    for at in 0..text.len() {
         let named = is_named(text, at, count);
         if !named {
             return false;
         }
-        at += 1;
     }
     true
 }

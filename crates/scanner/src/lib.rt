@@ -12,12 +12,12 @@ ghost use Rattle.tokens.specs.Tokens.{token, most_tokens, longest_formula};
 ghost use Rattle.tokens.specs.Variables.{dollar};
 ghost use Rattle.lexicon.specs.Trees.{hash_of, Planted, Linkable, links_with};
 ghost use Rattle.lexicon.specs.LexiconRoom.{lexicon_by, lexicon_in, LexicalIn};
-ghost use Rattle.scanner.specs.Stepping.{Named, Ready, OwnWord, made, SymbolHere, Marks, Stepped, Agrees, Scannable, middle_formula, LentWithin};
+ghost use Rattle.scanner.specs.Stepping.{Named, Ready, OwnWord, made, SymbolHere, Marks, Stepped, Agrees, Scannable, LentToLink};
 ghost use Rattle.answers.specs.Refusals.{refusal};
 ghost use Rattle.scanner.specs.Rooms.{row_then, place_then, count_with, words_in, RoomFor, LentToScan, filled, scan_into};
 ghost use Rattle.scanner.specs.Numbered.{Scans};
 
-use crate::dollars::{DOLLAR, Variable, variable_at};
+use crate::dollars::{DOLLAR, variable_at};
 use crate::room::{LENGTH, OFFSET, PLACE, TOKEN, VALUE};
 use answers::Refusal;
 use answers::causes::{BAD_TOKEN, FORMULA_TOO_LONG, TOO_MANY_TOKENS};
@@ -29,7 +29,7 @@ use lexicon::variables::enter_sorts;
 use lexicon::{
     KEYWORD_COUNT, MASK, ROOM, SPELLING_COUNT, SYMBOLS, TREE, VARIABLE_COUNT, VARIABLES,
 };
-use spellings::{LONGEST_WORD, Number, wide_number};
+use spellings::{LONGEST_WORD, Number};
 use terms::VARIABLE;
 use tokens::{LONGEST_FORMULA, MOST_TOKENS, Scanned, Step, Token};
 
@@ -50,7 +50,7 @@ const SHORT_LINKS: usize = SHORT_MASK + 1 + 2 * SHORT;
 
 const MIDDLE_LINKS: usize = MIDDLE_MASK + 1 + 2 * MIDDLE;
 
-const LINKS: usize = LARGEST_MASK + 1 + 2 * MOST_TOKENS;
+const LARGEST_LINKS: usize = LARGEST_MASK + 1 + 2 * MOST_TOKENS;
 
 // The spelling number of a formula's first word that is no outside name.
 const FIRST_WORD: u32 = MOST_OUTSIDES as u32;
@@ -111,10 +111,10 @@ fn dollar_step(table: &[u8], room: &[u32], tree: &[u32], formula: &[u8], at: usi
     requires at_in_bounds { (at < length formula.now) × (length formula.now ≤ longest_formula) }
     ensures { Marks (lexicon_in table.now room.now) at (drop at formula.now) result }
 {
-    let count = wide_number(room[VARIABLE_COUNT]);
+    let count = room[VARIABLE_COUNT] as usize;
     let variable = variable_at(formula, at, count);
     match variable {
-        Variable::Named(n, size) => {
+        Some((n, size)) => {
             let sort = room[VARIABLES + n as usize];
             Step::Emit(Token {
                 kind: VARIABLE_KIND + sort,
@@ -123,7 +123,7 @@ fn dollar_step(table: &[u8], room: &[u32], tree: &[u32], formula: &[u8], at: usi
                 value: VARIABLE + n,
             })
         }
-        Variable::Unnamed => symbol_step(table, room, tree, formula, at),
+        None => symbol_step(table, room, tree, formula, at),
     }
 }
 
@@ -157,7 +157,7 @@ fn class_of(table: &[u8], room: &[u32], tree: &[u32], s: &[u8], hash: u64) -> Wo
     ensures { Named (lexicon_in table.now room.now) s.now result }
 {
     let keywords = room[KEYWORD_COUNT];
-    let count = wide_number(room[SPELLING_COUNT]);
+    let count = room[SPELLING_COUNT] as usize;
     let seen = seek(table, room, tree, MASK, count, s, hash);
     let spot = settle(seen, table, room, tree, MASK, count, s, hash);
     match spot {
@@ -394,66 +394,24 @@ fn scan_with(
     scan_loop(table, &room, &tree, formula, tokens, words, links, mask)
 }
 
-// The scan of a formula of up to 512 bytes, with a room for the links of its words. It calls itself on what it is never passed, an empty formula: the back end
-// lays no such function into its caller, whose frame stays without this room.
+// The same, with a room for the links of the formula's words. It stands apart, so that the frame of its caller stays without this room.
 #[inline(never)]
-fn scan_middle(
+fn scan_linked<const LINKS: usize>(
     table: &[u8],
     kinds: u64,
     variables: &[u8],
     formula: &[u8],
     tokens: &mut [u32],
     words: &mut [u32],
+    mask: usize,
 ) -> Scanned
-    requires { LentWithin middle_formula table.now variables.now formula.now tokens.old words.old }
+    requires { LentToLink LINKS mask table.now variables.now formula.now tokens.old words.old }
     ensures { filled result tokens.new words.new
         ≡ scan_into (lexicon_by kinds variables.now table.now) formula.now tokens.old words.old }
 {
-    if formula.len() == 0 {
-        let blank = [32u8; 1];
-        return scan_middle(table, kinds, variables, &blank, tokens, words);
-    }
-    let mut links = [0u32; MIDDLE_LINKS];
-    scan_with(
-        table,
-        kinds,
-        variables,
-        formula,
-        tokens,
-        words,
-        &mut links,
-        MIDDLE_MASK,
-    )
-}
-
-// The same of a formula of any size that is not refused for it.
-#[inline(never)]
-fn scan_long(
-    table: &[u8],
-    kinds: u64,
-    variables: &[u8],
-    formula: &[u8],
-    tokens: &mut [u32],
-    words: &mut [u32],
-) -> Scanned
-    requires { LentWithin longest_formula table.now variables.now formula.now tokens.old words.old }
-    ensures { filled result tokens.new words.new
-        ≡ scan_into (lexicon_by kinds variables.now table.now) formula.now tokens.old words.old }
-{
-    if formula.len() == 0 {
-        let blank = [32u8; 1];
-        return scan_long(table, kinds, variables, &blank, tokens, words);
-    }
     let mut links = [0u32; LINKS];
     scan_with(
-        table,
-        kinds,
-        variables,
-        formula,
-        tokens,
-        words,
-        &mut links,
-        LARGEST_MASK,
+        table, kinds, variables, formula, tokens, words, &mut links, mask,
     )
 }
 
@@ -480,13 +438,28 @@ pub fn scan(
         return unscanned(FORMULA_TOO_LONG, 0);
     }
     if size <= SHORT {
-        let mut links = [0u32; SHORT_LINKS];
-        return scan_with(
-            table, kinds, variables, formula, tokens, words, &mut links, SHORT_MASK,
+        return scan_linked::<SHORT_LINKS>(
+            table, kinds, variables, formula, tokens, words, SHORT_MASK,
         );
     }
     if size <= MIDDLE {
-        return scan_middle(table, kinds, variables, formula, tokens, words);
+        return scan_linked::<MIDDLE_LINKS>(
+            table,
+            kinds,
+            variables,
+            formula,
+            tokens,
+            words,
+            MIDDLE_MASK,
+        );
     }
-    scan_long(table, kinds, variables, formula, tokens, words)
+    scan_linked::<LARGEST_LINKS>(
+        table,
+        kinds,
+        variables,
+        formula,
+        tokens,
+        words,
+        LARGEST_MASK,
+    )
 }

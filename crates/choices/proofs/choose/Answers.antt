@@ -13,8 +13,8 @@ module _ {room memory : List ℕ} (may : MayChoose room memory) where
   some = record { patterns = may.patterns; bs = may.bs; held = may.held }
 
 -- a kind that no choice is remembered of
-pub search_apart-requires : goal.search_apart-requires
-search_apart-requires c = (some c.requires, c.if-n-ge-NONTERMINALS.false, omega (arith, c.if-kind-gt-NO_KIND.true))
+pub search_text-requires : goal.search_text-requires
+search_text-requires c = (some c.requires, c.if-n-ge-NONTERMINALS.false, omega (arith, c.if-kind-gt-NO_KIND.true))
 
 pub search-requires : goal.search-requires
 search-requires c = (some c.requires, c.if-n-ge-NONTERMINALS.false, omega (arith, c.if-kind-gt-NO_KIND.false))
@@ -30,7 +30,7 @@ returns-then-n-ge-NONTERMINALS c =
     record { place_is = laws.chosen_outside h _ _ c.if-n-ge-NONTERMINALS.true; memory_is = m }
 
 pub returns-then-kind-gt-NO_KIND : goal.returns-then-kind-gt-NO_KIND
-returns-then-kind-gt-NO_KIND c = λ P bs h m. record { place_is = c.search_apart.ensures P bs h; memory_is = m }
+returns-then-kind-gt-NO_KIND c = λ P bs h m. record { place_is = c.search_text.ensures P bs h; memory_is = m }
 
 pub returns-then-kind-ge-NO_KIND : goal.returns-then-kind-ge-NO_KIND
 returns-then-kind-ge-NO_KIND c = λ P bs h m. record { place_is = c.search.ensures P bs h; memory_is = m }
@@ -39,7 +39,7 @@ pub returns-then-known-gt0 : goal.returns-then-known-gt0
 returns-then-known-gt0 c =
     λ P bs h m.
     record {
-      place_is = laws.remembered m c.if-n-ge-NONTERMINALS.false (omega (arith, c.if-kind-ge-NO_KIND.false)) c.wide_byte-known.ensures c.if-known-gt0.true;
+      place_is = laws.remembered m c.if-n-ge-NONTERMINALS.false (omega (arith, c.if-kind-ge-NO_KIND.false)) c.from-known.ensures c.if-known-gt0.true;
       memory_is = m;
     }
 

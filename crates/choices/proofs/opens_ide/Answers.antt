@@ -8,7 +8,7 @@ pub returns-in-1 : goal.returns-in-1
 returns-in-1 c = search laws.opens_var
 
 pub returns-in-2 : goal.returns-in-2
-returns-in-2 c = laws.opens_binder _ c.in-2.is (ap₂ ◌||◌ c.has_kind-var.ensures c.has_kind-binder.ensures)
+returns-in-2 c = laws.opens_binder _ c.in-2.is (ap₂ ◌||◌ c.has_kind-in-2.ensures c.has_kind-in-2-2.ensures)
 
 pub returns-in-3 : goal.returns-in-3
 returns-in-3 c = search laws.opens_label

@@ -18,18 +18,18 @@ pub overflow_add-result : goal.overflow_add-result
 overflow_add-result c =
     omega (arith, laws.digits_few c.args.text.now c.args.at c.digit_run-n.ensures c.requires.0)
 
-pub returns-then-wide_number-count : goal.returns-then-wide_number-count
-returns-then-wide_number-count c =
+pub returns-then-v-count : goal.returns-then-v-count
+returns-then-v-count c =
     laws.named_is c.args.text.now c.args.at c.digit_run-n.ensures c.args.count
     (sym c.if-not-dollar.false ∙ c.is_dollar-dollar.ensures)
     (sym c.in-Value.is ∙ c.value-number.ensures)
-    (omega (arith, c.wide_number.ensures))
+    (omega arith)
 
-pub returns-else-wide_number-count : goal.returns-else-wide_number-count
-returns-else-wide_number-count c =
+pub returns-else-v-count : goal.returns-else-v-count
+returns-else-v-count c =
     laws.over_is c.args.text.now c.args.at c.digit_run-n.ensures c.args.count
     (sym c.in-Value.is ∙ c.value-number.ensures)
-    (omega (arith, c.wide_number.ensures))
+    (omega arith)
 
 pub returns-in-TooLarge : goal.returns-in-TooLarge
 returns-in-TooLarge c =
