@@ -5,6 +5,7 @@ use mathlib.Core.Bool.{Bool, true, false, ◌&&◌, ◌||◌, and-eq-true_iff}
 use mathlib.Core.List.{List, [], ◌∷◌, map}
 use lib.Dec.{eqb}
 use borrow.Author.Tests.{eqb-true, eqb-false}
+use Rattle.std.specs.Prelude.{Option}
 use Rattle.spellings.specs.Bytes.{same, is_word}
 use Rattle.spellings.proofs.BytesLaws.{by_test, same_refl, differ_same}
 use Rattle.terms.specs.Cells.{column}
@@ -17,7 +18,6 @@ use Rattle.terms.specs.Loose.{Walk, loose, reached, and_then}
 use Rattle.terms.specs.Labels.{is_among, stop_if, label_walk, label_walk_fields}
 use Rattle.rows.specs.Sizes.{rows_held}
 use Rattle.rows.proofs.SizeLaws.{size_spell}
-use Rattle.labels.specs.declared.Repetition.{Repetition}
 use Rattle.labels.specs.Stamps.{single, numbered_term, numbered_fields, EachLabel, EachLabelFields, LabelsBelow}
 use Rattle.labels.specs.Searches.{walk_of, Finds}
 use Rattle.labels.proofs.StampLaws.{each_label}
@@ -131,6 +131,6 @@ module _ (spell : ℕ → List ℕ) (distinct : Distinct spell) where
       labels_below count few = each_label few (numbered_term cells bound root) (same_term bound root worded).words
 
     -- What a search finds by numbers is what the walk by spellings gives.
-    pub found_spelled : {root : ℕ} {r : Repetition} → is_worded (term_at (rows_held cells) spell cells root) ≡ true → Finds cells root r
+    pub found_spelled : {root : ℕ} {r : Option ℕ} → is_worded (term_at (rows_held cells) spell cells root) ≡ true → Finds cells root r
         → label_walk 0 (term_at (rows_held cells) spell cells root) ≡ walk_of r (size (term_at (rows_held cells) spell cells root))
     found_spelled {root} worded finds = walk_spelled (rows_held cells) root worded ∙ rw (size_spell (rows_held cells) spell single cells root) finds.walked

@@ -124,9 +124,13 @@ module _ {cells : List ℕ} {bound row stamp : ℕ} {stamps : List ℕ} {count p
     ended e = record { count = counted (rw e); long = counting.long; most = counting.most }
 
     -- The whole depth is used up.
-    pub counting_end : bound ≤ count → Stamps cells bound row stamps stamp count stamps'
+    pub counting_end : bound ≤ count → Stamps cells bound row stamps stamp bound stamps'
     unfolding field_list_at
-    counting_end h = let none : bound - count ≡ 0 = omega arith in ended (rw none)
+    counting_end h =
+        let none : bound - count ≡ 0 = omega arith in
+        let all : bound ≡ count = omega (arith, counting.within) in
+        let ends = ended (rw none) in
+        record { count = all ∙ ends.count; long = ends.long; most = ends.most }
 
     module _ (more : count < bound) {code : ℕ} (read : code ≡ column cells part 0) where
       some : bound - count ≡ 0 → ⊥

@@ -6,6 +6,7 @@ use mathlib.Core.List.{List}
 use native.Mathlib.Nat.{zero-add}
 use native.Mathlib.Omega.{arith}
 use lib.ListN.{replicate, length-replicate}
+use Rattle.std.specs.Prelude.{Some, None}
 use Rattle.grammar.specs.Limits.{most}
 use Rattle.terms.specs.Term.{size}
 use Rattle.terms.specs.Loose.{reached}
@@ -13,7 +14,6 @@ use Rattle.terms.proofs.Repeated.{label_reached}
 use Rattle.rows.specs.Sizes.{no_spell, rows_held}
 use Rattle.rows.proofs.ListLaws.{zeros}
 use Rattle.rows.proofs.SizeLaws.{size_spell}
-use Rattle.labels.specs.declared.Repetition.TheVariants.{At, None}
 use Rattle.labels.specs.Stamps.{single, numbered_term, has_fields}
 use Rattle.labels.specs.Searches.{Searchable, Searches, LabelsFit, Finds}
 use Rattle.labels.proofs.StampLaws.{each_label}
@@ -23,7 +23,7 @@ module _ {cells : List ℕ} {root : ℕ} {stamps : List ℕ} {r : Bool} {place :
     (h : Searches cells (rows_held cells) root 0 stamps r place stamps')
   where
     -- A label given twice was found.
-    pub found_at : r ≡ true → Finds cells root (At place)
+    pub found_at : r ≡ true → Finds cells root (Some place)
     found_at e = record { walked = rw e at h.told.found }
 
     -- None was.

@@ -1,13 +1,11 @@
 -- The walk that looks for a label given twice. Nobody needs this to believe `expand`.
-use Rattle.std.specs.Prelude.{ℕ, ◌+◌, ◌≤◌, ◌≡◌, Bool, true, false, List, length, get_or}
+use Rattle.std.specs.Prelude.{ℕ, ◌+◌, ◌≤◌, ◌≡◌, Bool, true, false, List, Option, Some, None, length, get_or}
 use Rattle.grammar.specs.Limits.{most}
 use Rattle.tokens.specs.Tokens.{most_tokens}
 use Rattle.terms.specs.Term.{size, size_fields, largest_term}
 use Rattle.terms.specs.Loose.{Walk, loose, reached}
 use Rattle.terms.specs.Labels.{label_walk, label_walk_fields}
 use Rattle.rows.specs.Sizes.{WholeRows, rows_held, size_at}
-use Rattle.labels.specs.declared.Repetition.{Repetition}
-use Rattle.labels.specs.declared.Repetition.TheVariants.{At, None}
 use Rattle.labels.specs.Stamps.{numbered_term, numbered_fields, LabelsBelow, LabelsBelowFields, differing}
 
 -- ------------------------------------------------------------------ a part
@@ -70,10 +68,10 @@ pub record LabelsFit (cells : List ℕ) (root words : ℕ) : Type 0 where
   pub below : LabelsBelow (most.outsides + words) (numbered_term cells (rows_held cells) root)
 
 -- the walk that an answer stands for, over so many constructors
-abbrev pub walk_of : Repetition → ℕ → Walk
-walk_of (At p) end = loose p
+abbrev pub walk_of : Option ℕ → ℕ → Walk
+walk_of (Some p) end = loose p
 walk_of None end = reached end
 
 -- the answer is what the walk over labels gives, by numbers
-pub record Finds (cells : List ℕ) (root : ℕ) (r : Repetition) : Type 0 where
+pub record Finds (cells : List ℕ) (root : ℕ) (r : Option ℕ) : Type 0 where
   pub walked : label_walk 0 (numbered_term cells (rows_held cells) root) ≡ walk_of r (size (numbered_term cells (rows_held cells) root))

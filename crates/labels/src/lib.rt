@@ -1,7 +1,9 @@
 // A label given twice in one record: refusal 29. Labels are told apart by their spelling numbers.
 #![tactic(auto)]
 
-ghost use Rattle.std.specs.Prelude.{◌+◌, ◌<◌, ◌≤◌, ◌≡◌, length};
+ghost use Rattle.std.specs.Prelude.{◌+◌, ◌<◌, ◌≤◌, ◌≡◌, length, replicate};
+ghost use Rattle.grammar.specs.Limits.{most};
+ghost use Rattle.tokens.specs.Tokens.{most_tokens};
 ghost use Rattle.terms.specs.Term.{largest_term};
 ghost use Rattle.rows.specs.Sizes.{WholeRows, rows_held};
 ghost use Rattle.labels.specs.Stamps.{has_fields, PutsStamp, Stampable, Stamps};
@@ -11,13 +13,6 @@ use grammar::limits::MOST_OUTSIDES;
 use rows::column;
 use terms::{COLUMNS, FIELD_CONS, TERM_APP, TERM_DOT, TERM_FUN, TERM_RCD};
 use tokens::MOST_TOKENS;
-
-// What a search gives: the first place of a label that stood earlier in its record, or none.
-#[derive(Drop)]
-pub enum Repetition {
-    At(usize),
-    None,
-}
 
 // The stamp of the record at a place.
 fn stamp_of(place: usize) -> u16
@@ -43,9 +38,8 @@ fn differing(cells: &[u32], bound: usize, row: u32, stamp: u16, stamps: &mut [u1
     requires { Stampable cells.now bound row stamps.old stamp }
     ensures { Stamps cells.now bound row stamps.old stamp result stamps.new }
 {
-    let mut count: usize = 0;
     let mut part = row;
-    while count < bound {
+    for count in 0..bound {
         let code = column(cells, part, 0);
         if code != FIELD_CONS {
             return count;
@@ -54,10 +48,9 @@ fn differing(cells: &[u32], bound: usize, row: u32, stamp: u16, stamps: &mut [u1
         if again {
             return count;
         }
-        count += 1;
         part = column(cells, part, 3);
     }
-    count
+    bound
 }
 
 // Whether a label inside the term at a row stood earlier in its record: `place` is then the place of the first such field, else the one behind the term.
@@ -143,29 +136,28 @@ fn has_fields(cells: &[u32]) -> bool
     requires { WholeRows cells.now }
     ensures { result ≡ has_fields cells.now }
 {
-    let mut row: usize = 0;
-    while row < cells.len() / COLUMNS {
+    for row in 0..cells.len() / COLUMNS {
         let code = column(cells, row as u32, 0);
         if code == FIELD_CONS {
             return true;
         }
-        row += 1;
     }
     false
 }
 
-// The search with a room that has a stamp for each label's number.
-fn search_in(cells: &[u32], root: u32, stamps: &mut &mut [u16]) -> Repetition
-    requires { Searchable cells.now (rows_held cells.now) root 0 stamps.old.now }
+// The search with a room that has a stamp for each label's number: the first place of a label that stood earlier in its record. Each room has a frame of its
+// own, so that a caller's frame stays without it.
+#[inline(never)]
+fn search_in<const ROOM: usize>(cells: &[u32], root: u32) -> Option<usize>
+    requires searchable { Searchable cells.now (rows_held cells.now) root 0 (replicate ROOM 0) }
+    requires room { ROOM ≤ most.outsides + most_tokens }
     ensures { Finds cells.now root result }
 {
-    let made = cells.len() / COLUMNS;
+    let mut stamps = [0u16; ROOM];
+    let mut room = &mut stamps[..];
     let mut place: usize = 0;
-    let found = repeated_term(&cells, made, root, &mut place, stamps);
-    if found {
-        return Repetition::At(place);
-    }
-    Repetition::None
+    let found = repeated_term(&cells, cells.len() / COLUMNS, root, &mut place, &mut room);
+    if found { Some(place) } else { None }
 }
 
 // The numbers of outside names, which come before those of words.
@@ -180,19 +172,15 @@ const LARGE_ROOM: usize = OUTSIDES + MOST_TOKENS;
 
 // The first place of a label that stood earlier in its record, in the term at a row whose labels are outside names or among so many words. Rows without a
 // mkFieldCons are looked at once, and not walked.
-pub fn find_repetition(cells: &[u32], root: u32, words: usize) -> Repetition
+pub fn find_repetition(cells: &[u32], root: u32, words: usize) -> Option<usize>
     requires { LabelsFit cells.now root words }
     ensures { Finds cells.now root result }
 {
-    if has_fields(cells) {
-        if words <= FEW_WORDS {
-            let mut stamps = [0u16; SMALL_ROOM];
-            let mut room = &mut stamps[..];
-            return search_in(cells, root, &mut room);
-        }
-        let mut stamps = [0u16; LARGE_ROOM];
-        let mut room = &mut stamps[..];
-        return search_in(cells, root, &mut room);
+    if !has_fields(cells) {
+        return None;
     }
-    Repetition::None
+    if words <= FEW_WORDS {
+        return search_in::<SMALL_ROOM>(cells, root);
+    }
+    search_in::<LARGE_ROOM>(cells, root)
 }

@@ -3,12 +3,11 @@ use native.Mathlib.Omega.{arith}
 use Rattle.labels.proofs.WholeLaws as laws
 use Rattle.labels.proofs.find_repetition.Goals as goal
 
-pub search_in-requires : goal.search_in-requires
-search_in-requires c = laws.searchable c.requires 128 (omega arith)
+pub returns-then-not-has_fields : goal.returns-then-not-has_fields
+returns-then-not-has_fields c = search laws.nothing_found
 
-pub search_in-requires-then-has_fields : goal.search_in-requires-then-has_fields
-search_in-requires-then-has_fields c =
-    laws.searchable c.requires 4160 (omega (arith, c.requires.few))
+pub search_in-requires-clause-searchable : goal.search_in-requires-clause-searchable
+search_in-requires-clause-searchable c = laws.searchable c.requires 128 (omega arith)
 
-pub returns : goal.returns
-returns c = search laws.nothing_found
+pub search_in-requires-2-clause-searchable : goal.search_in-requires-2-clause-searchable
+search_in-requires-2-clause-searchable c = laws.searchable c.requires 4160 (omega (arith, c.requires.few))

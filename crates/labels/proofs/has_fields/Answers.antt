@@ -1,13 +1,6 @@
 -- `has_fields`: the rows from the present one on tell of all.
-use native.Mathlib.Omega.{arith}
 use Rattle.labels.proofs.FieldLaws as laws
 use Rattle.labels.proofs.has_fields.Goals as goal
-
-pub loop-row-init : goal.loop-row-init
-loop-row-init c = laws.looking_start _
-
-pub overflow_cast-row : goal.overflow_cast-row
-overflow_cast-row c = omega (arith, c.requires.few)
 
 pub returns-then-code-eq-FIELD_CONS : goal.returns-then-code-eq-FIELD_CONS
 returns-then-code-eq-FIELD_CONS c = search laws.looking_stop

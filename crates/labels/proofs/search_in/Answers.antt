@@ -3,7 +3,7 @@ use Rattle.labels.proofs.WholeLaws as laws
 use Rattle.labels.proofs.search_in.Goals as goal
 
 pub returns-then-found : goal.returns-then-found
-returns-then-found c = search laws.found_at
+returns-then-found g c = search laws.found_at
 
-pub returns : goal.returns
-returns c = search laws.found_none
+pub returns-else-found : goal.returns-else-found
+returns-else-found g c = search laws.found_none
