@@ -4,6 +4,8 @@ use mathlib.Core.Path.{◌≡◌}
 use mathlib.Core.Bool.{Bool, true, false}
 use mathlib.Core.List.{List}
 use native.Mathlib.Omega.{arith}
+use mir.Syntax.{w16, w32}
+use mir.Val as val
 use lib.ListN.{length, get_or}
 use Rattle.spellings.proofs.DecimalLaws.{decimal_bound}
 use Rattle.terms.specs.Cells.{column, columns}
@@ -77,7 +79,15 @@ module _ (spell : ℕ → List ℕ) (cells numbers : List ℕ) (short : (number 
         (is_cons (constructor_of (column cells row 0)))
 
 module _ {pool cells numbers : List ℕ} {made root : ℕ} (printable_by : PrintableBy pool cells made root numbers)
-    (wide : (place : ℕ) → get_or cells place 0 < 4294967296) (few : (place : ℕ) → get_or numbers place 0 < 65536) where
+    (wide : (place : ℕ) → val.Fits w32 (get_or cells place 0)) (few : (place : ℕ) → val.Fits w16 (get_or numbers place 0)) where
+  -- cells are of 32 bits
+  cells_wide : (place : ℕ) → get_or cells place 0 < 4294967296
+  cells_wide place = omega (arith, wide place)
+
+  -- and numbers of 16
+  numbers_few : (place : ℕ) → get_or numbers place 0 < 65536
+  numbers_few place = omega (arith, few place)
+
   -- the text of a term has at most 46 bytes for each number
   text_short : term_length pool cells numbers made root 0 ≤ length numbers * 46
   unfolding term_length
@@ -85,7 +95,7 @@ module _ {pool cells numbers : List ℕ} {made root : ℕ} (printable_by : Print
       omega (
         arith,
         size_spell made no_spell (spell_in pool) cells root,
-        short_text (spell_in pool) cells numbers (spelling_short pool printable_by.short) few wide made root 0,
+        short_text (spell_in pool) cells numbers (spelling_short pool printable_by.short) numbers_few cells_wide made root 0,
         printable_by.marked,
       )
 
@@ -93,7 +103,7 @@ module _ {pool cells numbers : List ℕ} {made root : ℕ} (printable_by : Print
   pub measurable : TextMeasurable pool cells numbers made root
   measurable =
       record {
-        weighable = record { short = printable_by.short; wide = wide };
+        weighable = record { short = printable_by.short; wide = cells_wide };
         room = omega (arith, text_short, printable_by.small);
         inside = printable_by.marked;
         few = printable_by.small;

@@ -10,10 +10,6 @@ use Rattle.terms.specs.Labelled.{labelled}
 use Rattle.rows.specs.Sizes.{size_at}
 use Rattle.writer.specs.Pool.{spelling_room, one_of, spanned, ShortSpellings}
 
--- words for which a room between the shortest and the longest is lent
-abbrev pub more_words : ℕ
-more_words = 256
-
 -- the text of the term at a row, by a number of a new name for each place
 unfoldable pub text_by : (ℕ → List ℕ) → List ℕ → List ℕ → ℕ → ℕ → List ℕ
 text_by spell cells numbers made root = print (labelled numbers 0 (term_at made spell cells root))
