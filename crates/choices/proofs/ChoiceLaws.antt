@@ -452,6 +452,16 @@ module _ {patterns : List Item → ℕ} {bs room : List ℕ} (held : HeldFor pat
   unfolding entries_for first_sets_of
   entries_held = table_entries_lem held.grammar held.places
 
+  -- What the room has of an entry: its first set, by which a test for a kind goes,
+  pub kind_tested : {spot : ℕ} (kind : ℕ) {answer : Bool} → spot < length (entries_for patterns bs) → answer ≡ has_kind (first_in room spot) kind
+      → answer ≡ holds_kind kind (get_or (entries_for patterns bs) spot no_entry)
+  kind_tested {spot} kind inside e = e ∙ ap (λ (set : ℕ). has_kind set kind) (first_in_lem entries_held spot inside)
+
+  -- and what reads a variable first, by which a test for a sort goes.
+  pub sort_tested : {spot : ℕ} (placed : Bool) (sort : ℕ) {answer : Bool} → spot < length (entries_for patterns bs) → answer ≡ opens_by placed (patterns_in room spot) sort
+      → answer ≡ opens_sort placed sort (get_or (entries_for patterns bs) spot no_entry)
+  sort_tested {spot} placed sort inside e = e ∙ ap (λ (set : ℕ). opens_by placed set sort) (patterns_in_lem entries_held spot inside)
+
   -- the walk over the places of one of the 64 nonterminals
   module _ {nonterminal : ℕ} (small : nonterminal < 64) (test : Entry → Bool) where
     -- The walk begins at the first place that the room has.
@@ -477,14 +487,6 @@ module _ {patterns : List Item → ℕ} {bs room : List ℕ} (held : HeldFor pat
           → (spot < next_place) × Walking (entries_for patterns bs) nonterminal test next_place
       walk-next t e =
           walking_next (entries_for patterns bs) entries_few nonterminal test walking less t (e ∙ next_place_in_lem entries_held spot (walking.inside less))
-
-      -- What the room has of the entry there: its first set,
-      pub first_here : {set : ℕ} → set ≡ first_in room spot → set ≡ (get_or (entries_for patterns bs) spot no_entry).first
-      first_here e = e ∙ first_in_lem entries_held spot (walking.inside less)
-
-      -- and what reads a variable first.
-      pub patterns_here : {set : ℕ} → set ≡ patterns_in room spot → set ≡ (get_or (entries_for patterns bs) spot no_entry).patterns
-      patterns_here e = e ∙ patterns_in_lem entries_held spot (walking.inside less)
 
     -- At 256 nothing was found.
     pub walk_end : {spot : ℕ} → Walking (entries_for patterns bs) nonterminal test spot → 256 ≤ spot → 256 ≡ first_with (entries_for patterns bs) nonterminal test

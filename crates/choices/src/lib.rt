@@ -1,13 +1,15 @@
 // The production that a call takes, by its place in the room of a grammar.
 #![tactic(auto)]
 
-ghost use Rattle.std.specs.Prelude.{ℕ, ◌+◌, ◌^◌, ◌<◌, ◌≤◌, ◌≡◌, List};
+ghost use Rattle.std.specs.Prelude.{ℕ, Bool, ◌+◌, ◌^◌, ◌<◌, ◌≤◌, ◌≡◌, List};
 ghost use Rattle.grammar.specs.Limits.{most};
 ghost use Rattle.kinds.specs.Kinds.{no_kind};
+ghost use Rattle.productions.specs.Room.{Entry};
 ghost use Rattle.firsts.specs.Patterns.{opens_ide};
 ghost use Rattle.grammar.specs.Table.{Item};
 ghost use Rattle.choices.specs.Held.{HeldFor, HoldsSome};
-ghost use Rattle.choices.specs.Chosen.{kinds_in, entries_for, holds_kind, opens_by, opens_sort, first_with, chosen_place, RemembersFor, MayChoose, ChoosesFor};
+ghost use Rattle.choices.specs.Chosen.{kinds_in, entries_for, holds_kind, opens_by, opens_sort, first_with, chosen_place, RemembersFor, MayChoose};
+ghost use Rattle.choices.specs.Chosen.{ChoosesFor, Tests};
 
 use grammar::limits::{EACH_NONTERMINAL, NONTERMINALS};
 use grammar::sorts::Sort;
@@ -30,20 +32,30 @@ const PLACE_BIT: u32 = 8;
 // What is remembered: a byte for each nonterminal and kind.
 pub const MEMORY: usize = EACH_NONTERMINAL * KINDS;
 
-// The place of the first production of nonterminal n whose first set holds a kind, 256 if there is none.
-fn opened(room: &[u64; ROOM], n: u8, kind: u32) -> usize
-    requires { HoldsSome room.now × (n < most.nonterminals) }
-    ensures { (P : List Item → ℕ) (bs : List ℕ) → HeldFor P bs room.now → result ≡ first_with (entries_for P bs) n (holds_kind kind) }
+// The place of the first production of nonterminal n that passes a test, which is asked of its place; 256 if there is none.
+fn first_that<F: Fn(usize) -> bool>(room: &[u64; ROOM], n: u8, test: F) -> usize
+    requires held { HoldsSome room.now × (n < most.nonterminals) }
+    requires asked { F.IsAlwaysCallable test }
+    ensures { (P : List Item → ℕ) (bs : List ℕ) → HeldFor P bs room.now → (passes : Entry → Bool) → Tests (F.post test) (entries_for P bs) passes
+        → result ≡ first_with (entries_for P bs) n passes }
 {
     let mut j = first_place(room, n);
     while j < NO_PLACE {
-        let fits = has_kind(first(room, j), kind);
+        let fits = test(j);
         if fits {
             return j;
         }
         j = next_place(room, j);
     }
     NO_PLACE
+}
+
+// The place of the first production of nonterminal n whose first set holds a kind, 256 if there is none.
+fn opened(room: &[u64; ROOM], n: u8, kind: u32) -> usize
+    requires { HoldsSome room.now × (n < most.nonterminals) }
+    ensures { (P : List Item → ℕ) (bs : List ℕ) → HeldFor P bs room.now → result ≡ first_with (entries_for P bs) n (holds_kind kind) }
+{
+    first_that(room, n, |j| has_kind(first(room, j), kind))
 }
 
 // The place of the production whose first set holds the kind of the next token, one of a formula, else of the nullable one; 256 if there is neither. The
@@ -89,15 +101,7 @@ fn opened_by(room: &[u64; ROOM], n: u8, placed: bool, sort: u32) -> usize
     requires { HoldsSome room.now × (n < most.nonterminals) × (sort + 65 < 2 ^ 32) }
     ensures { (P : List Item → ℕ) (bs : List ℕ) → HeldFor P bs room.now → result ≡ first_with (entries_for P bs) n (opens_sort placed sort) }
 {
-    let mut j = first_place(room, n);
-    while j < NO_PLACE {
-        let fits = opens_by(placed, patterns(room, j), sort);
-        if fits {
-            return j;
-        }
-        j = next_place(room, j);
-    }
-    NO_PLACE
+    first_that(room, n, |j| opens_by(placed, patterns(room, j), sort))
 }
 
 // The same for a token of a text: an outside name chooses as a word does, a variable an ide that it fits before a place of its sort. It stands apart from

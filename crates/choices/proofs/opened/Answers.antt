@@ -1,43 +1,7 @@
--- `opened`: no place of the nonterminal before j is taken.
-use Prim.Native.Nat.{ℕ}
-use mathlib.Core.Path.{sym, ap, ◌∙◌}
-use native.Mathlib.Omega.{arith}
-use Rattle.kinds.specs.Kinds.{has_kind}
-use Rattle.choices.specs.Chosen.{holds_kind}
+-- `opened`: the test at a place is that of its entry.
+use borrow.Author.Rules.{rules}
 use Rattle.choices.proofs.ChoiceLaws as laws
 use Rattle.choices.proofs.opened.Goals as goal
 
-pub loop-j-init : goal.loop-j-init
-loop-j-init c = λ P bs h. laws.walk_start h c.requires.1 (holds_kind c.args.kind) c.first_place-j.ensures
-
 pub returns : goal.returns
-returns c =
-    λ P bs h.
-    laws.walk_end h c.requires.1 (holds_kind c.args.kind) (c.loop-j.invariant P bs h) c.loop-j-test.false
-
-pub returns-then-fits : goal.returns-then-fits
-returns-then-fits c =
-    λ P bs h.
-    let walking = c.loop-j.invariant P bs h in
-    let tested = ap (λ (set : ℕ). has_kind set c.args.kind)
-    (sym (laws.first_here h c.requires.1 (holds_kind c.args.kind) walking c.loop-j-test.true c.first.ensures))
-    ∙ sym c.has_kind-fits.ensures ∙ c.if-fits.true in
-    laws.walk_found h c.requires.1 (holds_kind c.args.kind) walking c.loop-j-test.true tested
-
-pub loop-j-smaller : goal.loop-j-smaller
-loop-j-smaller c =
-    let held = c.requires.0.held in
-    let walking = c.loop-j.invariant _ _ held in
-    let tested = ap (λ (set : ℕ). has_kind set c.args.kind)
-    (sym (laws.first_here held c.requires.1 (holds_kind c.args.kind) walking c.loop-j-test.true c.first.ensures))
-    ∙ sym c.has_kind-fits.ensures ∙ c.if-fits.false in
-    omega (arith, (laws.walk-next held c.requires.1 (holds_kind c.args.kind) walking c.loop-j-test.true tested c.next_place-j.ensures).0, c.loop-j-test.true)
-
-pub loop-j-preserved : goal.loop-j-preserved
-loop-j-preserved c =
-    λ P bs h.
-    let walking = c.loop-j.invariant P bs h in
-    let tested = ap (λ (set : ℕ). has_kind set c.args.kind)
-    (sym (laws.first_here h c.requires.1 (holds_kind c.args.kind) walking c.loop-j-test.true c.first.ensures))
-    ∙ sym c.has_kind-fits.ensures ∙ c.if-fits.false in
-    (laws.walk-next h c.requires.1 (holds_kind c.args.kind) walking c.loop-j-test.true tested c.next_place-j.ensures).1
+returns c = λ P bs h. c.first_that.ensures P bs h _ (λ place answer inside told. laws.kind_tested h c.args.kind inside (search rules))
