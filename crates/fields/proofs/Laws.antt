@@ -1,35 +1,26 @@
 -- Laws of the tests on one field: values, counts, and the first test that fails.
-use Prim.Native.Nat.{ℕ, ◌+◌, ◌<◌, ◌≤◌}
+use Prim.Native.Nat.{ℕ, ◌+◌, ◌-◌, ◌<◌}
 use mathlib.Core.Path.{◌≡◌, refl, sym, ap, ◌∙◌}
 use mathlib.Core.Bool.{Bool, true, false, not, ◌&&◌, ◌||◌, and-true, or-false}
-use mathlib.Core.List.{List, ◌∷◌}
+use mathlib.Core.List.{List, [], ◌∷◌}
 use native.Mathlib.Omega.{arith}
 use mir.Syntax.{w16}
 use mir.Val.{Fits}
 use lib.Dec.{eqb, leb, ltb}
-use lib.ListN.{length, get_or, drop, drop_of_length-le}
-use borrow.Author.Tests.{eq-eqb, ne_eqb, ltb-true, not-true, not-false}
+use lib.ListN.{length, get_or, take, drop, length-drop}
+use lib.Seq.{take_all}
+use borrow.Author.Tests.{eq-eqb, ne_eqb, ltb-true}
 use Rattle.answers.specs.Refusals.{refusal}
 use Rattle.answers.specs.Checked.{Checked, ok, bad, need, verdict, ◌>>◌}
 use Rattle.answers.specs.declared.Verdict.TheVariants.{Passed, Refused}
+use Rattle.std.specs.List.{list_all}
 use Rattle.spellings.specs.Bytes.{every, is_word, is_keyword, one_if}
-use Rattle.spellings.proofs.Loops.{drop_at_index}
 use Rattle.grammar.specs.Limits.{most}
 use Rattle.grammar.specs.SortTests.{is_sort, is_ide_sort}
 use Rattle.grammar.specs.Values.{Field}
 use Rattle.decoding.specs.declared.Progress.{Progress}
 use Rattle.decoding.specs.Prefix.{templates_of, is_templates, is_template}
 use Rattle.decoding.specs.Layout.{is_empty, is_nonterminal, is_head, is_item, is_root, is_known, follows, is_repeated, is_spelled, has_room, passed, is_whole, check_field}
-
--- ------------------------------------------------------------------ tests
-
--- a test that the code made
-pub passes : {answer test : Bool} → answer ≡ test → not answer ≡ false → test ≡ true
-passes {answer} e f = sym e ∙ not-false answer f
-
--- and one that failed
-pub fails : {answer test : Bool} → answer ≡ test → not answer ≡ true → test ≡ false
-fails {answer} e f = sym e ∙ not-true answer f
 
 -- ------------------------------------------------------------------ values
 
@@ -144,36 +135,16 @@ module _ {kind operand : ℕ} (value : List ℕ) (first : kind ≡ get_or value 
   item_none (((((u, a), b), c), d), e) =
       sym (λ i. item_tests (ne_eqb kind 0 a i) (ne_eqb kind 1 b i) (ne_eqb kind 2 c i) (ne_eqb kind 3 d i) (ne_eqb kind 4 e i)) ∙ item_at refl
 
--- the bytes before `place` are sorts
-pub record Sorts (value : List ℕ) (from place : ℕ) : Type 0 where
-  -- the bytes left are sorts exactly if all are
-  pub rest : every is_sort (drop place value) ≡ every is_sort (drop from value)
-
--- none yet
-pub sorts_start : (value : List ℕ) (from : ℕ) → Sorts value from from
-sorts_start value from = record { rest = refl }
-
-every_front : (test : ℕ → Bool) (byte : ℕ) (bs : List ℕ) → every test (byte ∷ bs) ≡ (test byte && every test bs)
+-- every byte passes, as the kit's lists say it
+pub every_all : (test : ℕ → Bool) (bytes : List ℕ) → list_all test bytes ≡ every test bytes
 unfolding every
-every_front test byte bs = refl
+every_all test [] = refl
+every_all test (b ∷ bs) = ap (λ t. test b && t) (every_all test bs)
 
-module _ {value : List ℕ} {from place : ℕ} (sorts : Sorts value from place) where
-  sorts_front : place < length value → every is_sort (drop place value) ≡ (is_sort (get_or value place 0) && every is_sort (drop (place + 1) value))
-  sorts_front h = ap (every is_sort) (drop_at_index value place h) ∙ every_front is_sort (get_or value place 0) (drop (place + 1) value)
-
-  -- one byte more is a sort
-  pub sorts_next : place < length value → {known : Bool} → known ≡ is_sort (get_or value place 0) → not known ≡ false → Sorts value from (place + 1)
-  sorts_next h e f =
-      record { rest = cc (passes e f, sorts_front h, sorts.rest) }
-
-  -- one byte is none
-  pub sorts_stop : place < length value → {known : Bool} → known ≡ is_sort (get_or value place 0) → not known ≡ true → false ≡ every is_sort (drop from value)
-  sorts_stop h e f = cc (fails e f, sorts_front h, sorts.rest)
-
-  -- all bytes are
-  pub sorts_end : length value ≤ place → true ≡ every is_sort (drop from value)
-  unfolding every
-  sorts_end h = sym (ap (every is_sort) (drop_of_length-le value h)) ∙ sorts.rest
+-- a head's sorts are what stands behind its first two bytes
+pub head_sorts : (value : List ℕ) {all : Bool} → all ≡ list_all is_sort (take (length value - 2) (drop 2 value)) → all ≡ every is_sort (drop 2 value)
+head_sorts value e =
+    e ∙ every_all is_sort _ ∙ ap (every is_sort) (take_all (length value - 2) (drop 2 value) (omega (arith, length-drop 2 value)))
 
 -- ------------------------------------------------------------------ counts
 

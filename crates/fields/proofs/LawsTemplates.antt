@@ -4,6 +4,7 @@ use mathlib.Core.Path.{◌≡◌, refl, sym, ap, ◌∙◌}
 use mathlib.Core.Bool.{Bool, true, false, ◌&&◌, ◌||◌, true≢false, false≢true}
 use mathlib.Core.List.{List, [], ◌∷◌}
 use native.Mathlib.Omega.{arith}
+use mir.Val.{bool_byte}
 use lib.Dec.{eqb, leb, ltb, leb-zero}
 use lib.ListN.{length, get_or, drop, length-drop, drop_of_length-le}
 use lib.Seq.{drop-drop}
@@ -39,6 +40,12 @@ module _ (byte : ℕ) where
   pub head_unknown : is_name_tag byte ≡ false → (ltb byte 0x10 || is_constructor byte) ≡ false → head_size byte ≡ 0
   unfolding head_size
   head_unknown e f = rw (e, f, head_size) refl
+
+  -- what is no name has one byte or begins none
+  pub head_other : is_name_tag byte ≡ false → {size : ℕ} → size ≡ bool_byte (ltb byte 0x10 || is_constructor byte) → size ≡ head_size byte
+  head_other e f =
+      by_test (ltb byte 0x10 || is_constructor byte) (λ t. cc (f, ap bool_byte t, head_byte e t))
+      (λ t. cc (f, ap bool_byte t, head_unknown e t))
 
   -- a constructor waits for its arguments
   pub arguments_constructor : is_constructor byte ≡ true → arguments byte ≡ arity byte

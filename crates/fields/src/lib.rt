@@ -1,10 +1,8 @@
 // The tests that a table's layout makes on one field: its tag, length and value, its order, the counts, whole templates. Refusals 3, 4, 6 and 10.
 #![tactic(auto)]
 
-ghost use Rattle.std.specs.Prelude.{◌≡◌, true, ℕ, ◌-◌, drop};
-ghost use Rattle.spellings.specs.Bytes.{every, one_if};
+ghost use Rattle.std.specs.Prelude.{◌≡◌, true, ℕ, drop};
 ghost use Rattle.kinds.specs.Kinds.{has_kind};
-ghost use Rattle.grammar.specs.SortTests.{is_sort};
 ghost use Rattle.decoding.specs.Prefix.{templates_of};
 ghost use Rattle.decoding.specs.Layout.{is_head, is_item, is_root, is_known, follows, has_room, passed, is_whole};
 ghost use Rattle.fields.specs.Due.{head_size, arguments, is_wholly};
@@ -24,21 +22,6 @@ use grammar::sorts::Sort;
 
 // ---------------------------------------------------------------- 3: known tag, length and value
 
-// Whether every byte from an offset on is a sort's code.
-fn are_sorts(v: &[u8], from: usize) -> bool
-    ensures { result ≡ every is_sort (drop from v.now) }
-{
-    let mut i = from;
-    while i < v.len() {
-        let known = Sort::is_code(v[i]);
-        if !known {
-            return false;
-        }
-        i += 1;
-    }
-    true
-}
-
 // The most bytes of a definition's head.
 const LONGEST_HEAD: usize = 3 + MOST_PARAMETERS;
 
@@ -50,10 +33,7 @@ fn is_head(v: &[u8]) -> bool
         & (v.len() <= LONGEST_HEAD)
         & (byte(v, 0) < NONTERMINALS)
         & (byte(v, 1) <= UPDATE);
-    if !sized {
-        return false;
-    }
-    are_sorts(v, 2)
+    sized && v[2..].iter().all(|b| Sort::is_code(*b))
 }
 
 // An item's kind and operand; only a call has more bytes.
@@ -136,12 +116,6 @@ pub fn has_room(tag: u8, s: Progress) -> bool
         & ((tag != ITEM_TAG) | (s.items < MOST_ITEMS))
 }
 
-fn one_if(b: bool) -> u16
-    ensures { result ≡ one_if b }
-{
-    if b { 1 } else { 0 }
-}
-
 // The items of the alternative begun last, one field further.
 fn items_after(tag: u8, s: Progress) -> u16
     requires { has_room tag s ≡ true }
@@ -150,7 +124,7 @@ fn items_after(tag: u8, s: Progress) -> u16
     if tag == ALTERNATIVE_TAG {
         return 0;
     }
-    s.items + one_if(tag == ITEM_TAG)
+    s.items + u16::from(tag == ITEM_TAG)
 }
 
 // One field further.
@@ -160,10 +134,10 @@ pub fn further(tag: u8, s: Progress) -> Progress
 {
     Progress {
         last: tag,
-        keywords: s.keywords + one_if(tag == KEYWORD_TAG),
-        outsides: s.outsides + one_if(tag == OUTSIDE_TAG),
-        blocks: s.blocks + one_if(tag == BLOCK_TAG),
-        alternatives: s.alternatives + one_if(tag == ALTERNATIVE_TAG),
+        keywords: s.keywords + u16::from(tag == KEYWORD_TAG),
+        outsides: s.outsides + u16::from(tag == OUTSIDE_TAG),
+        blocks: s.blocks + u16::from(tag == BLOCK_TAG),
+        alternatives: s.alternatives + u16::from(tag == ALTERNATIVE_TAG),
         items: items_after(tag, s),
     }
 }
@@ -175,12 +149,9 @@ fn head_size(b: u8) -> usize
     ensures { result ≡ head_size b }
 {
     if (b == NAME_AS_VAR) | (b == NAME_AS_LABEL) {
-        return 2;
-    }
-    if (b < VARIABLES) | ((TERM_VAR <= b) & (b <= TERM_NUM)) {
-        1
+        2
     } else {
-        0
+        usize::from((b < VARIABLES) | ((TERM_VAR <= b) & (b <= TERM_NUM)))
     }
 }
 
@@ -195,19 +166,12 @@ fn argument_count(b: u8) -> usize
     }
 }
 
-// One less, and 0 for none.
-fn less_one(n: usize) -> usize
-    ensures { result ≡ n - 1 }
-{
-    if n == 0 { 0 } else { n - 1 }
-}
-
 // Whether the bytes from an offset on are whole templates in prefix form, exactly one if `single`. One pass counts the templates
 // that are still due.
 fn are_templates(v: &[u8], from: usize, single: bool) -> bool
     ensures { result ≡ is_wholly single (templates_of (drop from v.now)) }
 {
-    let mut due = one_if(single) as usize;
+    let mut due = usize::from(single);
     let mut i = from;
     while i < v.len() {
         let b = v[i];
@@ -215,7 +179,7 @@ fn are_templates(v: &[u8], from: usize, single: bool) -> bool
         if (size == 0) | (v.len() - i < size) | (single & (due == 0)) {
             return false;
         }
-        due = less_one(due) + argument_count(b);
+        due = due.saturating_sub(1) + argument_count(b);
         i += size;
     }
     due == 0

@@ -11,7 +11,7 @@ room : (point : Else-size-v) → (0 < point.head_size-size.result) × (point.hea
 room point = laws.due_room point.loop-i.invariant point.loop-i-test.true point.head_size-size.ensures point.if-size-v.false
 
 pub loop-i-init : goal.loop-i-init
-loop-i-init c = laws.due_start _ _ _ _ c.one_if-due.ensures
+loop-i-init c = laws.due_start _ _ _ _ c.from-due.ensures
 
 pub overflow_sub-v : goal.overflow_sub-v
 overflow_sub-v c = omega arith
@@ -23,7 +23,7 @@ pub overflow_add-due : goal.overflow_add-due
 overflow_add-due c =
     let k = room (goal.at.overflow_add-due c).Else-size-v in
     let a = c.args in
-    let n : laws.Due a.v.now a.from a.single (c.less_one.result + c.argument_count.result) (c.loop-i.i + c.head_size-size.result) = search laws.due_next in
+    let n : laws.Due a.v.now a.from a.single (c.saturating_sub.result + c.argument_count.result) (c.loop-i.i + c.head_size-size.result) = search laws.due_next in
     omega (arith, n.small)
 
 pub overflow_add-i : goal.overflow_add-i

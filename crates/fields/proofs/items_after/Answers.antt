@@ -14,7 +14,7 @@ pub overflow_add-result : goal.overflow_add-result
 overflow_add-result c =
     let p = c in
     let q = p in
-    laws.fitting _ most.items (eqb q.args.tag 6) (room_of _ _ q.requires).items (lit< tt) (omega arith) p.one_if.ensures
+    laws.fitting _ most.items (eqb q.args.tag 6) (room_of _ _ q.requires).items (lit< tt) (omega arith) p.from.ensures
 
 pub returns : goal.returns
 returns c = cc (laws.items_more _ _ c.if-tag-eq-ALTERNATIVE_TAG.false)
