@@ -20,7 +20,7 @@ use Rattle.grammar.specs.Fields.{RawFields, end, cut, next, fields_of}
 use Rattle.grammar.specs.Lookup.{front_of, fields_at}
 use Rattle.grammar.proofs.LookupLaws.{opened, fields_at_lem, fields_of_lem}
 use Rattle.decoding.specs.declared.Progress.{Progress}
-use Rattle.layout.specs.declared.Checking.TheVariants.{Further, Stopped}
+use Rattle.std.specs.Prelude.{Ok, Err}
 use Rattle.decoding.specs.Layout.{check_field, check_fields, initial_progress, layout}
 use Rattle.layout.specs.Before.{earlier, fields_before, checking}
 
@@ -94,11 +94,11 @@ unfolding check_fields
 fields_next at tag value fs before progress checked e = cc
 
 -- the answers of the code are those of the check
-pub checked_ok : (checked : Checked Progress) (progress : Progress) → Further progress ≡ checking checked → checked ≡ ok progress
+pub checked_ok : (checked : Checked Progress) (progress : Progress) → Ok progress ≡ checking checked → checked ≡ ok progress
 checked_ok (ok t) progress e = cc
 checked_ok (bad r) progress e = let z : ◌≡◌ {A = ℕ} 0 1 = cc in absurd (omega arith)
 
-checked_bad : (checked : Checked Progress) (cause : Refusal) → Stopped cause ≡ checking checked → checked ≡ bad cause
+checked_bad : (checked : Checked Progress) (cause : Refusal) → Err cause ≡ checking checked → checked ≡ bad cause
 checked_bad (ok t) cause e = let z : ◌≡◌ {A = ℕ} 0 1 = cc in absurd (omega arith)
 checked_bad (bad q) cause e = cc
 
@@ -152,7 +152,7 @@ module _ {table : List ℕ} {at : ℕ} {progress : Progress} (turn : Turn table 
 
   -- a field is refused
   pub turn_stopped : length table ≤ most.bytes → {cause : Refusal}
-      → Stopped cause
+      → Err cause
       ≡ checking (check_field (fields_before table at) at tag (take (at + 3 + size - (at + 3)) (drop (at + 3) table)) progress)
       → Refused cause ≡ verdict (layout table)
   turn_stopped h {cause} f = ap verdict (field_is (bad cause) (checked_bad _ cause f) ∙ sym (layout_short table h))
@@ -165,7 +165,7 @@ module _ {table : List ℕ} {at : ℕ} {progress : Progress} (turn : Turn table 
 
   -- it passes
   pub turn_next : {further : Progress}
-      → Further further
+      → Ok further
       ≡ checking (check_field (fields_before table at) at tag (take (at + 3 + size - (at + 3)) (drop (at + 3) table)) progress)
       → Turn table (at + 3 + size) further
   turn_next {further} f =

@@ -16,7 +16,7 @@ use Rattle.grammar.specs.Lookup.{front_of}
 use Rattle.grammar.proofs.LookupLaws.{front_inside}
 use Rattle.decoding.specs.declared.Progress.{Progress}
 use Rattle.layout.specs.Index.{index_size}
-use Rattle.layout.specs.declared.Checking.TheVariants.{Further}
+use Rattle.std.specs.Prelude.{Ok}
 use Rattle.decoding.specs.Layout.{is_known, follows, is_spelled, has_room, passed, is_whole, check_field, initial_progress}
 use Rattle.layout.specs.Before.{fields_before, checking}
 use Rattle.layout.specs.Index.{entered, HasSpellings, Remembered}
@@ -66,7 +66,7 @@ remembered_start {table} e =
 
 module _ {table : List ℕ} {at : ℕ} {progress : Progress} {keywords outsides : List ℕ} (turn : Turn table at progress)
     (remembered : Remembered table at progress keywords outsides) {tag size : ℕ} (equal : Field tag size ≡ front_of (drop at table)) {next : Progress}
-    (agrees : Further next ≡ checking (check_field (fields_before table at) at tag (take (at + 3 + size - (at + 3)) (drop (at + 3) table)) progress)) where
+    (agrees : Ok next ≡ checking (check_field (fields_before table at) at tag (take (at + 3 + size - (at + 3)) (drop (at + 3) table)) progress)) where
   abbrev value : List ℕ
   value = take size (drop (at + 3) table)
 

@@ -8,7 +8,7 @@ ghost use Rattle.grammar.specs.Values.{Field};
 ghost use Rattle.answers.specs.Refusals.{refusal};
 ghost use Rattle.answers.specs.Checked.{need, verdict};
 ghost use Rattle.decoding.specs.Layout.{is_spelled, check_field};
-ghost use Rattle.decoding.specs.Layout.{initial_progress, layout};
+ghost use Rattle.decoding.specs.Layout.{layout};
 ghost use Rattle.layout.specs.Before.{fields_before, checking};
 ghost use Rattle.layout.specs.Index.{spellings_under, Indexed, SpellingLent, FieldLent, EnterableUnder, EnteredUnder};
 
@@ -25,13 +25,6 @@ use grammar::{Front, front_at};
 use index::{ROOM, enter, is_among, spelling_hash};
 use spellings::{is_keyword_spelling, is_word};
 
-// What the check of one field gives: what has then been read, or the refusal at which the check stops.
-#[derive(Drop)]
-pub enum Checking {
-    Further(Progress),
-    Stopped(Refusal),
-}
-
 // ---------------------------------------------------------------- 5: spellings
 
 // A keyword or an outside name is spelled as it must be and stands once under its tag; the rooms have those before it.
@@ -47,25 +40,23 @@ fn is_spelled(
     ensures { (before : List Field) → Indexed table.now keywords.now (spellings_under 1 before)
         → Indexed table.now outsides.now (spellings_under 2 before) → result ≡ is_spelled tag v.now before }
 {
-    if tag == KEYWORD_TAG {
-        return is_keyword_spelling(v) & !is_among(keywords, table, v, h);
+    match tag {
+        KEYWORD_TAG => is_keyword_spelling(v) & !is_among(keywords, table, v, h),
+        OUTSIDE_TAG => is_word(v) & !is_among(outsides, table, v, h),
+        _ => true,
     }
-    if tag == OUTSIDE_TAG {
-        return is_word(v) & !is_among(outsides, table, v, h);
-    }
-    true
 }
 
 // ---------------------------------------------------------------- field by field
 
-fn stopped(number: u8, at: usize) -> Checking
-    ensures { result ≡ Checking.Stopped (refusal number at 0 0) }
+fn stopped(number: u8, at: usize) -> Result<Progress, Refusal>
+    ensures { result ≡ Err (refusal number at 0 0) }
 {
-    Checking::Stopped(refuse(number, at as u64, 0, 0))
+    Err(refuse(number, at as u64, 0, 0))
 }
 
-// One field of a table at an offset, after those that begin before it, whose spellings the rooms have. A keyword or an outside name has
-// the hash h.
+// One field of a table at an offset, after those that begin before it, whose spellings the rooms have: what has then been read, or the
+// refusal at which the check stops. A keyword or an outside name has the hash h.
 fn check_field(
     keywords: &[u32; ROOM],
     outsides: &[u32; ROOM],
@@ -75,31 +66,26 @@ fn check_field(
     v: &[u8],
     h: usize,
     s: Progress,
-) -> Checking
+) -> Result<Progress, Refusal>
     requires { FieldLent table.now at tag v.now h s keywords.now outsides.now }
     ensures { result ≡ checking (check_field (fields_before table.now at) at tag v.now s) }
 {
-    let known = is_known(tag, v);
-    if !known {
+    if !is_known(tag, v) {
         return stopped(UNKNOWN_FIELD, at);
     }
-    let ordered = may_follow(tag, s.last);
-    if !ordered {
+    if !may_follow(tag, s.last) {
         return stopped(FIELD_OUT_OF_ORDER, at);
     }
-    let spelled = is_spelled(keywords, outsides, table, tag, v, h);
-    if !spelled {
+    if !is_spelled(keywords, outsides, table, tag, v, h) {
         return stopped(BAD_SPELLING, at);
     }
-    let room = has_room(tag, s);
-    if !room {
+    if !has_room(tag, s) {
         return stopped(TOO_MANY, at);
     }
-    let whole = is_whole(tag, v);
-    if !whole {
+    if !is_whole(tag, v) {
         return stopped(BAD_TEMPLATE, at);
     }
-    Checking::Further(further(tag, s))
+    Ok(further(tag, s))
 }
 
 // The end of a table: the root is last.
@@ -110,20 +96,6 @@ fn check_end(at: usize, s: Progress) -> Verdict
         return Verdict::Passed;
     }
     refused(FIELD_OUT_OF_ORDER, at)
-}
-
-// What has been read where a table begins.
-fn nothing_read() -> Progress
-    ensures { result ≡ initial_progress }
-{
-    Progress {
-        last: 0,
-        keywords: 0,
-        outsides: 0,
-        blocks: 0,
-        alternatives: 0,
-        items: 0,
-    }
 }
 
 // Enters the spelling of a field in the room of its tag, if it is a keyword or an outside name; s is what was read before it.
@@ -167,7 +139,7 @@ pub fn check_layout(table: &[u8]) -> Verdict
     let mut keywords = [0u32; ROOM];
     let mut outsides = [0u32; ROOM];
     let mut at: usize = 0;
-    let mut s = nothing_read();
+    let mut s = Progress::default();
     loop {
         let front = front_at(table, at);
         match front {
@@ -184,10 +156,10 @@ pub fn check_layout(table: &[u8]) -> Verdict
                 let h = spelling_hash(tag, v);
                 let checked = check_field(&keywords, &outsides, table, at, tag, v, h, s);
                 match checked {
-                    Checking::Stopped(r) => {
+                    Err(r) => {
                         return Verdict::Refused(r);
                     }
-                    Checking::Further(t) => {
+                    Ok(t) => {
                         remember(&mut keywords, &mut outsides, tag, s, from, v, h);
                         s = t;
                         at = to;

@@ -4,12 +4,8 @@ use mathlib.Core.Path.{◌≡◌, sym, ◌∙◌}
 use mathlib.Core.List.{List}
 use lib.ListN.{length, take, drop, length-take}
 use borrow.Author.Tests.{eqb-true}
-use Rattle.grammar.specs.declared.Front.TheVariants.{Field}
-use Rattle.grammar.specs.Lookup.{front_of}
 use Rattle.grammar.proofs.LookupLaws.{front_inside}
-use Rattle.layout.specs.declared.Checking.TheVariants.{Further}
-use Rattle.decoding.specs.Layout.{check_field}
-use Rattle.layout.specs.Before.{fields_before, checking}
+use Rattle.decoding.specs.Layout.{initial_progress}
 use Rattle.layout.proofs.RememberedLaws.{remembered_start, keyword_room, outside_room, remembered_next}
 use Rattle.layout.proofs.LawsFields as laws
 use native.Mathlib.Omega.{arith}
@@ -19,7 +15,18 @@ pub returns-then-table-gt-LONGEST_TABLE : goal.returns-then-table-gt-LONGEST_TAB
 returns-then-table-gt-LONGEST_TABLE c = cc (laws.layout_long _ c.if-table-gt-LONGEST_TABLE.true)
 
 pub loop-tag-init : goal.loop-tag-init
-loop-tag-init c = (laws.turn_start c.nothing_read-s.ensures, remembered_start c.nothing_read-s.ensures)
+loop-tag-init c =
+    let e = c.default-s.ensures in
+    let fresh : c.default-s.result ≡ initial_progress =
+    λ i. record {
+      last = e.0 i;
+      keywords = e.1.0 i;
+      outsides = e.1.1.0 i;
+      blocks = e.1.1.1.0 i;
+      alternatives = e.1.1.1.1.0 i;
+      items = e.1.1.1.1.1 i;
+    } in
+    (laws.turn_start fresh, remembered_start fresh)
 
 pub returns-in-Nothing : goal.returns-in-Nothing
 returns-in-Nothing c =
@@ -40,11 +47,11 @@ overflow_add-to c = omega (arith, front_inside c.args.table.now c.loop-tag.at (s
 pub slice_bounds-v-end : goal.slice_bounds-v-end
 slice_bounds-v-end c = omega (arith, front_inside c.args.table.now c.loop-tag.at (sym c.in-Field.is ∙ c.front_at-front.ensures))
 
-pub returns-in-Stopped : goal.returns-in-Stopped
-returns-in-Stopped c =
+pub returns-in-Err : goal.returns-in-Err
+returns-in-Err c =
     let stands = sym c.in-Field.is ∙ c.front_at-front.ensures in
     laws.turn_stopped c.loop-tag.invariant.0 stands c.if-table-gt-LONGEST_TABLE.false
-    (sym c.in-Stopped.is ∙ c.check_field-checked.ensures)
+    (sym c.in-Err.is ∙ c.check_field-checked.ensures)
 
 pub loop-tag-smaller : goal.loop-tag-smaller
 loop-tag-smaller c = omega (arith, front_inside c.args.table.now c.loop-tag.at (sym c.in-Field.is ∙ c.front_at-front.ensures))
@@ -60,7 +67,7 @@ remember-requires c =
     let lent : List ℕ = take (at + 3 + size - (at + 3)) (drop (at + 3) table) in
     let place : at + 3 ≤ 65536 = omega (arith, inside) in
     let small : length lent ≤ 65536 = omega (arith, length-take (at + 3 + size - (at + 3)) (drop (at + 3) table), inside) in
-    let further = sym c.in-Further.is ∙ c.check_field-checked.ensures in
+    let further = sym c.in-Ok.is ∙ c.check_field-checked.ensures in
     record {
       as_keyword =
           record {
@@ -81,7 +88,7 @@ remember-requires c =
 pub loop-tag-preserved : goal.loop-tag-preserved
 loop-tag-preserved c =
     let stands = sym c.in-Field.is ∙ c.front_at-front.ensures in
-    let further = sym c.in-Further.is ∙ c.check_field-checked.ensures in
+    let further = sym c.in-Ok.is ∙ c.check_field-checked.ensures in
     let e = c.remember.ensures in (
       laws.turn_next c.loop-tag.invariant.0 stands further,
       remembered_next c.loop-tag.invariant.0 c.loop-tag.invariant.1 stands further e.keywords_are e.outsides_are,

@@ -1,10 +1,6 @@
 -- `is_among`: the spellings that are left give what all of them give.
-use Prim.Native.Nat.{ℕ, ◌+◌, ◌*◌, ◌<◌}
-use mathlib.Core.Path.{◌≡◌}
-use mathlib.Core.List.{List}
-use lib.ListN.{get_or}
-use Rattle.spellings.specs.Bytes.{same}
-use Rattle.layout.specs.Index.{bucket_of, SpellingHeld}
+use mathlib.Core.Path.{refl}
+use Rattle.layout.specs.Index.{bucket_of}
 use Rattle.layout.proofs.IndexLaws as laws
 use native.Mathlib.Omega.{arith}
 use Rattle.layout.proofs.index.is_among.Goals as goal
@@ -18,14 +14,14 @@ bounds-room-h c = omega arith
 pub loop-p-init : goal.loop-p-init
 loop-p-init c =
     record {
-      small = omega (arith, c.wide_number-p.ensures, c.requires.falling.heads (bucket_of c.args.h) (omega arith));
-      search = λ words x. laws.searching_start x c.requires.hashed c.wide_number-p.ensures;
+      small = omega (arith, c.requires.falling.heads (bucket_of c.args.h) (omega arith));
+      search = λ words x. laws.searching_start x c.requires.hashed refl;
     }
 
-pub returns-then-here : goal.returns-then-here
-returns-then-here c =
+pub returns-then-is_entry : goal.returns-then-is_entry
+returns-then-is_entry c =
     λ words x. laws.searching_found (c.loop-p.invariant.search words x) c.loop-p-test.true
-    (λ word link e. c.is_entry-here.ensures word link e c.requires.hashed) c.if-here.true
+    (λ word link e. c.is_entry.ensures word link e c.requires.hashed) c.if-is_entry.true
 
 pub overflow_mul-p : goal.overflow_mul-p
 overflow_mul-p c = omega arith
@@ -48,11 +44,11 @@ pub loop-p-preserved : goal.loop-p-preserved
 loop-p-preserved c =
     let falls = c.requires.falling.links c.loop-p.p c.loop-p-test.true c.loop-p.invariant.small in
     record {
-      small = omega (arith, c.wide_number-p-in-loop-p.ensures, falls, c.loop-p.invariant.small);
+      small = omega (arith, falls, c.loop-p.invariant.small);
       search =
           λ words x. laws.searching_next (c.loop-p.invariant.search words x) c.loop-p-test.true
-          (λ word link e. c.is_entry-here.ensures word link e c.requires.hashed) c.if-here.false
-          c.wide_number-p-in-loop-p.ensures;
+          (λ word link e. c.is_entry.ensures word link e c.requires.hashed) c.if-is_entry.false
+          refl;
     }
 
 pub returns : goal.returns
