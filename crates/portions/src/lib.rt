@@ -19,13 +19,7 @@ const ENTRY: usize = 3;
 pub fn are_counts(written: u64, wanted: u64) -> bool
     ensures { result ≡ are_counts written wanted }
 {
-    (1 <= written) & (written <= MOST_PORTIONS) & ((1 <= wanted) & (wanted <= MOST_PORTIONS))
-}
-
-fn wide(n: u32) -> u64
-    ensures { (result ≡ n) × (result < 4294967296) }
-{
-    n as u64
+    (1..=MOST_PORTIONS).contains(&written) && (1..=MOST_PORTIONS).contains(&wanted)
 }
 
 // The entry of a number, behind `at` numbers of a list; the answer is the place behind it. Where the list ends before, nothing is written.
@@ -33,14 +27,13 @@ fn entry_at(list: &mut [u64], at: usize, n: u32, written: u64, wanted: u64) -> u
     requires { EntryFits written wanted at }
     ensures { Wrote list.old at (entries_for written wanted (n ∷ [])) result list.new }
 {
-    let number = wide(n);
+    let number = u64::from(n);
     let whole = number * wanted;
     let end = at + ENTRY;
     if end <= list.len() {
         list[at] = number;
         list[at + 1] = whole / written;
         list[at + 2] = whole % written;
-        return end;
     }
     end
 }
@@ -116,8 +109,7 @@ pub fn list_portions(cells: &[u32], root: u32, written: u64, wanted: u64, list: 
     ensures { Listed (entries_at written wanted cells.now (rows_held cells.now) root) list.old list.new result }
 {
     let made = cells.len() / COLUMNS;
-    let mut none = [0u64; 1];
-    let needed = list_term(&mut none[..0], 0, &cells, made, root, written, wanted);
+    let needed = list_term(&mut [], 0, &cells, made, root, written, wanted);
     if list.len() < needed {
         return needed;
     }
