@@ -458,7 +458,8 @@ module _ {patterns : List Item → ℕ} {bs room : List ℕ} (held : HeldFor pat
   kind_tested {spot} kind inside e = e ∙ ap (λ (set : ℕ). has_kind set kind) (first_in_lem entries_held spot inside)
 
   -- and what reads a variable first, by which a test for a sort goes.
-  pub sort_tested : {spot : ℕ} (placed : Bool) (sort : ℕ) {answer : Bool} → spot < length (entries_for patterns bs) → answer ≡ opens_by placed (patterns_in room spot) sort
+  pub sort_tested : {spot : ℕ} (placed : Bool) (sort : ℕ) {answer : Bool} → spot < length (entries_for patterns bs)
+      → answer ≡ opens_by placed (patterns_in room spot) sort
       → answer ≡ opens_sort placed sort (get_or (entries_for patterns bs) spot no_entry)
   sort_tested {spot} placed sort inside e = e ∙ ap (λ (set : ℕ). opens_by placed set sort) (patterns_in_lem entries_held spot inside)
 

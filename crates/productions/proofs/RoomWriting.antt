@@ -36,7 +36,12 @@ module _ (kinds : ℕ) (sets room : List ℕ) (whole : RoomAndSets room sets) wh
   sets_are : sets ≡ values_of (λ n. get_or sets n 0) most.nonterminals 0
   sets_are =
       ext_get_or 0 sets (values_of (λ n. get_or sets n 0) most.nonterminals 0) (whole.many ∙ sym (length-values _ most.nonterminals 0))
-      (λ n below. let z : 0 + n ≡ n = omega arith in ap (λ n. get_or sets n 0) (sym z) ∙ sym (get_d_values (λ n. get_or sets n 0) most.nonterminals 0 n (omega (arith, whole.many))))
+      (λ n below. set_is n (omega (arith, whole.many)))
+    where
+      set_is : (n : ℕ) → n < most.nonterminals → get_or sets n 0 ≡ get_or (values_of (λ n. get_or sets n 0) most.nonterminals 0) n 0
+      set_is n below =
+          let same : 0 + n ≡ n = omega arith in
+          ap (λ n. get_or sets n 0) (sym same) ∙ sym (get_d_values (λ n. get_or sets n 0) most.nonterminals 0 n below)
 
   -- the room stays as long
   size_is : length with_sets ≡ room_size

@@ -16,7 +16,11 @@ pub scan_linked-requires : goal.scan_linked-requires
 scan_linked-requires c = record { lent = search rules; few = omega arith; linked = scannable short_formula (omega arith) (λ n a b. omega arith) }
 
 pub scan_linked-requires-then-size-le-MIDDLE : goal.scan_linked-requires-then-size-le-MIDDLE
-scan_linked-requires-then-size-le-MIDDLE c = record { lent = search rules; few = omega arith; linked = scannable middle_formula (omega arith) (λ n a b. omega arith) }
+scan_linked-requires-then-size-le-MIDDLE c = record {
+  lent = search rules;
+  few = omega arith;
+  linked = scannable middle_formula (omega arith) (λ n a b. omega arith);
+}
 
 pub scan_linked-requires-2 : goal.scan_linked-requires-2
 scan_linked-requires-2 c = record { lent = search rules; few = omega arith; linked = scannable most_tokens (omega arith) (λ n a b. omega arith) }
