@@ -8,6 +8,7 @@ use lib.Dec.{ltb}
 use lib.ListN.{length, get_or, take, replicate, length-replicate, length-take}
 use lib.Seq.{length-take-le, get_or-take}
 use borrow.Author.Tests.{le-leb, lt-leb, ltb-true, ltb-false}
+use Rattle.std.specs.Prelude.{⊤, Result, Ok, Err}
 use Rattle.answers.specs.declared.Refusal.{Refusal}
 use Rattle.answers.specs.declared.Answer.{Answer}
 use Rattle.answers.specs.declared.Answer.TheVariants.{Accepted, Refusing}
@@ -28,8 +29,6 @@ use Rattle.terms.proofs.EmitLaws.{leaves, fitted_long, fitted_whole, judged_larg
 use Rattle.rows.specs.Sizes.{WholeRows, rows_held, no_spell, size_at}
 use Rattle.rows.proofs.ListLaws.{zeros}
 use Rattle.rows.proofs.SizeLaws.{size_spell}
-use Rattle.resolver.specs.declared.Resolution.{Resolution}
-use Rattle.resolver.specs.declared.Resolution.TheVariants.{Loose, Numbered}
 use Rattle.resolver.specs.Numbers.{walk_of, Resolvable, Resolves}
 use Rattle.writer.specs.Pool.{spelled_by}
 use Rattle.printer.specs.Printed.{text_by, Printable, Prints}
@@ -65,11 +64,11 @@ module _ (cells : List ℕ) (root : ℕ) where
             };
       }
 
-  module _ {marks marks' : List ℕ} {constructors : ℕ} {resolution : Resolution} (s : Sized cells root constructors) (few : constructors ≤ largest_term)
+  module _ {marks marks' : List ℕ} {constructors : ℕ} {resolution : Result ⊤ ℕ} (s : Sized cells root constructors) (few : constructors ≤ largest_term)
       (resolved : Resolves cells (rows_held cells) root marks' resolution × (length marks' ≡ length marks))
     where
       -- 23
-      pub judge_loose : {place : ℕ} {cause : Refusal} → resolution ≡ Loose place → cause ≡ refusal 23 place 0 0
+      pub judge_loose : {place : ℕ} {cause : Refusal} → resolution ≡ Err place → cause ≡ refusal 23 place 0 0
           → Judged cells root marks marks' (Refused cause)
       judge_loose {place} en e =
           record {
@@ -85,7 +84,7 @@ module _ (cells : List ℕ) (root : ℕ) where
           }
 
       -- else the term passes, and its new names are numbered
-      pub judge_passes : resolution ≡ Numbered → Judged cells root marks marks' Passed
+      pub judge_passes : resolution ≡ Ok tt → Judged cells root marks marks' Passed
       judge_passes en =
           record {
             long = resolved.1;

@@ -2,7 +2,7 @@
 // portions.
 #![tactic(auto)]
 
-ghost use Rattle.std.specs.Prelude.{◌<◌, ◌≤◌, ◌≡◌, length};
+ghost use Rattle.std.specs.Prelude.{◌≤◌, ◌≡◌, length};
 ghost use Rattle.terms.specs.Term.{largest_term};
 ghost use Rattle.terms.specs.Emit.{fitted};
 ghost use Rattle.rows.specs.Sizes.{rows_held, size_at};
@@ -16,7 +16,7 @@ use answers::causes::{LOOSE_FRESH_VARIABLE, TERM_TOO_LARGE, TEXT_TOO_LONG};
 use answers::{Answer, Verdict, refuse};
 use portions::list_portions;
 use printer::print_text;
-use resolver::{Resolution, resolve};
+use resolver::resolve;
 use rows::sizes::size_at;
 use terms::{COLUMNS, LARGEST_TERM};
 
@@ -48,10 +48,9 @@ fn judge(cells: &[u32], root: u32, size: usize, marks: &mut &mut [u16]) -> Verdi
     if LARGEST_TERM < size {
         return Verdict::Refused(refuse(TERM_TOO_LARGE, made as u64, 0, 0));
     }
-    let resolution = resolve(cells, made, root, marks);
-    match resolution {
-        Resolution::Loose(p) => Verdict::Refused(refuse(LOOSE_FRESH_VARIABLE, p as u64, 0, 0)),
-        Resolution::Numbered => Verdict::Passed,
+    match resolve(cells, made, root, marks) {
+        Ok(()) => Verdict::Passed,
+        Err(p) => Verdict::Refused(refuse(LOOSE_FRESH_VARIABLE, p as u64, 0, 0)),
     }
 }
 
@@ -129,8 +128,7 @@ fn emit_in(
 {
     let root = whole.root;
     let size = whole.size;
-    let verdict = judge(cells, root, size, marks);
-    match verdict {
+    match judge(cells, root, size, marks) {
         Verdict::Refused(r) => Answer::Refusing(r),
         Verdict::Passed => match writing {
             Writing::Text => write_text(
@@ -150,9 +148,9 @@ fn emit_in(
     }
 }
 
-// The last step for a term of more than 256 constructors, but not too many. It calls itself on what it is never passed, no cells: the back end lays no
-// such function into its caller, whose frame stays without this room.
-fn emit_large(
+// The last step for a term for whose constructors a room has a mark each. The room is in no frame but this function's.
+#[inline(never)]
+fn emit_with<const ROOM: usize>(
     table: &[u8],
     formula: &[u8],
     words: &[u32],
@@ -164,18 +162,14 @@ fn emit_large(
 ) -> Answer
     requires emittable { Emittable table.now formula.now words.now whole.count cells.now whole.root }
     requires sized { Sized cells.now whole.root whole.size }
-    requires cells_nonzero { (0 < length cells.now) × (whole.size ≤ largest_term) }
+    requires roomy { (whole.size ≤ ROOM) × (ROOM ≤ largest_term) }
     requires writable { Writable writing }
     ensures { Emits writing (rows_held cells.now)
         (term_of table.now formula.now words.now whole.count cells.now whole.root)
         text.old list.old result text.new list.new }
 {
-    if cells.len() == 0 {
-        let blank = [0u32; COLUMNS];
-        return emit_large(table, formula, words, &blank, whole, writing, text, list);
-    }
     let size = whole.size;
-    let mut marks = [0u16; LARGEST_TERM];
+    let mut marks = [0u16; ROOM];
     let mut room = &mut marks[..size];
     emit_in(
         table, formula, words, cells, whole, &mut room, writing, text, list,
@@ -203,20 +197,12 @@ pub fn emit(
         text.old list.old result text.new list.new }
 {
     let size = size_at(cells, root);
-    let whole = Whole {
-        count: count,
-        root: root,
-        size: size,
-    };
+    let whole = Whole { count, root, size };
     if size <= SMALL_TERM {
-        let mut marks = [0u16; SMALL_TERM];
-        let mut room = &mut marks[..size];
-        return emit_in(
-            table, formula, words, cells, whole, &mut room, writing, text, list,
-        );
+        return emit_with::<SMALL_TERM>(table, formula, words, cells, whole, writing, text, list);
     }
     if size <= LARGEST_TERM {
-        return emit_large(table, formula, words, cells, whole, writing, text, list);
+        return emit_with::<LARGEST_TERM>(table, formula, words, cells, whole, writing, text, list);
     }
     let mut none = [0u16; 1];
     let mut room = &mut none[..0];

@@ -7,8 +7,8 @@ use native.Mathlib.Omega.{arith}
 use lib.ListN.{length, get_or, set, take, drop, length-set, take-append-drop}
 use lib.Seq.{drop-cons, take-suc, take-suc-set, drop-set-lt, get_or-take, length-take-le, take-length, drop-length}
 use borrow.Author.Tests.{ne_eqb}
+use Rattle.std.specs.Prelude.{Ok, Err}
 use Rattle.grammar.proofs.ReaderLaws.{get_d_past}
-use Rattle.resolver.specs.declared.Resolution.TheVariants.{Loose, Numbered}
 use Rattle.scopes.specs.Marks.{new, no_owner}
 use Rattle.resolver.specs.Numbers.{owner_number, number_at, next_number, numbered_marks, loose_in, NumbersMarks}
 
@@ -39,19 +39,19 @@ module _ (room : List ℕ) (place next mark : ℕ) (no_new : mark ≡ new → �
   zero_at e = sym (owner_at (take place room) next mark no_new no_loose ∙ ap (owner_number (take place room)) e)
 
   -- a variable whose binder stands before it has its binder's number
-  pub found_at : (mark ≡ 0 → ⊥) → {marked : ℕ} → marked ≡ mark → marked - 1 < place → get_or room (marked - 1) 0 ≡ number_at (take place room) next mark
-  found_at d {marked} e l =
-      let z : marked - 1 ≡ mark - 1 = omega arith in
-      sym (owner_at (take place room) next mark no_new no_loose ∙ owner_number_lem (take place room) mark (marked - 1) d z ∙ get_or-take place room (marked - 1) 0 l)
+  pub found_at : (mark ≡ 0 → ⊥) → mark - 1 < place → get_or room (mark - 1) 0 ≡ number_at (take place room) next mark
+  found_at d l =
+      sym
+      (owner_at (take place room) next mark no_new no_loose ∙ owner_number_lem (take place room) mark (mark - 1) d refl
+      ∙ get_or-take place room (mark - 1) 0 l)
 
   -- one whose binder's place is not before it would have 0
-  pub far_at : (mark ≡ 0 → ⊥) → {marked : ℕ} → marked ≡ mark → place ≤ marked - 1 → place ≤ length room → 0 ≡ number_at (take place room) next mark
-  far_at d {marked} e l n =
-      let z : marked - 1 ≡ mark - 1 = omega arith in
-      let past : length (take place room) ≤ marked - 1 = omega (arith, length-take-le place room n) in
+  pub far_at : (mark ≡ 0 → ⊥) → place ≤ mark - 1 → place ≤ length room → 0 ≡ number_at (take place room) next mark
+  far_at d l n =
+      let past : length (take place room) ≤ mark - 1 = omega (arith, length-take-le place room n) in
       sym
-      (owner_at (take place room) next mark no_new no_loose ∙ owner_number_lem (take place room) mark (marked - 1) d z ∙ get_d_past (take place room)
-      (marked - 1) 0 past)
+      (owner_at (take place room) next mark no_new no_loose ∙ owner_number_lem (take place room) mark (mark - 1) d refl ∙ get_d_past (take place room)
+      (mark - 1) 0 past)
 
 -- ------------------------------------------------------------------ the loop
 
@@ -98,7 +98,7 @@ module _ {room₀ room : List ℕ} {place count : ℕ} (counting : Counting room
   mark_kept = cc (next, next₀, counting.ahead)
 
   -- The first place without an owner is the answer, and the marks from there on are as they were.
-  pub counting_loose : get_or room place 0 ≡ no_owner → NumbersMarks room₀ room (Loose place)
+  pub counting_loose : get_or room place 0 ≡ no_owner → NumbersMarks room₀ room (Err place)
   unfolding loose_in
   counting_loose e =
       let h : loose_in place (get_or room place 0 ∷ drop (suc place) room) ≡ place ∷ loose_in (suc place) (drop (suc place) room) = rw (e, loose_in) refl in
@@ -167,7 +167,7 @@ module _ {room₀ room : List ℕ} {place count : ℕ} (counting : Counting room
   none_ahead = cc (all_passed, drop-length room)
 
   -- where no mark is left, every fresh variable has an owner, and the marks have become the numbers
-  pub counting_done : NumbersMarks room₀ room Numbered
+  pub counting_done : NumbersMarks room₀ room (Ok tt)
   unfolding loose_in
   counting_done =
       let none : loose_in 0 room₀ ≡ [] = sym counting.loose ∙ ap (loose_in place) none_ahead in

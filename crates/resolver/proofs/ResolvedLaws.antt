@@ -6,6 +6,7 @@ use mathlib.Core.List.{List, [], ◌∷◌, ◌++◌, append_assoc, append-nil}
 use native.Mathlib.Omega.{arith}
 use lib.ListN.{length, get_or, replicate, length-replicate}
 use lib.Seq.{take-length, length-sets}
+use Rattle.std.specs.Prelude.{⊤, Result, Ok, Err}
 use Rattle.terms.specs.Cells.{columns}
 use Rattle.terms.specs.Term.{Name, Term, size, largest_term}
 use Rattle.terms.specs.Rows.{term_at}
@@ -20,8 +21,6 @@ use Rattle.marking.specs.RowMarks.{term_marks}
 use Rattle.marking.specs.Walks.{WalkPrepared, Walkable, Walks}
 use Rattle.marking.proofs.MarkLaws.{length_marked}
 use Rattle.marking.proofs.MeaningLaws.{term_means}
-use Rattle.resolver.specs.declared.Resolution.{Resolution}
-use Rattle.resolver.specs.declared.Resolution.TheVariants.{Loose, Numbered}
 use Rattle.resolver.specs.Quiet.{is_quiet}
 use Rattle.resolver.specs.Numbers.{number_at, next_number, numbered_marks, loose_in, first_loose, NumbersMarks}
 use Rattle.resolver.specs.Numbers.{walk_of, resolution_test, Resolvable, ResolvedAs, Resolves}
@@ -32,21 +31,21 @@ use Rattle.resolver.proofs.QuietLaws.{Zeros, zeros_none, zeros_more, quiet_term}
 -- ------------------------------------------------------------------ the answer
 
 -- the first place without an owner is where the walk stops
-stops_first : (ps : List ℕ) (end : ℕ) {resolution : Resolution} → resolution ≡ first_loose ps → stops_at_first ps end ≡ walk_of resolution end
+stops_first : (ps : List ℕ) (end : ℕ) {resolution : Result ⊤ ℕ} → resolution ≡ first_loose ps → stops_at_first ps end ≡ walk_of resolution end
 stops_first [] end e = sym cc
 stops_first (p ∷ ps) end e = sym cc
 
 -- an answer's number is that of the test
-walk_tested : (resolution : Resolution) (end : ℕ) → walk_test (walk_of resolution end) ≡ resolution_test resolution
-walk_tested (Loose p) end = refl
-walk_tested Numbered end = refl
+walk_tested : (resolution : Result ⊤ ℕ) (end : ℕ) → walk_test (walk_of resolution end) ≡ resolution_test resolution
+walk_tested (Err p) end = refl
+walk_tested (Ok tt) end = refl
 
-none_loose : (ps : List ℕ) → first_loose ps ≡ Numbered → ps ≡ []
+none_loose : (ps : List ℕ) → first_loose ps ≡ Ok tt → ps ≡ []
 none_loose [] e = refl
 none_loose (p ∷ ps) e = absurd (let z : ◌≡◌ {A = ℕ} 0 1 = cc in omega arith)
 
 -- The numbers of a term's marks are a resolution.
-resolved_as : (t : Term Name) {room : List ℕ} {resolution : Resolution} → size t ≤ largest_term → NumbersMarks (marks [] 0 t) room resolution
+resolved_as : (t : Term Name) {room : List ℕ} {resolution : Result ⊤ ℕ} → size t ≤ largest_term → NumbersMarks (marks [] 0 t) room resolution
     → ResolvedAs t room resolution
 resolved_as t {room} {resolution} small numbers =
     let answer = walk_by_marks t small ∙ stops_first (loose_in 0 (marks [] 0 t)) (size t) numbers.answer in
@@ -68,7 +67,7 @@ module _ {cells room : List ℕ} {made root : ℕ} (pre : Resolvable cells made 
   root_length = length_marked cells (term_at made no_spell cells root) root 0 current ∙ sym pre.counted
 
   -- under no binder, the marks of the rows are those of the term
-  root_resolves : length cells / columns ≤ length current → ((i : ℕ) → get_or current i 0 ≡ 0) → {room' : List ℕ} {resolution : Resolution}
+  root_resolves : length cells / columns ≤ length current → ((i : ℕ) → get_or current i 0 ≡ 0) → {room' : List ℕ} {resolution : Result ⊤ ℕ}
       → NumbersMarks (term_marks cells made root 0 current).marks room' resolution → Resolves cells made root room' resolution
   unfolding owner_of
   root_resolves slots none numbers spell apart known =
@@ -83,7 +82,7 @@ root_fits {current = current} pre begun =
     record { linked = begun.linked; inside = omega (arith, root_length pre current); few = pre.few }
 
 -- A walk's marks, numbered, are a resolution.
-pub resolves_numbered : {cells links current current' room room₁ room₂ : List ℕ} {made root place held : ℕ} {resolution : Resolution}
+pub resolves_numbered : {cells links current current' room room₁ room₂ : List ℕ} {made root place held : ℕ} {resolution : Result ⊤ ℕ}
     → Resolvable cells made root room → WalkPrepared cells links current
     → Walks (term_marks cells made root 0 current) 0 place current current' room room₁ held → NumbersMarks room₁ room₂ resolution
     → Resolves cells made root room₂ resolution
@@ -113,12 +112,12 @@ unfolding loose_in
 zeros_owned zeros_none place = refl
 zeros_owned (zeros_more h) place = zeros_owned h (suc place)
 
-zeros_numbers : {ms room : List ℕ} → Zeros ms → ms ≡ room → NumbersMarks ms room Numbered
+zeros_numbers : {ms room : List ℕ} → Zeros ms → ms ≡ room → NumbersMarks ms room (Ok tt)
 zeros_numbers h e =
     record { answer = sym (rw (zeros_owned h 0) refl); left = rw (zeros_owned h 0) (sym (zeros_numbered h [] 1 ∙ e)) }
 
 -- Where nothing is to be resolved, the zeros that were there are the numbers.
-pub quiet_resolves : {cells room : List ℕ} {made root : ℕ} → Resolvable cells made root room → is_quiet cells ≡ true → Resolves cells made root room Numbered
+pub quiet_resolves : {cells room : List ℕ} {made root : ℕ} → Resolvable cells made root room → is_quiet cells ≡ true → Resolves cells made root room (Ok tt)
 quiet_resolves {cells} {room} {made} {root} pre quiet =
     let slots : ℕ = length cells / columns in
     let none = zeros slots in

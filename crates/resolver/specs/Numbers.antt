@@ -1,6 +1,6 @@
 -- From marks to the numbers of new names, from the left: a binder that is renamed takes the next number, a variable that has a binder its
 -- binder's number, all else 0. Nobody needs this to believe `expand`.
-use Rattle.std.specs.Prelude.{ℕ, zero, suc, ◌*◌, ◌≤◌, ◌≡◌, true, false, List, [], ◌∷◌, ◌++◌, eqb, length, get_or, take, drop}
+use Rattle.std.specs.Prelude.{ℕ, zero, suc, ◌*◌, ◌≤◌, ◌≡◌, true, false, List, [], ◌∷◌, ◌++◌, eqb, length, get_or, take, drop, ⊤, Result, Ok, Err}
 use Rattle.answers.specs.Checked.{Checked, ok, bad}
 use Rattle.answers.specs.Refusals.{refusal}
 use Rattle.terms.specs.Cells.{columns}
@@ -14,8 +14,6 @@ use Rattle.terms.specs.Labelled.{labelled}
 use Rattle.rows.specs.Sizes.{size_at, WholeRows}
 use Rattle.scopes.specs.Marks.{new, no_owner}
 use Rattle.marking.specs.Marks.{marks}
-use Rattle.resolver.specs.declared.Resolution.{Resolution}
-use Rattle.resolver.specs.declared.Resolution.TheVariants.{Loose, Numbered}
 
 abbrev pub owner_number : List ℕ → ℕ → ℕ
 owner_number done zero = 0
@@ -38,9 +36,9 @@ loose_in p [] = []
 loose_in p (m ∷ ms) = elim (eqb m no_owner) [ true ↦ p ∷ loose_in (suc p) ms | false ↦ loose_in (suc p) ms ]
 
 -- the first place without an owner, if there is one
-abbrev pub first_loose : List ℕ → Resolution
-first_loose [] = Numbered
-first_loose (p ∷ ps) = Loose p
+abbrev pub first_loose : List ℕ → Result ⊤ ℕ
+first_loose [] = Ok tt
+first_loose (p ∷ ps) = Err p
 
 -- the marks as they are left: numbered before the first place without an owner, and from there on as they were
 abbrev pub numbered_before : List ℕ → List ℕ → List ℕ
@@ -51,7 +49,7 @@ abbrev pub numbering : List ℕ → List ℕ
 numbering marks = numbered_before (loose_in 0 marks) marks
 
 -- the answer, and the marks at exit
-pub record NumbersMarks (marks marks' : List ℕ) (r : Resolution) : Type 0 where
+pub record NumbersMarks (marks marks' : List ℕ) (r : Result ⊤ ℕ) : Type 0 where
   pub answer : r ≡ first_loose (loose_in 0 marks)
   pub left : marks' ≡ numbering marks
 
@@ -66,24 +64,24 @@ pub record Resolvable (cells : List ℕ) (made root : ℕ) (room : List ℕ) : T
   pub blank : (i : ℕ) → get_or room i 0 ≡ 0
 
 -- the walk of a term that an answer stands for
-abbrev pub walk_of : Resolution → ℕ → Walk
-walk_of (Loose p) end = loose p
-walk_of Numbered end = reached end
+abbrev pub walk_of : Result ⊤ ℕ → ℕ → Walk
+walk_of (Err p) end = loose p
+walk_of (Ok tt) end = reached end
 
 -- Document 01's number and value for each answer, as the test on a term has them
-abbrev pub resolution_test : Resolution → Checked (Unit {0})
-resolution_test (Loose p) = bad (refusal 23 p 0 0)
-resolution_test Numbered = ok tt
+abbrev pub resolution_test : Result ⊤ ℕ → Checked (Unit {0})
+resolution_test (Err p) = bad (refusal 23 p 0 0)
+resolution_test (Ok tt) = ok tt
 
 -- The answer is that of the walk for 23, and of its test; the room has the numbers of the term's marks; where all are bound, this is the number of
 -- each new name at its place.
-pub record ResolvedAs (t : Term Name) (room : List ℕ) (r : Resolution) : Type 0 where
+pub record ResolvedAs (t : Term Name) (room : List ℕ) (r : Result ⊤ ℕ) : Type 0 where
   pub answer : walk [] 0 t ≡ walk_of r (size t)
   pub tested : binding_test t ≡ resolution_test r
   pub numbers : room ≡ numbering (marks [] 0 t)
-  pub named : r ≡ Numbered → labelled room 0 t ≡ rename t
+  pub named : r ≡ Ok tt → labelled room 0 t ≡ rename t
 
 -- this of the term at a row, under any spellings that give it proper names
-abbrev pub Resolves : List ℕ → ℕ → ℕ → List ℕ → Resolution → Type 0
+abbrev pub Resolves : List ℕ → ℕ → ℕ → List ℕ → Result ⊤ ℕ → Type 0
 Resolves cells made root room r =
     (spell : ℕ → List ℕ) → Distinct spell → WellNamed spell (term_at made spell cells root) → ResolvedAs (term_at made spell cells root) room r

@@ -1,11 +1,6 @@
 -- `number`: mark by mark from the left.
-use Prim.Native.Nat.{◌-◌}
-use lib.ListN.{length}
 use Rattle.resolver.proofs.CountLaws as laws
 use Rattle.resolver.proofs.numbering.number.Given as goal
 
 abbrev pub invariant-loop-p : goal.invariant-loop-p
 invariant-loop-p l = laws.Counting l.initial.marks l.marks l.p l.count
-
-abbrev pub decreases-loop-p : goal.decreases-loop-p
-decreases-loop-p l = length l.initial.marks - l.p
