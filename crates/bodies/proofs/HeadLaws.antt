@@ -102,7 +102,8 @@ unfolding head_before
 before_kept bs heads block n h m test t = cc (h, m, t)
 
 -- It goes by the newest head alone.
-pub before_same_head : (bs heads heads' : List ℕ) (block n : ℕ) → get_or heads n 0 ≡ get_or heads' n 0 → head_before bs heads block n ≡ head_before bs heads' block n
+pub before_same_head : (bs heads heads' : List ℕ) (block n : ℕ) → get_or heads n 0 ≡ get_or heads' n 0
+    → head_before bs heads block n ≡ head_before bs heads' block n
 unfolding head_before
 before_same_head bs heads heads' block n e = cc e
 

@@ -1,6 +1,7 @@
 -- The tests of templates, byte by byte on their prefix form, as the code makes them. On whole templates they are `are_closed` and
 -- `fill` (proofs/TemplatesByBytes.antt). Nobody needs this file to believe `expand`.
-use Rattle.std.specs.Prelude.{ℕ, zero, suc, ◌+◌, ◌≤◌, ◌≡◌, Bool, true, false, not, ◌&&◌, ◌||◌, List, [], ◌∷◌, ◌++◌, eqb, leb, ltb, length, get_or, Option, Some, None, Result, Err, ⊤}
+use Rattle.std.specs.Prelude.{ℕ, zero, suc, ◌+◌, ◌≤◌, ◌≡◌, Bool, true, false, not, ◌&&◌, ◌||◌, List, [], ◌∷◌, ◌++◌, eqb, leb, ltb, length, get_or}
+use Rattle.std.specs.Prelude.{⊤, Option, Some, None, Result, Err}
 use Rattle.grammar.specs.Sorts.{unit, var, label, constructor}
 use Rattle.grammar.specs.SortTests.{fits}
 use Rattle.decoding.specs.Prefix.{is_name_tag}

@@ -1,6 +1,7 @@
 -- The check of sorts on the bytes of a table, as the code makes it, for any bytes. On the bytes of a table it is `check_sorts`
 -- (proofs/SortedBytes.antt). Nobody needs this file to believe `expand`.
-use Rattle.std.specs.Prelude.{ℕ, ◌+◌, ◌-◌, ◌*◌, ◌≤◌, ◌≡◌, ⊤, Option, Some, None, Result, Ok, Err, true, false, ◌&&◌, List, ◌++◌, eqb, leb, length, get_or, drop, set, replicate}
+use Rattle.std.specs.Prelude.{ℕ, ◌+◌, ◌-◌, ◌*◌, ◌≤◌, ◌≡◌, true, false, ◌&&◌, List, ◌++◌, eqb, leb, length, get_or, drop, set, replicate}
+use Rattle.std.specs.Prelude.{⊤, Option, Some, None, Result, Ok, Err}
 use Rattle.grammar.specs.Variables.{most_variables}
 use Rattle.answers.specs.declared.Verdict.{Verdict}
 use Rattle.answers.specs.declared.Verdict.TheVariants.{Passed, Refused}

@@ -1,13 +1,6 @@
 -- `count`: by the tag.
 use Rattle.sorts.proofs.StepLaws as laws
-use native.Mathlib.Omega.{arith}
 use Rattle.sorts.proofs.count.Goals as goal
-
-pub overflow_add-result : goal.overflow_add-result
-overflow_add-result c = omega arith
-
-pub overflow_add-result-in-2 : goal.overflow_add-result-in-2
-overflow_add-result-in-2 c = omega arith
 
 pub returns-in-1 : goal.returns-in-1
 returns-in-1 c = laws.count_keyword _ _ _ c.in-1.is
@@ -19,4 +12,4 @@ pub returns-in-4 : goal.returns-in-4
 returns-in-4 c = laws.count_head _ _ _ c.in-4.is
 
 pub returns-in_default : goal.returns-in_default
-returns-in_default c = laws.count_other _ _ _ c.in_default.in_default-own.rest
+returns-in_default c = search laws.count_other
