@@ -22,7 +22,7 @@ use Rattle.firsts.specs.Reach.{kinds_reached}
 use Rattle.firsts.specs.Room.{productions_in, table_room_for, HoldsGrammar}
 use Rattle.tokens.specs.declared.Scanned.{Scanned}
 use Rattle.tokens.specs.declared.Scanned.TheVariants.{Tokens, Unscanned}
-use Rattle.scanner.specs.Rooms.{Filled, filled, scan_into, RoomFor}
+use Rattle.scanner.specs.Rooms.{Filled, filled, scan_into, RoomFor, TokensFit}
 use Rattle.scanner.proofs.AfterScan.{Holds, scan_holds}
 use Rattle.checker.specs.Syntax.{Syntax, syntax_of}
 use Rattle.checker.specs.CheckedInto.{CheckedInto}
@@ -33,7 +33,7 @@ use Rattle.checker.proofs.Joined.{passed_grammar, passed_holds, passed_places}
 use Rattle.expansion.specs.declared.Outcome.{Outcome}
 use Rattle.expansion.specs.Outcomes.{ran}
 use Rattle.parser.specs.declared.Parsed.{Parsed}
-use Rattle.parser.specs.Parse.{HoldsPassed, CheckedRoom, halted_parse, parsed_into, parse_into, run_in}
+use Rattle.parser.specs.Parse.{HoldsPassed, CheckedRoom, Parseable, halted_parse, parsed_into, parse_into, run_in}
 use Rattle.steps.specs.Source.{source, GoesOn}
 use Rattle.steps.proofs.SourceLaws.{productions_from_lem}
 use Rattle.parser.proofs.Parsing as parsing
@@ -126,3 +126,12 @@ module _ {bs : List ℕ} (bytes : Bytes bs) where
                   cut_tokens scan_fills.tokens_fit ∙ scan_fills.tokens_are,
                   root_passed,
                 ) at e)
+
+-- ------------------------------------------------------------------ the tokens
+
+-- The tokens of a formula that is scanned fit their room.
+pub parsed_fit : {bs room formula tokens words : List ℕ} → Bytes bs → Parseable bs room formula tokens words → {kinds : ℕ} → kinds ≡ kinds_in room
+    → {scanned : Scanned} {tokens' words' : List ℕ} → filled scanned tokens' words' ≡ scan_into (lexicon_by kinds [] bs) formula tokens words
+    → {many count : ℕ} → scanned ≡ Tokens many count → TokensFit tokens' many
+parsed_fit {formula = formula} {tokens} {words} bytes asked reached fills accepts =
+    (scan_fills bytes asked.checked.passes asked.checked.ready.held.grammar reached formula tokens words fills asked.rooms accepts).tokens_fit

@@ -1,6 +1,6 @@
 -- Scan and run in one, under a table that passed the check, with the rooms that are lent: refusals 14 to 21, or the value of the root's call. This
 -- is what an expansion does before its last step. It mirrors code: nobody needs this file to believe `expand`.
-use Rattle.std.specs.Prelude.{ℕ, ◌<◌, ◌≤◌, ◌≡◌, List, length}
+use Rattle.std.specs.Prelude.{ℕ, ◌≡◌, List}
 use Rattle.answers.specs.declared.Refusal.{Refusal}
 use Rattle.answers.specs.declared.Verdict.{Verdict}
 use Rattle.answers.specs.declared.Verdict.TheVariants.{Passed}
@@ -72,12 +72,6 @@ pub record Parseable (bs room formula tokens words : List ℕ) : Type 0 where
 pub record Runnable (bs room tokens : List ℕ) : Type 0 where
   pub ready : Ready (source bs) room
   pub tokens_fit : LentTokens tokens
-
--- and under a table that is not empty, of so many bytes at most
-pub record RunnableWithin (most : ℕ) (bs room tokens : List ℕ) : Type 0 where
-  pub runnable : Runnable bs room tokens
-  pub some : 0 < length bs
-  pub within : length bs ≤ most
 
 -- the run of tokens under a table, from the nonterminal that its last byte names
 abbrev pub run_in : List ℕ → List ℕ → List ℕ → Result ℕ

@@ -1,12 +1,12 @@
 // Scan and run in one, under a table that passed the check: from the bytes of a formula to the value of the root's call, or a refusal 14 to 21.
 #![tactic(auto)]
 
-ghost use Rattle.std.specs.Prelude.{◌≡◌};
+ghost use Rattle.std.specs.Prelude.{◌≤◌, ◌≡◌, length};
 ghost use Rattle.grammar.specs.Limits.{most};
 ghost use Rattle.checker.specs.Syntax.{syntax_of};
 ghost use Rattle.checker.specs.Passes.{Passes};
 ghost use Rattle.expansion.specs.Outcomes.{ran};
-ghost use Rattle.parser.specs.Parse.{Runnable, RunnableWithin, Parseable, parsed_into, parse_into, run_in};
+ghost use Rattle.parser.specs.Parse.{Runnable, Parseable, parsed_into, parse_into, run_in};
 
 use answers::Refusal;
 use expander::run;
@@ -34,37 +34,21 @@ fn halted(r: Refusal) -> Parsed
     }
 }
 
-// The run of tokens with a room for the templates of a table of up to 4,096 bytes. It calls itself on what it is never passed, an empty table: the
-// back end lays no such function into its caller, whose frame stays without this room.
+// The run of tokens with a room for the templates of a table of up to N bytes. It is never laid into its caller, whose frame stays without this room.
 #[inline(never)]
-fn run_middle(cells: &mut [u32], table: &[u8], room: &[u64; ROOM], tokens: &[u32]) -> Outcome
-    requires { RunnableWithin 4096 table.now room.now tokens.now }
+fn run_with<const N: usize>(
+    cells: &mut [u32],
+    table: &[u8],
+    room: &[u64; ROOM],
+    tokens: &[u32],
+) -> Outcome
+    requires runnable { Runnable table.now room.now tokens.now }
+    requires within { (length table.now ≤ N) × (N ≤ most.bytes) }
     ensures { ran result cells.new ≡ run_in table.now tokens.now cells.old }
 {
-    if table.len() == 0 {
-        let root = [0u8; 1];
-        return run_middle(cells, &root, room, tokens);
-    }
     let root = root_of(table);
-    let mut stack = [0u32; MIDDLE_TABLE];
-    let no_texts = [0u32; 0];
-    run(cells, &mut stack, table, &no_texts, room, root, tokens)
-}
-
-// The same with a room for the templates of every table.
-#[inline(never)]
-fn run_long(cells: &mut [u32], table: &[u8], room: &[u64; ROOM], tokens: &[u32]) -> Outcome
-    requires { RunnableWithin most.bytes table.now room.now tokens.now }
-    ensures { ran result cells.new ≡ run_in table.now tokens.now cells.old }
-{
-    if table.len() == 0 {
-        let root = [0u8; 1];
-        return run_long(cells, &root, room, tokens);
-    }
-    let root = root_of(table);
-    let mut stack = [0u32; LONGEST_TABLE];
-    let no_texts = [0u32; 0];
-    run(cells, &mut stack, table, &no_texts, room, root, tokens)
+    let mut stack = [0u32; N];
+    run(cells, &mut stack, table, &[], room, root, tokens)
 }
 
 // The run of tokens, with a room for the templates of a table of its size.
@@ -73,15 +57,12 @@ fn run_tokens(cells: &mut [u32], table: &[u8], room: &[u64; ROOM], tokens: &[u32
     ensures { ran result cells.new ≡ run_in table.now tokens.now cells.old }
 {
     if table.len() <= SMALL_TABLE {
-        let root = root_of(table);
-        let mut stack = [0u32; SMALL_TABLE];
-        let no_texts = [0u32; 0];
-        return run(cells, &mut stack, table, &no_texts, room, root, tokens);
+        return run_with::<SMALL_TABLE>(cells, table, room, tokens);
     }
     if table.len() <= MIDDLE_TABLE {
-        return run_middle(cells, table, room, tokens);
+        return run_with::<MIDDLE_TABLE>(cells, table, room, tokens);
     }
-    run_long(cells, table, room, tokens)
+    run_with::<LONGEST_TABLE>(cells, table, room, tokens)
 }
 
 // Scans a formula under a table that passed the check, and runs its tokens, with rooms that take all tokens and all words of the formula. The promise
@@ -98,8 +79,7 @@ pub fn parse_passed(
     ensures { (P : Passes table.now) → parsed_into result tokens.new words.new cells.new
         ≡ parse_into (syntax_of P.table) formula.now tokens.old words.old cells.old }
 {
-    let no_variables = [0u8; 0];
-    let scanned = scanner::scan(table, reached(room), &no_variables, formula, tokens, words);
+    let scanned = scanner::scan(table, reached(room), &[], formula, tokens, words);
     match scanned {
         Scanned::Unscanned(r) => halted(r),
         Scanned::Tokens(n, count) => {

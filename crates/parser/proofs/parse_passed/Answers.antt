@@ -15,29 +15,22 @@ scan-scanned-requires c =
 pub overflow_mul-end : goal.overflow_mul-end
 overflow_mul-end c =
     let bytes : Bytes c.args.table.now = λ i. omega (arith, c.type_inv.table i) in
-    let fits = (joining.scan_fills bytes c.requires.checked.passes c.requires.checked.ready.held.grammar c.reached.ensures _ _ _
-    c.scan-scanned.ensures.fills c.requires.rooms c.in-Tokens.is).tokens_fit in
-    omega (arith, fits.few)
+    omega (arith, (joining.parsed_fit bytes c.requires c.reached.ensures c.scan-scanned.ensures.fills c.in-Tokens.is).few)
 
 pub slice_bounds-run_tokens-end : goal.slice_bounds-run_tokens-end
 slice_bounds-run_tokens-end c =
     let bytes : Bytes c.args.table.now = λ i. omega (arith, c.type_inv.table i) in
-    let fits = (joining.scan_fills bytes c.requires.checked.passes c.requires.checked.ready.held.grammar c.reached.ensures _ _ _
-    c.scan-scanned.ensures.fills c.requires.rooms c.in-Tokens.is).tokens_fit in
-    omega (arith, fits.long)
+    omega (arith, (joining.parsed_fit bytes c.requires c.reached.ensures c.scan-scanned.ensures.fills c.in-Tokens.is).long)
 
 pub slice_bounds-run_tokens-end-in-Tokens : goal.slice_bounds-run_tokens-end-in-Tokens
 slice_bounds-run_tokens-end-in-Tokens c =
     let bytes : Bytes c.args.table.now = λ i. omega (arith, c.type_inv.table i) in
-    let fits = (joining.scan_fills bytes c.requires.checked.passes c.requires.checked.ready.held.grammar c.reached.ensures _ _ _
-    c.scan-scanned.ensures.fills c.requires.rooms c.in-Tokens.is).tokens_fit in
-    sym (length-take-le _ _ fits.long)
+    sym (length-take-le _ _ (joining.parsed_fit bytes c.requires c.reached.ensures c.scan-scanned.ensures.fills c.in-Tokens.is).long)
 
 pub run_tokens-outcome-requires : goal.run_tokens-outcome-requires
 run_tokens-outcome-requires c =
     let bytes : Bytes c.args.table.now = λ i. omega (arith, c.type_inv.table i) in
-    let fits = (joining.scan_fills bytes c.requires.checked.passes c.requires.checked.ready.held.grammar c.reached.ensures _ _ _
-    c.scan-scanned.ensures.fills c.requires.rooms c.in-Tokens.is).tokens_fit in
+    let fits = joining.parsed_fit bytes c.requires c.reached.ensures c.scan-scanned.ensures.fills c.in-Tokens.is in
     record { ready = c.requires.checked.ready; tokens_fit = cut_fits fits }
 
 pub returns-in-Unscanned : goal.returns-in-Unscanned
