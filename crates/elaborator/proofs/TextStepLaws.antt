@@ -17,8 +17,7 @@ use Rattle.bodies.specs.HeadBytes.{signature_at}
 use Rattle.firsts.specs.Room.{productions_in}
 use Rattle.clashes.specs.CheckFirsts.{check_firsts}
 use Rattle.texts.specs.Reading.{TextRead, rows_left}
-use Rattle.reader.specs.declared.judging.TextAnswer.{TextAnswer}
-use Rattle.reader.specs.TextAnswers.{answered}
+use Rattle.reader.specs.TextAnswers.{TextAnswer, answered}
 use Rattle.elaborator.specs.TextHeads.{text_head}
 use Rattle.elaborator.specs.TextsUnder.{text_source, ReadsUnder}
 use Rattle.elaborator.specs.TextSteps.{TextField, bytes_before, context_at, head_at, reading_at, text_step_at, text_head_at, behind_head, behind_verdict}

@@ -10,7 +10,7 @@ use Rattle.firsts.specs.Room.{productions_in}
 use Rattle.steps.specs.Source.{Source, production_from, productions_from, alternative_at, SomeLent, EachLent}
 use Rattle.calls.specs.Lent.{Ready}
 use Rattle.texts.specs.Reading.{TextContext}
-use Rattle.reader.specs.declared.judging.TextAnswer.{TextAnswer}
+use Rattle.reader.specs.TextAnswers.{TextAnswer}
 use Rattle.reader.specs.TextReadings.{Readable, Under, ReadsText}
 use Rattle.elaborator.specs.PreparedTexts.{Indexable}
 use Rattle.elaborator.specs.TextsUnder.{text_source, ReadableUnder, UnderBytes, ReadsUnder}

@@ -1,5 +1,5 @@
 -- What the reading of a text asks and promises by the bytes of the blocks before its own. These mirror code: nobody needs them to believe `expand`.
-use Rattle.std.specs.Prelude.{ℕ, ◌*◌, ◌≤◌, ◌≡◌, List, map, length, replicate}
+use Rattle.std.specs.Prelude.{ℕ, ◌*◌, ◌≤◌, ◌≡◌, List, map, length, replicate, Ok}
 use Rattle.grammar.specs.Variables.{most_variables}
 use Rattle.grammar.specs.Lookup.{lexicon_of}
 use Rattle.terms.specs.Cells.{columns}
@@ -10,9 +10,7 @@ use Rattle.firsts.specs.Patterns.{patterns_in}
 use Rattle.firsts.specs.Room.{productions_in, HoldsFor}
 use Rattle.steps.specs.Source.{Source, source_of, productions_from, GoesOn}
 use Rattle.texts.specs.Reading.{TextContext, lexicon_for, rows_left, as_outside, run_text, check_reading}
-use Rattle.reader.specs.declared.judging.TextAnswer.{TextAnswer}
-use Rattle.reader.specs.declared.judging.TextAnswer.TheVariants.{Read}
-use Rattle.reader.specs.TextAnswers.{answered}
+use Rattle.reader.specs.TextAnswers.{TextAnswer, answered}
 use Rattle.reader.specs.TextReadings.{DoneWith}
 use Rattle.elaborator.specs.PreparedTexts.{Indexable}
 
@@ -44,5 +42,5 @@ pub record ReadsUnder (bs texts sorts text : List ℕ) (n sort asked : ℕ) (cel
       (P : TextContext) (at : ℕ) → UnderBytes bs texts P cells
       → answered P.used sort at cells' r ≡ check_reading P n sort asked at (scanned P sorts n text)
   pub leaves :
-      (P : TextContext) → UnderBytes bs texts P cells → (x made : ℕ) → r ≡ Read x made
+      (P : TextContext) → UnderBytes bs texts P cells → (x made : ℕ) → r ≡ Ok (x, made)
       → DoneWith (run_text P n (map as_outside (scanned P sorts n text).tokens)) x made cells'

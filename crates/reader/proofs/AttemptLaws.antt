@@ -4,6 +4,7 @@ use mathlib.Core.Path.{◌≡◌, sym, ap, ◌∙◌}
 use mathlib.Core.Bool.{Bool, true, false, not}
 use mathlib.Core.List.{List}
 use native.Mathlib.Omega.{arith}
+use Rattle.std.specs.Prelude.{Some, None, Err}
 use Rattle.answers.specs.declared.Refusal.{Refusal}
 use Rattle.answers.specs.Checked.{Checked, ◌>>=◌, ◌>>◌, need}
 use Rattle.expansion.specs.declared.State.{State}
@@ -14,12 +15,11 @@ use Rattle.expansion.specs.Outcomes.{ran}
 use Rattle.steps.specs.Source.{Source}
 use Rattle.steps.specs.Steps.{tokens_lent}
 use Rattle.texts.specs.Reading.{Readings, has_number, reading_of, unread_because, read_else, TextRead}
-use Rattle.reader.specs.declared.judging.TextAnswer.{TextAnswer}
-use Rattle.reader.specs.declared.judging.TextAnswer.TheVariants.{Refused}
+use Rattle.reader.specs.declared.judging.TextFault.{TextFault}
+use Rattle.reader.specs.declared.judging.TextFault.TheVariants.{Unread}
 use Rattle.reader.specs.declared.judging.TextHead.{TextHead}
-use Rattle.reader.specs.declared.attempts.Attempt.TheVariants.{Answered, Unread}
 use Rattle.reader.specs.Words.{MadeOutside, zeroed}
-use Rattle.reader.specs.TextAnswers.{tested, Judges, because_of}
+use Rattle.reader.specs.TextAnswers.{TextAnswer, cause_of, tested, Judges, because_of}
 use Rattle.reader.specs.TextRuns.{run_tokens}
 use Rattle.reader.specs.TextReadings.{strict_run, Attempts, Explains}
 
@@ -41,7 +41,7 @@ module _ (tokens : List ℕ) (head : TextHead) (others : ℕ) (cells : List ℕ)
 
   module _ {number : Bool} (tested_number : number ≡ has_number (tokens_lent tokens)) where
     -- A text with a number is refused with 26.
-    pub attempt_number : number ≡ true → Attempts tokens head others cells (Answered (Refused 26)) cells S
+    pub attempt_number : number ≡ true → Attempts tokens head others cells (Some (Err Unread)) cells S
     attempt_number e =
         record {
           attempts = λ used at other. ap (λ t. check_by used at other t (reading_of head.sort strict)) (sym e ∙ tested_number);
@@ -63,13 +63,13 @@ module _ (tokens : List ℕ) (head : TextHead) (others : ℕ) (cells : List ℕ)
           ∙ ap (λ q. check_by used at other (has_number (tokens_lent tokens)) (reading_of head.sort q)) (strict_is e)
 
       -- A run that halts reads nothing.
-      pub attempt_halted : {refusal : Refusal} → outcome ≡ Halted refusal → Attempts tokens head others cells Unread cells' S
+      pub attempt_halted : {refusal : Refusal} → outcome ≡ Halted refusal → Attempts tokens head others cells None cells' S
       attempt_halted e =
           record { attempts = by_run e; leaves = λ x made q. let z : ◌≡◌ {A = ℕ} 0 1 = cc in absurd (omega arith) }
 
       -- What a run gives that is done is judged.
       pub attempt_done : {x : ℕ} {s : State} → outcome ≡ Value x s → {a : TextAnswer} → Judges cells' head x s others a
-          → Attempts tokens head others cells (Answered a) cells' S
+          → Attempts tokens head others cells (Some a) cells' S
       attempt_done {x} {s} e {a} judges =
           record {
             attempts = λ used at other. judges.judged used at ∙ by_run e used at other;
@@ -91,9 +91,9 @@ module _ (tokens : List ℕ) (head : TextHead) (cells : List ℕ) (S : Source) {
       ∙ ap (λ c. run_tokens S head.nonterminal c (tokens_lent tokens)) cleared
 
   -- Where the second run halts too, a text is not read either way.
-  pub explained_halted : {refusal : Refusal} → outcome ≡ Halted refusal → Explains tokens head cells 26 S
+  pub explained_halted : {refusal : Refusal} → outcome ≡ Halted refusal → Explains tokens head cells Unread S
   explained_halted e = record { explains = ap (λ q. unread_because (reading_of head.sort q)) (again e) }
 
   -- Where it is done, its size tells.
-  pub explained_done : {x : ℕ} {s : State} → outcome ≡ Value x s → {r : ℕ} → r ≡ because_of head.sort x s cells' → Explains tokens head cells r S
+  pub explained_done : {x : ℕ} {s : State} → outcome ≡ Value x s → {r : TextFault} → cause_of r ≡ because_of head.sort x s cells' → Explains tokens head cells r S
   explained_done e q = record { explains = q ∙ ap (λ q. unread_because (reading_of head.sort q)) (again e) }

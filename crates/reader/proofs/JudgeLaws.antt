@@ -5,6 +5,7 @@ use mathlib.Core.Bool.{Bool, true, false, not}
 use mathlib.Core.List.{List}
 use native.Mathlib.Omega.{arith}
 use lib.Dec.{eqb, ltb}
+use Rattle.std.specs.Prelude.{Ok, Err}
 use borrow.Author.Tests.{eq-eqb, ne_eqb, lt-ltb, le-ltb}
 use Rattle.answers.specs.Checked.{Checked, ok, ◌>>◌, need}
 use Rattle.grammar.specs.SortTests.{fits}
@@ -12,10 +13,18 @@ use Rattle.expansion.specs.declared.State.{State}
 use Rattle.copying.specs.RowTemplates.{text_template}
 use Rattle.copying.specs.TemplateSizes.{is_small_text}
 use Rattle.texts.specs.Reading.{TextRead}
-use Rattle.reader.specs.declared.judging.TextAnswer.{TextAnswer}
-use Rattle.reader.specs.declared.judging.TextAnswer.TheVariants.{Read, Refused}
+use Rattle.reader.specs.declared.judging.TextFault.{TextFault}
+use Rattle.reader.specs.declared.judging.TextFault.TheVariants.{Unread, WordAtBinder, MakesFresh, Undefined, WrongSort}
 use Rattle.reader.specs.declared.judging.TextHead.{TextHead}
-use Rattle.reader.specs.TextAnswers.{answered, ReadAs, Judges, because_of}
+use Rattle.reader.specs.TextAnswers.{TextAnswer, cause_of, answered, ReadAs, Judges, because_of}
+
+-- a value and rows that are answered are those of the answer
+answered_parts : {x made x' made' : ℕ} → ◌≡◌ {A = TextAnswer} (Ok (x, made)) (Ok (x', made')) → (x' ≡ x) × (made' ≡ made)
+answered_parts e = (ap (λ r. (parts r).0) (sym e), ap (λ r. (parts r).1) (sym e))
+  where
+    parts : TextAnswer → ℕ × ℕ
+    parts (Ok both) = both
+    parts (Err fault) = (0, 0)
 
 -- the four tests in their order, by what each gives
 abbrev tested_by : ℕ → TextRead → Bool → Bool → Bool → Bool → Checked TextRead
@@ -31,7 +40,7 @@ module _ (cells : List ℕ) (head : TextHead) (x : ℕ) (s : State) (others : �
   by_tests : {small fresh known fitting : Bool} {r : TextAnswer} → small? ≡ small → ltb 1 s.fresh ≡ fresh → eqb others 0 ≡ known
       → fits head.sort head.asked ≡ fitting
       → ((used at : ℕ) → answered used head.sort at cells r ≡ tested_by at (text_read used) small fresh known fitting)
-      → ((x' made : ℕ) → r ≡ Read x' made → ReadAs x s x' made)
+      → ((x' made : ℕ) → r ≡ Ok (x', made) → ReadAs x s x' made)
       → Judges cells head x s others r
   by_tests {small} {fresh} {known} {fitting} a b d e each read =
       record {
@@ -45,17 +54,17 @@ module _ (cells : List ℕ) (head : TextHead) (x : ℕ) (s : State) (others : �
         read_as = read;
       }
 
-  refused : {cause : ℕ} (x' made : ℕ) → Refused cause ≡ Read x' made → ReadAs x s x' made
+  refused : {fault : TextFault} (x' made : ℕ) → ◌≡◌ {A = TextAnswer} (Err fault) (Ok (x', made)) → ReadAs x s x' made
   refused x' made e = let z : ◌≡◌ {A = ℕ} 0 1 = cc in absurd (omega arith)
 
   module _ {small : Bool} (measured : small ≡ small?) where
     -- A text that is too large is refused with 26.
-    pub judged_large : small ≡ false → Judges cells head x s others (Refused 26)
+    pub judged_large : small ≡ false → Judges cells head x s others (Err Unread)
     judged_large a = by_tests (sym measured ∙ a) refl refl refl (λ used at. refl) refused
 
     module _ (fine : small ≡ true) where
       -- One that makes a fresh name, with 28.
-      pub judged_fresh : 1 < s.fresh → Judges cells head x s others (Refused 28)
+      pub judged_fresh : 1 < s.fresh → Judges cells head x s others (Err MakesFresh)
       judged_fresh b = by_tests (sym measured ∙ fine) (lt-ltb 1 s.fresh b) refl refl (λ used at. refl) refused
 
       module _ (none : s.fresh ≤ 1) where
@@ -63,25 +72,25 @@ module _ (cells : List ℕ) (head : TextHead) (x : ℕ) (s : State) (others : �
         no_fresh = le-ltb 1 s.fresh none
 
         -- One with a word that is no outside name, with 9.
-        pub judged_unknown : (others ≡ 0 → ⊥) → Judges cells head x s others (Refused 9)
+        pub judged_unknown : (others ≡ 0 → ⊥) → Judges cells head x s others (Err Undefined)
         judged_unknown d = by_tests (sym measured ∙ fine) no_fresh (ne_eqb others 0 d) refl (λ used at. refl) refused
 
         module _ (known : others ≡ 0) {fitting : Bool} (fitted : fitting ≡ fits head.sort head.asked) where
           -- One of another sort, with 11.
-          pub judged_sort : fitting ≡ false → Judges cells head x s others (Refused 11)
+          pub judged_sort : fitting ≡ false → Judges cells head x s others (Err WrongSort)
           judged_sort e = by_tests (sym measured ∙ fine) no_fresh (eq-eqb others 0 known) (sym fitted ∙ e) (λ used at. refl) refused
 
           -- Any other is read.
-          pub judged_read : fitting ≡ true → Judges cells head x s others (Read x s.made)
+          pub judged_read : fitting ≡ true → Judges cells head x s others (Ok (x, s.made))
           judged_read e =
               by_tests (sym measured ∙ fine) no_fresh (eq-eqb others 0 known) (sym fitted ∙ e) (λ used at. refl)
-              (λ x' made q. record { value-is = cc; made_is = cc; no_fresh = none })
+              (λ x' made q. let same = answered_parts q in record { value-is = same.0; made_is = same.1; no_fresh = none })
 
 module _ (cells : List ℕ) (sort x : ℕ) (s : State) {small : Bool} (measured : small ≡ is_small_text cells s.made sort x) where
   -- A text that is read with words, and is small enough, has a word at a Binder.
-  pub because_binder : small ≡ true → 27 ≡ because_of sort x s cells
+  pub because_binder : small ≡ true → cause_of WordAtBinder ≡ because_of sort x s cells
   because_binder e = ap (λ (t : Bool). elim t [ true ↦ 27 | false ↦ 26 ]) (sym (sym measured ∙ e))
 
   -- One that is not is not read either way.
-  pub because_large : small ≡ false → 26 ≡ because_of sort x s cells
+  pub because_large : small ≡ false → cause_of Unread ≡ because_of sort x s cells
   because_large e = ap (λ (t : Bool). elim t [ true ↦ 27 | false ↦ 26 ]) (sym (sym measured ∙ e))

@@ -5,6 +5,7 @@ use mathlib.Core.Bool.{true, false, not, ◌&&◌}
 use mathlib.Core.List.{List, map}
 use native.Mathlib.Omega.{arith}
 use lib.ListN.{length, take, replicate, length-replicate}
+use Rattle.std.specs.Prelude.{Some, None, Err}
 use Rattle.answers.specs.declared.Refusal.{Refusal}
 use Rattle.answers.specs.Checked.{Checked, ◌>>=◌, ◌>>◌, need}
 use Rattle.grammar.specs.Table.{Lexicon}
@@ -14,21 +15,20 @@ use Rattle.tokens.specs.declared.Scanned.{Scanned}
 use Rattle.tokens.specs.declared.Scanned.TheVariants.{Tokens, Unscanned}
 use Rattle.tokens.specs.Scan.{Lexed, scan}
 use Rattle.lexicon.specs.LexiconRoom.{lexicon_by}
-use Rattle.scanner.specs.Rooms.{filled}
+use Rattle.scanner.specs.Rooms.{filled, LentToScan, TokensFit}
 use Rattle.scanner.specs.Numbered.{Scans}
 use Rattle.scanner.proofs.AfterScan.{Holds, scan_holds, scan_refused}
 use Rattle.expansion.specs.Expansion.{Grammar, ready_for, run}
-use Rattle.steps.specs.Source.{Source, productions_from}
+use Rattle.steps.specs.Source.{Source, source_of, productions_from, SomeLent}
 use Rattle.steps.specs.Steps.{tokens_lent}
 use Rattle.parser.proofs.Cutting.{cut_tokens}
 use Rattle.texts.specs.Reading.{TextContext, lexicon_for, ready_text, rows_left, as_outside, has_number, is_scanned, other_words, run_text, reading_of, unread_because}
 use Rattle.texts.specs.Reading.{read_else, TextRead, check_reading}
-use Rattle.reader.specs.declared.judging.TextAnswer.{TextAnswer}
-use Rattle.reader.specs.declared.judging.TextAnswer.TheVariants.{Refused}
+use Rattle.reader.specs.declared.judging.TextFault.{TextFault}
+use Rattle.reader.specs.declared.judging.TextFault.TheVariants.{Unread}
 use Rattle.reader.specs.declared.judging.TextHead.{TextHead}
-use Rattle.reader.specs.declared.attempts.Attempt.TheVariants.{Answered, Unread}
 use Rattle.reader.specs.Words.{zeroed}
-use Rattle.reader.specs.TextAnswers.{tested}
+use Rattle.reader.specs.TextAnswers.{TextAnswer, cause_of, tested}
 use Rattle.reader.specs.TextRuns.{run_tokens}
 use Rattle.reader.specs.TextReadings.{check_tokens, strict_run, Attempts, Explains, ReadableIn, Under, lexed, ExplainsText, ReadsText}
 
@@ -118,7 +118,7 @@ module _ (S : Source) (sorts text : List ℕ) (head : TextHead) where
 
   module _ {refusal : Refusal} (answer : (scan lex text).answer ≡ Unscanned refusal) where
     -- A text that is not scanned is refused with 26.
-    pub read_unscanned : (cells : List ℕ) → ReadsText sorts text head cells (Refused 26) cells S
+    pub read_unscanned : (cells : List ℕ) → ReadsText sorts text head cells (Err Unread) cells S
     read_unscanned cells =
         record {
           answers = λ P at under.
@@ -128,7 +128,7 @@ module _ (S : Source) (sorts text : List ℕ) (head : TextHead) where
         }
 
     -- It is not asked why it is not read.
-    pub explain_unscanned : (cells : List ℕ) (r : ℕ) → ExplainsText sorts text head cells r S
+    pub explain_unscanned : (cells : List ℕ) (r : TextFault) → ExplainsText sorts text head cells r S
     explain_unscanned cells r =
         record {
           explains = λ P under scanned.
@@ -162,7 +162,7 @@ module _ (S : Source) (sorts text : List ℕ) (head : TextHead) where
         ∙ ap (λ a. check_lexed P head at a (lexed P sorts head text).tokens) (sym (answer_is under))
 
     -- What its tokens give as they are tells why it is not read.
-    pub explain_scanned : {cells : List ℕ} {r : ℕ} → Explains (take (many * 4) tokens) head cells r S → ExplainsText sorts text head cells r S
+    pub explain_scanned : {cells : List ℕ} {r : TextFault} → Explains (take (many * 4) tokens) head cells r S → ExplainsText sorts text head cells r S
     explain_scanned {cells} e =
         record {
           explains = λ P under scanned.
@@ -173,26 +173,52 @@ module _ (S : Source) (sorts text : List ℕ) (head : TextHead) where
 
     module _ {cells cells' : List ℕ} where
       -- What is answered of its tokens is answered of a text.
-      pub read_answered : {a : TextAnswer} → Attempts (take (many * 4) tokens) head count cells (Answered a) cells' S
+      pub read_answered : {a : TextAnswer} → Attempts (take (many * 4) tokens) head count cells (Some a) cells' S
           → ReadsText sorts text head cells a cells' S
       read_answered {a} attempts =
           record {
             answers = λ P at under. attempts.attempts P.used at _ ∙ checked_under under at;
             leaves = λ P under x made e.
-                let done = attempts.leaves x made (ap Answered e) in
+                let done = attempts.leaves x made (ap Some e) in
                 record { state = done.state; done_is = sym (strict_under under) ∙ done.done_is; made_is = done.made_is; no_fresh = done.no_fresh };
           }
 
       -- One that is not read with words as outside names is refused for what the second run tells.
-      pub read_explained : Attempts (take (many * 4) tokens) head count cells Unread cells' S → length cells' ≡ length cells
-          → {r : ℕ} {cells'' : List ℕ} → ExplainsText sorts text head cells' r S → ReadsText sorts text head cells (Refused r) cells'' S
+      pub read_explained : Attempts (take (many * 4) tokens) head count cells None cells' S → length cells' ≡ length cells
+          → {r : TextFault} {cells'' : List ℕ} → ExplainsText sorts text head cells' r S → ReadsText sorts text head cells (Err r) cells'' S
       read_explained attempts long {r} e =
           record {
             answers = λ P at under.
                 let told = e.explains P (under_zeroed under cells' long) (ap is_scanned (answer_is under)) in
-                attempts.attempts P.used at r
+                attempts.attempts P.used at (cause_of r)
                 ∙ ap (λ number. check_tokens P.used head at count (tokens_lent (take (many * 4) tokens))
                 (strict_run S head cells (tokens_lent (take (many * 4) tokens))) number) told
                 ∙ checked_under under at;
             leaves = λ P under x made q. let z : ◌≡◌ {A = ℕ} 0 1 = cc in absurd (omega arith);
           }
+
+-- ------------------------------------------------------------------ under what is lent
+
+-- The scan of a text is given what it asks.
+pub text_lent : {bs texts room sorts text tokens words : List ℕ} → SomeLent bs texts (ReadableIn room sorts text tokens words)
+    → LentToScan bs sorts text tokens words
+text_lent given =
+    let holds = given.holds in
+    record { short = omega (arith, holds.readable.ready.held.grammar.small); few = holds.readable.few_sorts; room = holds.rooms }
+
+module _ {bs texts room sorts text tokens words : List ℕ} (given : SomeLent bs texts (ReadableIn room sorts text tokens words)) (head : TextHead)
+    {scanned : Scanned} {tokens' words' : List ℕ} (scans : Scans (lexicon_by head.kinds sorts bs) text tokens words scanned tokens' words') where
+  abbrev lent : Source
+  lent = source_of bs texts given.patterns
+
+  -- Tokens and words of a text that is scanned are in their rooms,
+  pub text_holds : {many count : ℕ} → scanned ≡ Tokens many count → Holds (lexicon_by head.kinds sorts bs) text tokens' words' many count
+  text_holds = scanned_holds lent sorts text head given.holds scans
+
+  -- and fit.
+  pub text_fits : {many count : ℕ} → scanned ≡ Tokens many count → TokensFit tokens' many
+  text_fits e = (text_holds e).tokens_fit
+
+  -- One that is not scanned is refused.
+  pub text_refused : {refusal : Refusal} → scanned ≡ Unscanned refusal → (scan (lexicon_by head.kinds sorts bs) text).answer ≡ Unscanned refusal
+  text_refused = scanned_refused lent sorts text head given.holds scans

@@ -1,61 +1,34 @@
--- Laws of a text's tokens in a room: a number among them, and words that are made outside names one by one; and of numbers that are zeroed.
-use Prim.Native.Nat.{ℕ, zero, suc, ◌+◌, ◌-◌, ◌*◌, ◌/◌, ◌<◌, ◌≤◌}
+-- Laws of a text's tokens in a room: a number among them, and words that are made outside names one by one.
+use Prim.Native.Nat.{ℕ, zero, suc, ◌+◌, ◌*◌, ◌/◌, ◌<◌, ◌≤◌}
 use mathlib.Core.Path.{◌≡◌, refl, sym, ap, ◌∙◌}
-use mathlib.Core.Bool.{true, false}
-use mathlib.Core.List.{List, ◌∷◌, map}
-use native.Mathlib.Nat.{sub-zero}
+use mathlib.Core.Bool.{◌||◌}
+use mathlib.Core.List.{List, map}
 use native.Mathlib.Decide.{dec_lt}
 use native.Mathlib.Omega.{arith}
 use lib.Dec.{eqb}
-use lib.ListN.{length, get_or, set, length-set, length-replicate, get_or-replicate}
-use lib.Seq.{get_or-set_same, get_or-set_other, ext_get_or}
+use Rattle.std.specs.List.{list_any, range_with_len}
+use lib.ListN.{length, get_or, set, length-set}
+use lib.Seq.{get_or-set_same, get_or-set_other}
 use borrow.Author.Tests.{eq-eqb, ne_eqb}
 use Rattle.spellings.proofs.BytesLaws.{by_test}
 use Rattle.kinds.specs.Kinds.{word_kind, number_kind}
 use Rattle.kinds.specs.TextKinds.{outside_kind}
 use Rattle.tokens.specs.declared.Token.{Token}
 use Rattle.tokens.specs.Tokens.{token}
-use Rattle.scanner.specs.Rooms.{row_of, tokens_from, tokens_in}
+use Rattle.scanner.specs.Rooms.{row_of, tokens_from}
 use Rattle.steps.specs.Steps.{token_count}
 use Rattle.texts.specs.Reading.{as_outside, has_number}
-use Rattle.reader.specs.Words.{MadeOutside, zeroed}
+use Rattle.reader.specs.Words.{MadeOutside}
 
 -- ------------------------------------------------------------------ a number among tokens
 
--- what is left has a number exactly if the whole has
-pub record Seeking (tokens : List ℕ) (count at : ℕ) : Type 0 where
-  -- no token past the last is looked at
-  pub within : at ≤ count
-  -- what is left has what the whole has
-  pub rest : has_number (tokens_from (count - at) tokens at) ≡ has_number (tokens_in tokens count)
-
--- At first all are left.
-pub seeking_start : (tokens : List ℕ) (count : ℕ) → Seeking tokens count 0
-seeking_start tokens count = record { within = omega arith; rest = rw sub-zero refl }
-
-module _ {tokens : List ℕ} {count at : ℕ} (seeking : Seeking tokens count at) where
-  one_more : at < count → tokens_from (count - at) tokens at ≡ row_of tokens at ∷ tokens_from (count - (at + 1)) tokens (at + 1)
-  unfolding tokens_from
-  one_more l = let e : count - at ≡ suc (count - (at + 1)) = omega arith in rw e refl
-
-  -- A token that is no number is passed.
-  pub seeking_next : at < count → (get_or tokens (at * 4) 0 ≡ number_kind → ⊥) → Seeking tokens count (at + 1)
-  unfolding has_number
-  seeking_next l h =
-      record {
-        within = omega arith;
-        rest = sym (ap has_number (one_more l) ∙ rw (ne_eqb (get_or tokens (at * 4) 0) number_kind h, has_number) refl) ∙ seeking.rest;
-      }
-
-  -- A number is found.
-  pub seeking_found : at < count → get_or tokens (at * 4) 0 ≡ number_kind → true ≡ has_number (tokens_in tokens count)
-  unfolding has_number
-  seeking_found l h = sym (ap has_number (one_more l) ∙ rw (eq-eqb (get_or tokens (at * 4) 0) number_kind h, has_number) refl) ∙ seeking.rest
-
-  -- Where nothing is left there is none.
-  pub seeking_end : count ≤ at → false ≡ has_number (tokens_in tokens count)
-  unfolding has_number tokens_from
-  seeking_end l = let e : count - at ≡ 0 = omega arith in rw e at seeking.rest
+-- A number among the kinds of tokens is one among the tokens.
+pub any_number : (tokens : List ℕ) (count at : ℕ)
+    → list_any (λ i. eqb (get_or tokens (i * 4) 0) number_kind) (range_with_len at count) ≡ has_number (tokens_from count tokens at)
+unfolding has_number tokens_from
+any_number tokens zero at = refl
+any_number tokens (suc count) at =
+    ap (λ rest. eqb (get_or tokens (at * 4) 0) number_kind || rest) (any_number tokens count (at + 1))
 
 -- ------------------------------------------------------------------ words made outside names
 
@@ -177,31 +150,3 @@ module _ {tokens₀ tokens : List ℕ} {count at : ℕ} (making : Making tokens�
                   rw (same_value row (omega (arith, making.within))) (fits.values row (omega (arith, e)));
             });
       }
-
--- ------------------------------------------------------------------ numbers that are zeroed
-
--- the first numbers are zero
-pub record Clearing (cells₀ cells : List ℕ) (at : ℕ) : Type 0 where
-  -- the room is as long as it was
-  pub long : length cells ≡ length cells₀
-  -- each before the present one is zero
-  pub zero : (place : ℕ) → place < at → get_or cells place 0 ≡ 0
-
--- At first none is asked to be.
-pub clearing_start : (cells : List ℕ) → Clearing cells cells 0
-clearing_start cells = record { long = refl; zero = λ place h. absurd (omega arith) }
-
-module _ {cells₀ cells : List ℕ} {at : ℕ} (clearing : Clearing cells₀ cells at) where
-  -- One more is.
-  pub clearing_next : at < length cells → Clearing cells₀ (set cells at 0) (at + 1)
-  clearing_next l = record { long = length-set cells at 0 ∙ clearing.long; zero = λ place h. by place h (dec_lt place at) }
-    where
-      by : (place : ℕ) → place < at + 1 → Dec (place < at) → get_or (set cells at 0) place 0 ≡ 0
-      by place h (yes b) = get_or-set_other cells at place 0 0 (λ e. omega arith) ∙ clearing.zero place b
-      by place h (no b) = let e : place ≡ at = omega arith in rw e (get_or-set_same cells at 0 0 l)
-
-  -- At the end all are.
-  pub clearing_end : length cells ≤ at → cells ≡ zeroed cells₀
-  clearing_end l =
-      ext_get_or 0 cells (zeroed cells₀) (clearing.long ∙ sym (length-replicate (length cells₀) 0))
-      (λ place h. clearing.zero place (omega arith) ∙ sym (get_or-replicate (length cells₀) place 0 0 (omega (arith, clearing.long))))

@@ -1,5 +1,5 @@
 -- The two runs of a text's tokens by code, and the reading of a text from its bytes. These definitions mirror code: nobody needs them to believe `expand`.
-use Rattle.std.specs.Prelude.{ℕ, ◌*◌, ◌≤◌, ◌≡◌, true, not, List, map, length, replicate}
+use Rattle.std.specs.Prelude.{ℕ, ◌*◌, ◌≤◌, ◌≡◌, true, not, List, map, length, replicate, Option, Some, None, Ok}
 use Rattle.answers.specs.Refusals.{refusal}
 use Rattle.answers.specs.Checked.{Checked, bad, ◌>>=◌, ◌>>◌, need}
 use Rattle.grammar.specs.Limits.{most}
@@ -18,13 +18,10 @@ use Rattle.calls.specs.Lent.{Ready}
 use Rattle.firsts.specs.Patterns.{patterns_in}
 use Rattle.texts.specs.Reading.{TextContext, lexicon_for, rows_left, as_outside, has_number, is_scanned, run_text, reading_of, unread_because, read_else}
 use Rattle.texts.specs.Reading.{TextRead, check_reading}
-use Rattle.reader.specs.declared.judging.TextAnswer.{TextAnswer}
-use Rattle.reader.specs.declared.judging.TextAnswer.TheVariants.{Read}
+use Rattle.reader.specs.declared.judging.TextFault.{TextFault}
 use Rattle.reader.specs.declared.judging.TextHead.{TextHead}
-use Rattle.reader.specs.declared.attempts.Attempt.{Attempt}
-use Rattle.reader.specs.declared.attempts.Attempt.TheVariants.{Answered, Unread}
 use Rattle.reader.specs.Words.{zeroed}
-use Rattle.reader.specs.TextAnswers.{answered, tested}
+use Rattle.reader.specs.TextAnswers.{TextAnswer, cause_of, answered, tested}
 use Rattle.reader.specs.TextRuns.{run_tokens}
 
 -- ------------------------------------------------------------------ two runs
@@ -38,9 +35,9 @@ check_tokens used head at others ts strict number =
     tested used head.sort head.asked at others r
 
 -- an attempt for the field at a place, with that number
-abbrev pub attempted : ℕ → ℕ → ℕ → List ℕ → ℕ → Attempt → Checked TextRead
-attempted used sort at cells number (Answered a) = answered used sort at cells a
-attempted used sort at cells number Unread = bad (refusal number at 0 0)
+abbrev pub attempted : ℕ → ℕ → ℕ → List ℕ → ℕ → Option TextAnswer → Checked TextRead
+attempted used sort at cells number (Some a) = answered used sort at cells a
+attempted used sort at cells number None = bad (refusal number at 0 0)
 
 -- a run is done with a value and so many rows, and leaves these cells
 pub record DoneWith (run : Result ℕ) (x made : ℕ) (cells : List ℕ) : Type 0 where
@@ -54,16 +51,16 @@ abbrev pub strict_run : Source → TextHead → List ℕ → List Token → Resu
 strict_run S head cells ts = run_tokens S head.nonterminal cells (map as_outside ts)
 
 -- what the attempt gives
-pub record Attempts (tokens : List ℕ) (head : TextHead) (others : ℕ) (cells : List ℕ) (r : Attempt) (cells' : List ℕ) (S : Source) : Type 0 where
+pub record Attempts (tokens : List ℕ) (head : TextHead) (others : ℕ) (cells : List ℕ) (r : Option TextAnswer) (cells' : List ℕ) (S : Source) : Type 0 where
   pub attempts :
       (used at number : ℕ)
       → attempted used head.sort at cells' number r
       ≡ check_tokens used head at others (tokens_lent tokens) (strict_run S head cells (tokens_lent tokens)) number
-  pub leaves : (x made : ℕ) → r ≡ Answered (Read x made) → DoneWith (strict_run S head cells (tokens_lent tokens)) x made cells'
+  pub leaves : (x made : ℕ) → r ≡ Some (Ok (x, made)) → DoneWith (strict_run S head cells (tokens_lent tokens)) x made cells'
 
 -- why a text is not read so
-pub record Explains (tokens : List ℕ) (head : TextHead) (cells : List ℕ) (r : ℕ) (S : Source) : Type 0 where
-  pub explains : r ≡ unread_because (reading_of head.sort (run_tokens S head.nonterminal (zeroed cells) (tokens_lent tokens)))
+pub record Explains (tokens : List ℕ) (head : TextHead) (cells : List ℕ) (r : TextFault) (S : Source) : Type 0 where
+  pub explains : cause_of r ≡ unread_because (reading_of head.sort (run_tokens S head.nonterminal (zeroed cells) (tokens_lent tokens)))
 
 -- ------------------------------------------------------------------ from a text's bytes
 
@@ -93,10 +90,10 @@ abbrev pub lexed : TextContext → List ℕ → TextHead → List ℕ → Lexed
 lexed P sorts head text = scan (lexicon_for P sorts head.nonterminal) text
 
 -- why a text that is scanned is not read with its words as outside names
-pub record ExplainsText (sorts text : List ℕ) (head : TextHead) (cells : List ℕ) (r : ℕ) (S : Source) : Type 0 where
+pub record ExplainsText (sorts text : List ℕ) (head : TextHead) (cells : List ℕ) (r : TextFault) (S : Source) : Type 0 where
   pub explains :
       (P : TextContext) → Under S P head (zeroed cells) → is_scanned (lexed P sorts head text).answer ≡ true
-      → r ≡ unread_because (reading_of head.sort (run_text P head.nonterminal (lexed P sorts head text).tokens))
+      → cause_of r ≡ unread_because (reading_of head.sort (run_text P head.nonterminal (lexed P sorts head text).tokens))
 
 -- the answer is that of `check_reading`, and a text that is read leaves the cells of its run
 pub record ReadsText (sorts text : List ℕ) (head : TextHead) (cells : List ℕ) (r : TextAnswer) (cells' : List ℕ) (S : Source) : Type 0 where
@@ -105,5 +102,5 @@ pub record ReadsText (sorts text : List ℕ) (head : TextHead) (cells : List ℕ
       → answered P.used head.sort at cells' r
       ≡ check_reading P head.nonterminal head.sort head.asked at (lexed P sorts head text)
   pub leaves :
-      (P : TextContext) → Under S P head cells → (x made : ℕ) → r ≡ Read x made
+      (P : TextContext) → Under S P head cells → (x made : ℕ) → r ≡ Ok (x, made)
       → DoneWith (run_text P head.nonterminal (map as_outside (lexed P sorts head text).tokens)) x made cells'

@@ -1,5 +1,5 @@
 -- The run of a text's tokens by code: what it asks and what it gives. These definitions mirror code: nobody needs them to believe `expand`.
-use Rattle.std.specs.Prelude.{ℕ, ◌<◌, ◌≤◌, ◌≡◌, List, length}
+use Rattle.std.specs.Prelude.{ℕ, ◌≤◌, ◌≡◌, List, length}
 use Rattle.terms.specs.Cells.{most_cells, rows_lent}
 use Rattle.tokens.specs.declared.Token.{Token}
 use Rattle.expansion.specs.declared.State.{State}
@@ -8,7 +8,7 @@ use Rattle.expansion.specs.declared.Outcome.TheVariants.{Value}
 use Rattle.expansion.specs.Outcomes.{ran}
 use Rattle.expansion.specs.Run.{Result}
 use Rattle.expansion.specs.Expansion.{ready_for, run}
-use Rattle.steps.specs.Source.{Source, productions_from, SomeLent, EachLent}
+use Rattle.steps.specs.Source.{Source, productions_from, EachLent}
 use Rattle.steps.specs.Steps.{tokens_lent, LentTokens}
 use Rattle.calls.specs.Lent.{Ready}
 
@@ -16,12 +16,6 @@ use Rattle.calls.specs.Lent.{Ready}
 pub record RunnableText (room tokens : List ℕ) (S : Source) : Type 0 where
   pub ready : Ready S room
   pub tokens_fit : LentTokens tokens
-
--- and under a table that is not empty, of so many bytes at most
-pub record RunnableWithin (most : ℕ) (bs texts room tokens : List ℕ) : Type 0 where
-  pub runnable : SomeLent bs texts (RunnableText room tokens)
-  pub some : 0 < length bs
-  pub within : length bs ≤ most
 
 -- an outcome has made no more rows than an expansion makes
 abbrev pub FewMade : Outcome → Type 0

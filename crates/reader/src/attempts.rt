@@ -4,20 +4,14 @@ ghost use Rattle.steps.specs.Source.{SomeLent, EachLent};
 ghost use Rattle.reader.specs.TextRuns.{RunnableText};
 ghost use Rattle.reader.specs.TextReadings.{Attempts, Explains};
 
-use crate::judging::{TEXT_UNREAD, TextAnswer, TextHead, because, judge};
+use crate::judging::{TextAnswer, TextFault, TextHead, because, judge};
 use crate::runs::run_text;
 use crate::words::{as_outside, clear, has_number};
 use expansion::Outcome;
 use productions::room::ROOM;
 
-// A text is answered; or it is not read with its words as outside names.
-#[derive(Drop)]
-pub enum Attempt {
-    Answered(TextAnswer),
-    Unread,
-}
-
-// The tokens of a text are run with its words as outside names, where it has so many other words. What they then hold is of no account.
+// The tokens of a text are run with its words as outside names, where it has so many other words: it is answered, or not read so. What the tokens then hold
+// is of no account.
 pub fn read_tokens(
     cells: &mut [u32],
     table: &[u8],
@@ -26,20 +20,20 @@ pub fn read_tokens(
     head: TextHead,
     tokens: &mut [u32],
     others: usize,
-) -> Attempt
+) -> Option<TextAnswer>
     requires { SomeLent table.now texts.now (RunnableText room.now tokens.old) }
     ensures { EachLent table.now texts.now (λ S. Ready S room.now)
         (Attempts tokens.old head others cells.old result cells.new) }
 {
     let number = has_number(tokens);
     if number {
-        return Attempt::Answered(TextAnswer::Refused(TEXT_UNREAD));
+        return Some(Err(TextFault::Unread));
     }
     as_outside(tokens);
     let outcome = run_text(cells, table, texts, room, head.nonterminal, tokens);
     match outcome {
-        Outcome::Halted(_) => Attempt::Unread,
-        Outcome::Value(x, s) => Attempt::Answered(judge(cells, head, x, s, others)),
+        Outcome::Halted(_) => None,
+        Outcome::Value(x, s) => Some(judge(cells, head, x, s, others)),
     }
 }
 
@@ -51,7 +45,7 @@ pub fn explain(
     room: &[u64; ROOM],
     head: TextHead,
     tokens: &[u32],
-) -> u8
+) -> TextFault
     requires { SomeLent table.now texts.now (RunnableText room.now tokens.now) }
     ensures { EachLent table.now texts.now (λ S. Ready S room.now)
         (Explains tokens.now head cells.old result) }
@@ -59,7 +53,7 @@ pub fn explain(
     clear(cells);
     let outcome = run_text(cells, table, texts, room, head.nonterminal, tokens);
     match outcome {
-        Outcome::Halted(_) => TEXT_UNREAD,
+        Outcome::Halted(_) => TextFault::Unread,
         Outcome::Value(x, s) => because(cells, head.sort, x, s),
     }
 }

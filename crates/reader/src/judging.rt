@@ -1,28 +1,25 @@
 // What is tested of a text that is read, and what its reading answers.
 ghost use Rattle.std.specs.Prelude.{◌≤◌, ◌≡◌};
 ghost use Rattle.terms.specs.Cells.{most_cells};
-ghost use Rattle.reader.specs.TextAnswers.{Judges, because_of};
+ghost use Rattle.reader.specs.TextAnswers.{Judges, cause_of, because_of};
 
 use crate::measuring::is_small_text;
-use answers::causes::{UNDEFINED, WRONG_SORT};
 use expansion::State;
 use grammar::sorts::Sort;
 
-// Refusal 26: the text holds a number or would meet one of 15 to 22.
-pub const TEXT_UNREAD: u8 = 26;
-
-// Refusal 27: a word at a Binder.
-pub const WORD_AT_BINDER: u8 = 27;
-
-// Refusal 28: its reading makes a fresh name.
-pub const FRESH_IN_TEXT: u8 = 28;
-
-// A text is read, with its value and the rows that it made; or it is refused, by its cause.
-#[derive(Drop)]
-pub enum TextAnswer {
-    Read(u32, usize),
-    Refused(u8),
+// What a text is refused for: it holds a number or would meet one of 15 to 22; a word stands at a Binder; its reading makes a fresh name; it has a word that
+// is not defined; it is of another sort. `cause_of` (specs/TextAnswers) gives document 02's number of each.
+#[derive(Clone, Copy)]
+pub enum TextFault {
+    Unread,
+    WordAtBinder,
+    MakesFresh,
+    Undefined,
+    WrongSort,
 }
+
+// A text is read, with its value and how many rows it made; or it is refused.
+pub type TextAnswer = Result<(u32, usize), TextFault>;
 
 // What a text is read for: its nonterminal, the sort of that nonterminal, the sort that is asked of the result, and the kinds of the keywords that count.
 #[derive(Clone, Copy)]
@@ -42,27 +39,31 @@ pub fn judge(cells: &[u32], head: TextHead, x: u32, s: State, others: usize) -> 
     let made = s.made;
     let small = is_small_text(cells, head.sort, x, made);
     if !small {
-        return TextAnswer::Refused(TEXT_UNREAD);
+        return Err(TextFault::Unread);
     }
     if 1 < s.fresh {
-        return TextAnswer::Refused(FRESH_IN_TEXT);
+        return Err(TextFault::MakesFresh);
     }
     if others != 0 {
-        return TextAnswer::Refused(UNDEFINED);
+        return Err(TextFault::Undefined);
     }
     let fits = Sort(head.sort).fits(Sort(head.asked));
     if fits {
-        TextAnswer::Read(x, made)
+        Ok((x, made))
     } else {
-        TextAnswer::Refused(WRONG_SORT)
+        Err(TextFault::WrongSort)
     }
 }
 
 // Why a text is refused that is read with its words as words, and is not with its words as outside names: 27 if it is small enough, else 26.
-pub fn because(cells: &[u32], sort: u8, x: u32, s: State) -> u8
+pub fn because(cells: &[u32], sort: u8, x: u32, s: State) -> TextFault
     requires { s.made ≤ most_cells }
-    ensures { result ≡ because_of sort x s cells.now }
+    ensures { cause_of result ≡ because_of sort x s cells.now }
 {
     let small = is_small_text(cells, sort, x, s.made);
-    if small { WORD_AT_BINDER } else { TEXT_UNREAD }
+    if small {
+        TextFault::WordAtBinder
+    } else {
+        TextFault::Unread
+    }
 }

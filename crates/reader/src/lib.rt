@@ -8,13 +8,15 @@ pub mod runs;
 pub mod storing;
 pub mod words;
 
-ghost use Rattle.std.specs.Prelude.{◌<◌, ◌≤◌, length};
+ghost use Rattle.std.specs.Prelude.{◌*◌, ◌≤◌, replicate};
+ghost use Rattle.tokens.specs.Tokens.{most_tokens};
+ghost use Rattle.scanner.specs.Rooms.{RoomFor};
 ghost use Rattle.calls.specs.Lent.{Ready};
 ghost use Rattle.steps.specs.Source.{SomeLent, EachLent};
 ghost use Rattle.reader.specs.TextReadings.{Readable, ReadableIn, ExplainsText, ReadsText};
 
-use crate::attempts::{Attempt, explain, read_tokens};
-use crate::judging::{TEXT_UNREAD, TextAnswer, TextHead};
+use crate::attempts::{explain, read_tokens};
+use crate::judging::{TextAnswer, TextFault, TextHead};
 use productions::room::ROOM;
 use scanner::room::{ALL_TOKENS, ALL_WORDS, PLACE, TOKEN};
 use tokens::Scanned;
@@ -22,8 +24,16 @@ use tokens::Scanned;
 // Texts up to this have the shortest rooms.
 const SHORT_TEXT: usize = 128;
 
+const SHORT_TOKENS: usize = SHORT_TEXT * TOKEN;
+
+const SHORT_WORDS: usize = SHORT_TEXT * PLACE;
+
 // Texts up to this have rooms between those and the longest.
 const MIDDLE_TEXT: usize = 1024;
+
+const MIDDLE_TOKENS: usize = MIDDLE_TEXT * TOKEN;
+
+const MIDDLE_WORDS: usize = MIDDLE_TEXT * PLACE;
 
 // Why a text is not read with its words as outside names: it is scanned once more, as the first run changed its tokens.
 fn explain_in(
@@ -36,14 +46,14 @@ fn explain_in(
     tokens: &mut [u32],
     words: &mut [u32],
     head: TextHead,
-) -> u8
+) -> TextFault
     requires { SomeLent table.now texts.now (ReadableIn room.now variables.now text.now tokens.old words.old) }
     ensures { EachLent table.now texts.now (λ S. Ready S room.now)
         (ExplainsText variables.now text.now head cells.old result) }
 {
     let scanned = scanner::scan(table, head.kinds, variables, text, tokens, words);
     match scanned {
-        Scanned::Unscanned(_) => TEXT_UNREAD,
+        Scanned::Unscanned(_) => TextFault::Unread,
         Scanned::Tokens(n, _) => {
             let end = n * TOKEN;
             explain(cells, table, texts, room, head, &tokens[..end])
@@ -69,26 +79,23 @@ fn read_in(
 {
     let scanned = scanner::scan(table, head.kinds, variables, text, tokens, words);
     match scanned {
-        Scanned::Unscanned(_) => TextAnswer::Refused(TEXT_UNREAD),
+        Scanned::Unscanned(_) => Err(TextFault::Unread),
         Scanned::Tokens(n, others) => {
             let end = n * TOKEN;
             let attempt = read_tokens(cells, table, texts, room, head, &mut tokens[..end], others);
             match attempt {
-                Attempt::Answered(a) => a,
-                Attempt::Unread => {
-                    let cause = explain_in(
-                        cells, table, texts, room, variables, text, tokens, words, head,
-                    );
-                    TextAnswer::Refused(cause)
-                }
+                Some(a) => a,
+                None => Err(explain_in(
+                    cells, table, texts, room, variables, text, tokens, words, head,
+                )),
             }
         }
     }
 }
 
-// The reading of a text of up to 1,024 bytes. It calls itself on what it is never passed, an empty text: the back end lays no such function into its caller,
-// whose frame stays without these rooms.
-fn read_middle(
+// The reading of a text with rooms of so many numbers. It is never laid into its caller, whose frame stays without these rooms.
+#[inline(never)]
+fn read_with<const TOKENS: usize, const WORDS: usize>(
     cells: &mut [u32],
     table: &[u8],
     texts: &[u32],
@@ -97,49 +104,14 @@ fn read_middle(
     text: &[u8],
     head: TextHead,
 ) -> TextAnswer
-    requires { SomeLent table.now texts.now (Readable room.now variables.now) × (0 < length text.now) × (length text.now ≤ 1024) }
+    requires readable { SomeLent table.now texts.now (Readable room.now variables.now) }
+    requires rooms { RoomFor text.now (replicate TOKENS 0) (replicate WORDS 0) }
+    requires few { (TOKENS ≤ most_tokens * 4) × (WORDS ≤ most_tokens * 2) }
     ensures { EachLent table.now texts.now (λ S. Ready S room.now)
         (ReadsText variables.now text.now head cells.old result cells.new) }
 {
-    if text.len() == 0 {
-        let blank = [32u8; 1];
-        return read_middle(cells, table, texts, room, variables, &blank, head);
-    }
-    let mut tokens = [0u32; MIDDLE_TEXT * TOKEN];
-    let mut words = [0u32; MIDDLE_TEXT * PLACE];
-    read_in(
-        cells,
-        table,
-        texts,
-        room,
-        variables,
-        text,
-        &mut tokens,
-        &mut words,
-        head,
-    )
-}
-
-// The same of a text of any size.
-fn read_long(
-    cells: &mut [u32],
-    table: &[u8],
-    texts: &[u32],
-    room: &[u64; ROOM],
-    variables: &[u8],
-    text: &[u8],
-    head: TextHead,
-) -> TextAnswer
-    requires { SomeLent table.now texts.now (Readable room.now variables.now) × (0 < length text.now) }
-    ensures { EachLent table.now texts.now (λ S. Ready S room.now)
-        (ReadsText variables.now text.now head cells.old result cells.new) }
-{
-    if text.len() == 0 {
-        let blank = [32u8; 1];
-        return read_long(cells, table, texts, room, variables, &blank, head);
-    }
-    let mut tokens = [0u32; ALL_TOKENS];
-    let mut words = [0u32; ALL_WORDS];
+    let mut tokens = [0u32; TOKENS];
+    let mut words = [0u32; WORDS];
     read_in(
         cells,
         table,
@@ -171,22 +143,14 @@ pub fn read_text(
         (ReadsText variables.now text.now head cells.old result cells.new) }
 {
     if text.len() <= SHORT_TEXT {
-        let mut tokens = [0u32; SHORT_TEXT * TOKEN];
-        let mut words = [0u32; SHORT_TEXT * PLACE];
-        return read_in(
-            cells,
-            table,
-            texts,
-            room,
-            variables,
-            text,
-            &mut tokens,
-            &mut words,
-            head,
+        return read_with::<SHORT_TOKENS, SHORT_WORDS>(
+            cells, table, texts, room, variables, text, head,
         );
     }
     if text.len() <= MIDDLE_TEXT {
-        return read_middle(cells, table, texts, room, variables, text, head);
+        return read_with::<MIDDLE_TOKENS, MIDDLE_WORDS>(
+            cells, table, texts, room, variables, text, head,
+        );
     }
-    read_long(cells, table, texts, room, variables, text, head)
+    read_with::<ALL_TOKENS, ALL_WORDS>(cells, table, texts, room, variables, text, head)
 }

@@ -1,17 +1,17 @@
 // The run of a text's tokens, with a room for the templates of a table by its size.
-ghost use Rattle.std.specs.Prelude.{◌≡◌};
+ghost use Rattle.std.specs.Prelude.{◌≤◌, length};
 ghost use Rattle.grammar.specs.Limits.{most};
 ghost use Rattle.steps.specs.Source.{SomeLent};
-ghost use Rattle.reader.specs.TextRuns.{RunnableText, RunnableWithin, RunsText};
+ghost use Rattle.reader.specs.TextRuns.{RunnableText, RunsText};
 
 use expander::run;
 use expansion::Outcome;
 use grammar::limits::{LONGEST_TABLE, MIDDLE_TABLE, SMALL_TABLE};
 use productions::room::ROOM;
 
-// With a room for the templates of a table of up to 4,096 bytes. It calls itself on what it is never passed, an empty table: the back end lays no such
-// function into its caller, whose frame stays without this room.
-fn run_middle(
+// With a room for the templates of a table of up to N bytes. It is never laid into its caller, whose frame stays without this room.
+#[inline(never)]
+fn run_with<const N: usize>(
     cells: &mut [u32],
     table: &[u8],
     texts: &[u32],
@@ -19,36 +19,12 @@ fn run_middle(
     root: u8,
     tokens: &[u32],
 ) -> Outcome
-    requires { RunnableWithin 4096 table.now texts.now room.now tokens.now }
+    requires runnable { SomeLent table.now texts.now (RunnableText room.now tokens.now) }
+    requires within { (length table.now ≤ N) × (N ≤ most.bytes) }
     ensures { RunsText table.now texts.now room.now tokens.now root
         cells.old result cells.new }
 {
-    if table.len() == 0 {
-        let blank = [0u8; 1];
-        return run_middle(cells, &blank, texts, room, root, tokens);
-    }
-    let mut stack = [0u32; MIDDLE_TABLE];
-    run(cells, &mut stack, table, texts, room, root, tokens)
-}
-
-// The same with a room for the templates of every table.
-fn run_long(
-    cells: &mut [u32],
-    table: &[u8],
-    texts: &[u32],
-    room: &[u64; ROOM],
-    root: u8,
-    tokens: &[u32],
-) -> Outcome
-    requires { RunnableWithin most.bytes table.now texts.now room.now tokens.now }
-    ensures { RunsText table.now texts.now room.now tokens.now root
-        cells.old result cells.new }
-{
-    if table.len() == 0 {
-        let blank = [0u8; 1];
-        return run_long(cells, &blank, texts, room, root, tokens);
-    }
-    let mut stack = [0u32; LONGEST_TABLE];
+    let mut stack = [0u32; N];
     run(cells, &mut stack, table, texts, room, root, tokens)
 }
 
@@ -66,11 +42,10 @@ pub fn run_text(
         cells.old result cells.new }
 {
     if table.len() <= SMALL_TABLE {
-        let mut stack = [0u32; SMALL_TABLE];
-        return run(cells, &mut stack, table, texts, room, root, tokens);
+        return run_with::<SMALL_TABLE>(cells, table, texts, room, root, tokens);
     }
     if table.len() <= MIDDLE_TABLE {
-        return run_middle(cells, table, texts, room, root, tokens);
+        return run_with::<MIDDLE_TABLE>(cells, table, texts, room, root, tokens);
     }
-    run_long(cells, table, texts, room, root, tokens)
+    run_with::<LONGEST_TABLE>(cells, table, texts, room, root, tokens)
 }

@@ -19,12 +19,9 @@ fn move_rows(texts: &mut [u32], start: usize, cells: &mut [u32], numbers: usize)
     requires { (start + numbers ≤ length texts.old) × (numbers ≤ length cells.old) }
     ensures { MovesRows texts.old start cells.old numbers texts.new cells.new }
 {
-    let mut i: usize = 0;
-    while i < numbers {
-        texts[start + i] = cells[i];
-        cells[i] = 0;
-        i += 1;
-    }
+    let rows = &mut cells[..numbers];
+    texts[start..start + numbers].copy_from_slice(rows);
+    rows.fill(0);
 }
 
 // The text of the field at an offset, which has a sort, reads x and made so many rows, is stored with its rows from an index on.

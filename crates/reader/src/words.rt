@@ -12,14 +12,7 @@ pub fn has_number(tokens: &[u32]) -> bool
     ensures { result ≡ has_number (tokens_lent tokens.now) }
 {
     let n = tokens.len() / TOKEN;
-    let mut i: usize = 0;
-    while i < n {
-        if tokens[i * TOKEN] == NUMBER_KIND {
-            return true;
-        }
-        i += 1;
-    }
-    false
+    (0..n).any(|i| tokens[i * TOKEN] == NUMBER_KIND)
 }
 
 // Each word gets the kind of an outside name, which no ide of Binder reads.
@@ -27,14 +20,10 @@ pub fn as_outside(tokens: &mut [u32])
     ensures { MadeOutside tokens.old tokens.new }
 {
     let n = tokens.len() / TOKEN;
-    let mut i: usize = 0;
-    while i < n {
+    for i in 0..n {
         let at = i * TOKEN;
         if tokens[at] == WORD_KIND {
             tokens[at] = OUTSIDE_KIND;
-            i += 1;
-        } else {
-            i += 1;
         }
     }
 }
@@ -43,9 +32,5 @@ pub fn as_outside(tokens: &mut [u32])
 pub fn clear(cells: &mut [u32])
     ensures { cells.new ≡ zeroed cells.old }
 {
-    let mut i: usize = 0;
-    while i < cells.len() {
-        cells[i] = 0;
-        i += 1;
-    }
+    cells.fill(0);
 }

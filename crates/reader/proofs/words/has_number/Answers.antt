@@ -1,31 +1,21 @@
--- `has_number`: what is left has a number exactly if the whole has.
-use native.Mathlib.Omega.{arith}
+-- `has_number`: a number among the kinds of the tokens.
+use Prim.Native.Nat.{◌*◌}
+use mathlib.Core.Path.{refl, ◌∙◌}
+use native.Mathlib.Nat.{sub-zero}
+use lib.Dec.{eqb}
+use lib.ListN.{get_or}
+use Rattle.std.proofs.Common.{rules, tests}
+use Rattle.std.proofs.lemmas.Iterator.{YieldsList-from_range}
+use Rattle.std.proofs.lemmas.Iterator.Search.{any_from_yields_List}
+use Rattle.kinds.specs.Kinds.{number_kind}
+use Rattle.steps.specs.Steps.{token_count}
 use Rattle.reader.proofs.WordLaws as laws
 use Rattle.reader.proofs.words.has_number.Goals as goal
 
-pub loop-i-init : goal.loop-i-init
-loop-i-init c = search laws.seeking_start
-
-pub overflow_mul-i : goal.overflow_mul-i
-overflow_mul-i c = omega arith
-
-pub offset_bounds-tokens-i : goal.offset_bounds-tokens-i
-offset_bounds-tokens-i c = omega arith
-
-pub bounds-tokens-i : goal.bounds-tokens-i
-bounds-tokens-i c = omega arith
-
-pub returns-then-tokens-i-eq-NUMBER_KIND : goal.returns-then-tokens-i-eq-NUMBER_KIND
-returns-then-tokens-i-eq-NUMBER_KIND c = search laws.seeking_found
-
-pub loop-i-preserved : goal.loop-i-preserved
-loop-i-preserved c = search laws.seeking_next
-
 pub returns : goal.returns
-returns c = search laws.seeking_end
-
-pub overflow_add-i : goal.overflow_add-i
-overflow_add-i c = omega arith
-
-pub loop-i-smaller : goal.loop-i-smaller
-loop-i-smaller c = omega arith
+returns c =
+    let tokens = c.args.tokens.now in
+    let count = token_count tokens in
+    any_from_yields_List (λ i. eqb (get_or tokens (i * 4) 0) number_kind) _ _ _ c.any.ensures.ran (YieldsList-from_range 0 count count refl (sub-zero count))
+    (λ x b q k. search (rules, tests))
+    ∙ laws.any_number tokens count 0
