@@ -3,44 +3,38 @@ use mathlib.Core.Path.{sym}
 use native.Mathlib.Omega.{arith}
 use lib.Seq.{length-take-le}
 use Rattle.decoding.proofs.Split.{Bytes}
-use Rattle.parser.specs.Parse.{Parseable}
 use Rattle.handover.proofs.LastStep as last_step
 use Rattle.handover.proofs.expand_in.Goals as goal
 
 pub overflow_mul-end : goal.overflow_mul-end
 overflow_mul-end c =
     let bytes : Bytes c.args.table.now = λ i. omega (arith, c.type_inv.table i) in
-    let asked : Parseable c.args.table.now c.args.room.now c.args.formula.now c.args.tokens.now c.args.words.now = c.requires.parseable in
-    omega (arith, (last_step.rows_lie _ bytes asked _ c.parse_passed-parsed.ensures c.in-Value.is).few)
+    omega (arith, (last_step.rows_lie _ bytes c.requires.parseable _ c.parse_passed-parsed.ensures c.in-Value.is).few)
 
 pub slice_bounds-emit-end : goal.slice_bounds-emit-end
 slice_bounds-emit-end c =
     let bytes : Bytes c.args.table.now = λ i. omega (arith, c.type_inv.table i) in
-    let asked : Parseable c.args.table.now c.args.room.now c.args.formula.now c.args.tokens.now c.args.words.now = c.requires.parseable in
-    (last_step.rows_lie _ bytes asked _ c.parse_passed-parsed.ensures c.in-Value.is).inside
+    (last_step.rows_lie _ bytes c.requires.parseable _ c.parse_passed-parsed.ensures c.in-Value.is).inside
 
 pub slice_bounds-emit-end-in-Value : goal.slice_bounds-emit-end-in-Value
 slice_bounds-emit-end-in-Value c =
     let bytes : Bytes c.args.table.now = λ i. omega (arith, c.type_inv.table i) in
-    let asked : Parseable c.args.table.now c.args.room.now c.args.formula.now c.args.tokens.now c.args.words.now = c.requires.parseable in
-    sym (length-take-le _ _ (last_step.rows_lie _ bytes asked _ c.parse_passed-parsed.ensures c.in-Value.is).inside)
+    sym (length-take-le _ _ (last_step.rows_lie _ bytes c.requires.parseable _ c.parse_passed-parsed.ensures c.in-Value.is).inside)
 
 pub emit-requires : goal.emit-requires
 emit-requires c =
     let bytes : Bytes c.args.table.now = λ i. omega (arith, c.type_inv.table i) in
-    let asked : Parseable c.args.table.now c.args.room.now c.args.formula.now c.args.tokens.now c.args.words.now = c.requires.parseable in record {
-      emittable = last_step.emittable _ bytes asked _ c.parse_passed-parsed.ensures c.in-Value.is;
+    record {
+      emittable = last_step.emittable _ bytes c.requires.parseable _ c.parse_passed-parsed.ensures c.in-Value.is;
       writable = c.requires.writable;
     }
 
 pub returns-in-Halted : goal.returns-in-Halted
 returns-in-Halted c =
     let bytes : Bytes c.args.table.now = λ i. omega (arith, c.type_inv.table i) in
-    let asked : Parseable c.args.table.now c.args.room.now c.args.formula.now c.args.tokens.now c.args.words.now = c.requires.parseable in
-    last_step.call_refuses _ bytes asked _ c.parse_passed-parsed.ensures _ _ _ c.in-Halted.is
+    last_step.call_refuses _ bytes c.requires.parseable _ c.parse_passed-parsed.ensures _ _ _ c.in-Halted.is
 
 pub returns-in-Value : goal.returns-in-Value
 returns-in-Value c =
     let bytes : Bytes c.args.table.now = λ i. omega (arith, c.type_inv.table i) in
-    let asked : Parseable c.args.table.now c.args.room.now c.args.formula.now c.args.tokens.now c.args.words.now = c.requires.parseable in
-    last_step.emits _ bytes asked _ c.parse_passed-parsed.ensures c.in-Value.is c.emit.ensures
+    last_step.emits _ bytes c.requires.parseable _ c.parse_passed-parsed.ensures c.in-Value.is c.emit.ensures

@@ -1,1 +1,0 @@
--- `expand_middle`: it is passed no empty formula, so that it never calls itself.
