@@ -3,14 +3,12 @@ use Prim.Native.Nat.{ℕ, ◌+◌, ◌-◌, ◌*◌, ◌/◌, ◌≤◌, ◌<◌
 use mathlib.Core.Path.{◌≡◌, refl, sym, ap, ◌∙◌}
 use mathlib.Core.List.{List, [], ◌∷◌, ◌++◌, append_assoc, append-nil}
 use native.Mathlib.Decide.{dec_le}
-use native.Mathlib.Numerals.{add-one, add-two, add-three}
+use native.Mathlib.Numerals.{add-one}
 use native.Mathlib.Omega.{arith}
-use lib.ListN.{length, get_or, set, take, drop, length-append, length-take, length-drop, take-append-drop, drop_of_length-le}
+use lib.ListN.{length, get_or, take, drop, length-append, length-take, length-drop, take-append-drop, drop_of_length-le}
 use lib.Seq.{take_all, take-nil, take_at, drop_at, take-append-add, drop-append-add, drop-drop, length-take-le, drop-cons, get_or-take, sets, length-sets, sets-eq}
 use borrow.Rule.Slice.PartMut.{put_mid, mid_of}
-use Rattle.answers.specs.declared.Refusal.{Refusal}
 use Rattle.answers.specs.declared.Answer.{Answer}
-use Rattle.answers.specs.Refusals.{numbered}
 use Rattle.terms.specs.Emit.{text_of}
 use Rattle.meaning.specs.Expand.{Expanded, expanded, expand}
 use Rattle.meaning.specs.Each.{formula_in, numbers_of, numbers_each, written, Series, alone, behind, expand_all, expand_each}
@@ -19,7 +17,7 @@ use Rattle.meaning.proofs.EachLaws.{Keeps, expand_keeps, all_cons}
 -- ------------------------------------------------------------------ the parts of a turn
 
 -- no bytes, where the end or the buffer is not behind the beginning
-pub formula_none : (formulas : List ℕ) (from end : ℕ) → min end (length formulas) ≤ from → [] ≡ formula_in formulas from end
+formula_none : (formulas : List ℕ) (from end : ℕ) → min end (length formulas) ≤ from → [] ≡ formula_in formulas from end
 formula_none formulas from end h = by (dec_le end from)
   where
     by : Dec (end ≤ from) → [] ≡ formula_in formulas from end
@@ -27,7 +25,7 @@ formula_none formulas from end h = by (dec_le end from)
     by (no n) = let over : length formulas ≤ from = omega arith in rw (drop_of_length-le formulas over, take-nil) refl
 
 -- the bytes between, as far as the buffer goes
-pub formula_some : (formulas : List ℕ) (from end : ℕ) → take (min end (length formulas) - from) (drop from formulas) ≡ formula_in formulas from end
+formula_some : (formulas : List ℕ) (from end : ℕ) → take (min end (length formulas) - from) (drop from formulas) ≡ formula_in formulas from end
 formula_some formulas from end = by (dec_le end (length formulas))
   where
     by : Dec (end ≤ length formulas) → take (min end (length formulas) - from) (drop from formulas) ≡ formula_in formulas from end
@@ -36,10 +34,27 @@ formula_some formulas from end = by (dec_le end (length formulas))
         let cut : length (drop from formulas) ≡ length formulas - from = length-drop from formulas in
         take_all (min end (length formulas) - from) (drop from formulas) (omega arith) ∙ sym (take_all (end - from) (drop from formulas) (omega arith))
 
--- four stores in a row
-pub numbers_stored : (answers : List ℕ) (at : ℕ) (answer : Answer) {r : Refusal} → r ≡ numbered answer
-    → set (set (set (set answers at r.number) (at + 1) r.a) (at + 2) r.b) (at + 3) r.c ≡ sets answers at (numbers_of answer)
-numbers_stored answers at answer e = rw (e, add-one, add-two, add-three) refl
+-- those that are cut out of the buffer
+pub formula_cut : (formulas : List ℕ) (from end : ℕ) → let last : ℕ = min end (length formulas) in
+    take (last - min from last) (drop (min from last) formulas) ≡ formula_in formulas from end
+formula_cut formulas from end = by (dec_le (min end (length formulas)) from)
+  where
+    last : ℕ
+    last = min end (length formulas)
+
+    by : Dec (last ≤ from) → take (last - min from last) (drop (min from last) formulas) ≡ formula_in formulas from end
+    by (yes g) = let none : last - min from last ≡ 0 = omega arith in rw none (formula_none formulas from end g)
+    by (no n) = let same : min from last ≡ from = omega arith in rw same (formula_some formulas from end)
+
+-- four numbers copied to their places
+pub numbers_stored : (answers : List ℕ) (at : ℕ) (answer : Answer) → at + numbers_each ≤ length answers → {part : List ℕ} → part ≡ numbers_of answer
+    → put_mid at (at + numbers_each - at) answers part ≡ sets answers at (numbers_of answer)
+numbers_stored answers at answer fits e =
+    let four : at + numbers_each - at ≡ numbers_each = omega arith in
+    rw (e, four)
+    (ap (λ rest. take at answers ++ (numbers_of answer ++ rest)) (drop-drop numbers_each at answers)
+    ∙ sym (append_assoc (take at answers) (numbers_of answer) (drop (at + numbers_each) answers))
+    ∙ sym (sets-eq (numbers_of answer) answers at fits))
 
 -- ------------------------------------------------------------------ the loop
 

@@ -1,5 +1,5 @@
 // Many formulas under one table, which has been checked once: each is expanded as `expand` does it.
-ghost use Rattle.std.specs.Prelude.{◌+◌, ◌*◌, ◌≤◌, min, ◌≡◌, length};
+ghost use Rattle.std.specs.Prelude.{◌+◌, ◌≤◌, ◌≡◌, length};
 ghost use Rattle.std.proofs.lemmas.List.Edits.{sets};
 ghost use Rattle.meaning.specs.Each.{formula_in, numbers_of, numbers_each, written as the-written-Each, expand_each};
 ghost use Rattle.parser.specs.Parse.{CheckedRoom};
@@ -11,21 +11,12 @@ use productions::room::ROOM;
 // The numbers of an answer: document 01's number and its three values.
 const NUMBERS: usize = 4;
 
-fn least(a: usize, b: usize) -> usize
-    ensures { result ≡ min a b }
-{
-    if a < b { a } else { b }
-}
-
 // The formula from the end of the one before to its own end, as far as there are bytes.
 fn formula_in(formulas: &[u8], from: usize, end: usize) -> &[u8]
     ensures { result.now ≡ formula_in formulas.now from end }
 {
-    let last = least(end, formulas.len());
-    if last <= from {
-        return &formulas[..0];
-    }
-    &formulas[from..last]
+    let last = end.min(formulas.len());
+    &formulas[from.min(last)..last]
 }
 
 // The bytes of text that an expansion has written.
@@ -44,10 +35,7 @@ fn store(answers: &mut [u64], at: usize, answer: Answer)
     ensures { answers.new ≡ sets answers.old at (numbers_of answer) }
 {
     let r = numbered(answer);
-    answers[at] = r.number as u64;
-    answers[at + 1] = r.a;
-    answers[at + 2] = r.b;
-    answers[at + 3] = r.c;
+    answers[at..at + NUMBERS].copy_from_slice(&[u64::from(r.number), r.a, r.b, r.c]);
 }
 
 // Expands as many formulas as have an end and four places for their answers, after the check of a table, and tells how many. Formulas, answers and texts lie
@@ -66,18 +54,16 @@ pub(crate) fn expand_all(
     ensures { record { count = result; answers = answers.new; cells = cells.new; text = text.new }
         ≡ expand_each table.now formulas.now ends.now answers.old cells.old text.old }
 {
-    let count = least(ends.len(), answers.len() / NUMBERS);
-    let mut i: usize = 0;
+    let count = ends.len().min(answers.len() / NUMBERS);
     let mut from: usize = 0;
     let mut at: usize = 0;
-    while i < count {
+    for i in 0..count {
         let end = ends[i];
         let formula = formula_in(formulas, from, end);
         let answer = expand_checked(table, room, verdict, formula, cells, &mut text[at..]);
         store(answers, i * NUMBERS, answer);
         at += written(answer);
         from = end;
-        i += 1;
     }
     count
 }

@@ -19,4 +19,4 @@ loop-i-preserved c =
     c.expand_checked-answer.ensures c.written-at.ensures c.store.ensures (omega arith) (omega arith)
 
 pub returns : goal.returns
-returns c = loop.expanding_end _ _ _ _ _ _ c.least-count.ensures c.loop-i.invariant c.loop-i-test.false
+returns c = loop.expanding_end _ _ _ _ _ _ c.min-count.ensures c.loop-i.invariant c.loop-i-test.false
