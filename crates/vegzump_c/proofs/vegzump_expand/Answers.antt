@@ -3,4 +3,4 @@ use Rattle.vegzump_c.proofs.Replying.{beside}
 use Rattle.vegzump_c.proofs.vegzump_expand.Goals as goal
 
 pub returns : goal.returns
-returns c = beside c.of_answer.ensures c.expand-answer.ensures.text_after
+returns c = beside c.from.ensures c.expand.ensures.text_after

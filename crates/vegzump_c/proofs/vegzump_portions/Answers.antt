@@ -3,4 +3,4 @@ use Rattle.vegzump_c.proofs.Replying.{beside}
 use Rattle.vegzump_c.proofs.vegzump_portions.Goals as goal
 
 pub returns : goal.returns
-returns c = beside c.of_answer.ensures c.portions-answer.ensures
+returns c = beside c.from.ensures c.portions.ensures
