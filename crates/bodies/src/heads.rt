@@ -46,12 +46,7 @@ pub fn signature_at(table: &[u8], at: usize) -> &[u8]
 pub fn head_of(heads: &[u16], n: u8) -> usize
     ensures { result ≡ get_or heads.now n 0 }
 {
-    let i = n as usize;
-    if i < heads.len() {
-        heads[i] as usize
-    } else {
-        0
-    }
+    heads.get(n as usize).copied().unwrap_or(0) as usize
 }
 
 // The offset of the head that a nonterminal has from the blocks before the one that begins at `block`, 0 for none.
