@@ -4,11 +4,9 @@ use mathlib.Core.Path.{◌≡◌, sym, ap, ◌∙◌}
 use mathlib.Core.List.{List, [], ◌++◌, append_assoc, append-nil}
 use native.Mathlib.Decide.{dec_le}
 use native.Mathlib.Omega.{arith}
-use lib.ListN.{length, take, drop, length-append, length-take, length-drop, take-append-drop, drop_of_length-le}
+use lib.ListN.{length, take, drop, length-append, length-take, length-drop, take-append-drop}
 use lib.Seq.{take_all, take_at, drop_at, take-take, take-append-le, take-append-add, drop-drop, length-take-le}
-use borrow.Rule.Slice.PartMut.{put_mid, mid_of}
-use Rattle.spellings.specs.Buffers.{written_into}
-use Rattle.spellings.proofs.BuffersLaws.{written_fits}
+use borrow.Rule.Slice.PartMut.{put_mid}
 use Rattle.rooms.specs.Laying.{laid_end, laid, Lays}
 
 -- cut at once, or cut before more is laid behind: the same, if all stood before or nothing more has room
@@ -88,20 +86,12 @@ lays_whole {room} {part} {end} lays fits =
     let e : end ≡ length part = omega (arith, end_is lays) in
     (e, put_is lays ∙ ap (λ (l : List ℕ). l ++ drop end room) (take_all end part (omega arith)))
 
--- a part is laid by a copy of what has room, into the rest of the room behind `from` bytes
-pub copied : (room part : List ℕ) (at : ℕ) {from size : ℕ} {last : List ℕ} → from ≡ min at (length room) → size ≡ min (length room - from) (length part)
-    → last ≡ written_into (take size part) (mid_of from (length room - from) room)
-    → Lays room at part (from + size) (put_mid from (length room - from) room last)
+-- a part is laid by a copy of what has room, behind `from` bytes of the room
+pub copied : (room part : List ℕ) (at : ℕ) {from size count : ℕ} {last : List ℕ} → from ≡ min at (length room) → size ≡ min (length part) (length room - from)
+    → count ≡ size → last ≡ take count part → Lays room at part (from + size) (put_mid from count room last)
 unfolding laid_end laid
-copied room part at {from} {size} {last} ef es el =
+copied room part at {from} {size} {count} {last} ef es ec el =
     let ends : from + size ≡ min (length room) (at + length part) = omega arith in
-    let rest : length (drop from room) ≡ length room - from = length-drop from room in
-    let whole : mid_of from (length room - from) room ≡ drop from room = take_all (length room - from) (drop from room) (omega arith) in
-    let all : length (drop from room) ≤ length room - from = omega arith in
-    let none : drop (length room - from) (drop from room) ≡ [] = drop_of_length-le (drop from room) all in
-    let some : length (take size part) ≡ size = length-take-le size part (omega arith) in
-    let written : last ≡ take size part ++ drop size (drop from room) =
-    cc (el, whole, written_fits (take size part) (drop from room) (omega arith), some) in
     let far : length (take at room) ≡ from = omega (arith, length-take at room) in
     let same : take from room ≡ take at room = sym (take-take from at room (omega arith)) ∙ take_all from (take at room) (omega arith) in
     let front : take (from + size) (take at room ++ part) ≡ take from room ++ take size part =
@@ -110,9 +100,8 @@ copied room part at {from} {size} {last} ef es el =
       end = ends;
       put =
           cc (
-            written,
-            none,
-            append-nil (take size part ++ drop size (drop from room)),
+            el,
+            ec,
             drop-drop size from room,
             append_assoc (take from room) (take size part) (drop (from + size) room),
             front,
