@@ -1,9 +1,8 @@
 -- The lines by their number, and what is said of an answer.
-use Prim.Native.Nat.{ℕ, ◌+◌, ◌≤◌}
+use Prim.Native.Nat.{ℕ, ◌≤◌}
 use mathlib.Core.Path.{◌≡◌, refl, sym, ◌∙◌}
 use mathlib.Core.Bool.{Bool, true, false}
 use mathlib.Core.List.{List, ◌++◌}
-use native.Mathlib.Omega.{arith}
 use lib.ListN.{get_or-eq_default}
 use Rattle.spellings.specs.Bytes.{bytes}
 use Rattle.answers.specs.declared.Answer.{Answer}
@@ -15,28 +14,15 @@ use Rattle.boundaries.specs.declared.Formula.TheVariants.{Nothing}
 use Rattle.boundaries.specs.declared.Table.TheVariants.{SeventeenLevels}
 use Rattle.boundaries.specs.Lines.{refusing, line, first_lines, line_at, first_labels, label_at, differs, saying}
 
--- a number that is none of the first eight
-abbrev pub Behind : ℕ → Type 0
-Behind i =
-    (((((((Unit {0} × (i ≡ 0 → ⊥)) × (i ≡ 1 → ⊥)) × (i ≡ 2 → ⊥)) × (i ≡ 3 → ⊥)) × (i ≡ 4 → ⊥)) × (i ≡ 5 → ⊥)) × (i ≡ 6 → ⊥)) × (i ≡ 7 → ⊥)
-
-past : {i k : ℕ} → k ≤ i → (i ≡ k → ⊥) → k + 1 ≤ i
-past h n = omega arith
-
-eight : {i : ℕ} → Behind i → 8 ≤ i
-eight {i} ((((((((u, a), b), c), d), e), f), g), h) =
-    let first : 0 ≤ i = omega arith in
-    past (past (past (past (past (past (past (past first a) b) c) d) e) f) g) h
-
 -- the last line
-pub line_last : {i : ℕ} → Behind i → line_at i ≡ line SeventeenLevels Nothing false (refusing 20 0)
+pub line_last : {i : ℕ} → 8 ≤ i → line_at i ≡ line SeventeenLevels Nothing false (refusing 20 0)
 unfolding line_at
-line_last behind = get_or-eq_default first_lines _ (eight behind)
+line_last behind = get_or-eq_default first_lines _ behind
 
 -- what the last line is called
-pub label_last : {i : ℕ} → Behind i → label_at i ≡ bytes "seventeen levels"
+pub label_last : {i : ℕ} → 8 ≤ i → label_at i ≡ bytes "seventeen levels"
 unfolding first_labels label_at
-label_last behind = get_or-eq_default first_labels _ (eight behind)
+label_last behind = get_or-eq_default first_labels _ behind
 
 -- an answer that differs is laid as the difference
 pub says_difference : (listed found : Answer) {x y : Refusal} {test : Bool} {room room' : List ℕ} {at r : ℕ} → test ≡ differs listed found → test ≡ true

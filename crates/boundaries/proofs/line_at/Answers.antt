@@ -1,5 +1,7 @@
 -- `line_at`: by the number.
 use mathlib.Core.Path.{refl}
+use Prim.Native.Nat.{◌≤◌}
+use native.Mathlib.Omega.{arith}
 use Rattle.boundaries.specs.Lines.{line_at}
 use Rattle.boundaries.proofs.LineLaws.{line_last}
 use Rattle.boundaries.proofs.line_at.Goals as goal
@@ -37,4 +39,4 @@ unfolding line_at
 returns-in-7 c = rw c.in-7.is c.short-in-7.ensures
 
 pub returns-in_default : goal.returns-in_default
-returns-in_default c = cc (c.short-in_default.ensures, c.refused-in_default.ensures, line_last c.in_default.in_default-own.rest)
+returns-in_default c = cc (c.short-in_default.ensures, c.refused-in_default.ensures, line_last (let far : 8 ≤ c.args.i = omega arith in far))

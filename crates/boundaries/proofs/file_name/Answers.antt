@@ -1,20 +1,21 @@
--- `lay_name`: by the table.
+-- `file_name`: by the table.
+use mathlib.Core.Path.{refl}
 use Rattle.spellings.specs.Bytes.{bytes}
 use Rattle.boundaries.specs.Lines.{file_name}
-use Rattle.boundaries.proofs.lay_name.Goals as goal
+use Rattle.boundaries.proofs.file_name.Goals as goal
 
 pub returns-in-House : goal.returns-in-House
 unfolding bytes file_name
-returns-in-House c = rw c.in-House.is c.lay.ensures
+returns-in-House c = rw c.in-House.is refl
 
 pub returns-in-Twice : goal.returns-in-Twice
 unfolding bytes file_name
-returns-in-Twice c = rw c.in-Twice.is c.lay-in-Twice.ensures
+returns-in-Twice c = rw c.in-Twice.is refl
 
 pub returns-in-SixteenLevels : goal.returns-in-SixteenLevels
 unfolding bytes file_name
-returns-in-SixteenLevels c = rw c.in-SixteenLevels.is c.lay-in-SixteenLevels.ensures
+returns-in-SixteenLevels c = rw c.in-SixteenLevels.is refl
 
 pub returns-in-SeventeenLevels : goal.returns-in-SeventeenLevels
 unfolding bytes file_name
-returns-in-SeventeenLevels c = rw c.in-SeventeenLevels.is c.lay-in-SeventeenLevels.ensures
+returns-in-SeventeenLevels c = rw c.in-SeventeenLevels.is refl
