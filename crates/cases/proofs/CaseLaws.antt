@@ -1,19 +1,22 @@
 -- The numbers of a case, its parts, and rooms of which only the front is written.
-use Prim.Native.Nat.{ℕ, zero, suc, ◌+◌, ◌-◌, ◌*◌, ◌/◌, ◌<◌, ◌≤◌}
+use Prim.Native.Nat.{ℕ, zero, suc, ◌+◌, ◌-◌, ◌*◌, ◌/◌, ◌^◌, ◌<◌, ◌≤◌, min}
+use native.Mathlib.Decide.{dec_le}
 use mathlib.Core.Path.{◌≡◌, refl, sym, ap, ◌∙◌}
-use mathlib.Core.Bool.{Bool, true, false, and-false, true≢false}
+use mathlib.Core.Bool.{Bool, true, false, ◌&&◌, and-false, true≢false}
 use mathlib.Core.List.{List, [], ◌∷◌, ◌++◌}
 use native.Mathlib.Omega.{arith}
 use lib.Dec.{eqb, leb}
-use lib.ListN.{length, get_or, take, drop, replicate, length-append, length-replicate, get_or-replicate, get_or-eq_default}
+use Rattle.std.specs.Prelude.{Some, None, Ok, Err}
+use Rattle.std.specs.List.{list_all}
+use lib.ListN.{length, get_or, take, drop, replicate, length-append, length-drop, length-replicate, get_or-replicate, get_or-eq_default, take-append-drop}
+use lib.Seq.{take_at}
 use borrow.Author.Tests.{leb-true, eqb-true, eqb-false, lt-leb, eq-eqb, ne_eqb}
 use Rattle.spellings.specs.Alike.{Alike}
 use Rattle.spellings.specs.Bytes.{same}
-use Rattle.spellings.proofs.BytesLaws.{by_test, length_same}
+use Rattle.spellings.proofs.BytesLaws.{by_test, differ_same, length_same}
 use Rattle.spellings.proofs.AlikeLaws.{alike_start, alike_next, alike_same, differ_at}
 use Rattle.cases.specs.declared.case.Places.{Places}
 use Rattle.cases.specs.declared.case.Case.{Case}
-use Rattle.cases.specs.declared.case.Next.TheVariants.{Whole, End, Broken}
 use Rattle.cases.specs.Cases.{longest_file, last_cause, four_at, numbers_from, numbers_in, places_at, is_whole, case_of, next_at, part_of, left_as}
 
 -- ------------------------------------------------------------------ rooms of which the front is written
@@ -70,11 +73,34 @@ module _ {written : List ℕ} {untouched : ℕ} {room : List ℕ} {count : ℕ} 
 pub behind_written : (written : List ℕ) (untouched i : ℕ) → length written ≤ i → untouched ≡ get_or written i untouched
 behind_written written untouched i h = sym (get_or-eq_default written untouched h)
 
--- before that it does not depend on what was there
-pub within_written : (written : List ℕ) (untouched i : ℕ) → i < length written → get_or written i 0 ≡ get_or written i untouched
-within_written [] untouched i h = absurd (omega arith)
-within_written (x ∷ xs) untouched zero h = refl
-within_written (x ∷ xs) untouched (suc i) h = within_written xs untouched i (omega arith)
+-- numbers that are all as they were
+all_same : (untouched : ℕ) (rest : List ℕ) → list_all (λ b. eqb b untouched) rest ≡ same rest (replicate (length rest) untouched)
+unfolding same
+all_same untouched [] = refl
+all_same untouched (b ∷ rest) = ap (λ test. eqb b untouched && test) (all_same untouched rest)
+
+same_behind : (front xs ys : List ℕ) → same (front ++ xs) (front ++ ys) ≡ same xs ys
+unfolding same
+same_behind [] xs ys = refl
+same_behind (b ∷ front) xs ys = rw (eq-eqb b b refl) (same_behind front xs ys)
+
+module _ (written : List ℕ) (untouched : ℕ) (room : List ℕ) where
+  -- a room that begins with what is written, by whether the rest is as it was
+  pub left_front : take (length written) room ≡ written → {test : Bool} → test ≡ list_all (λ b. eqb b untouched) (drop (length written) room)
+      → test ≡ same room (left_as written (length room) untouched)
+  unfolding left_as
+  left_front front {test} e =
+      let rest : List ℕ = drop (length written) room in
+      let long : length rest ≡ length room - length written = length-drop (length written) room in
+      let is : room ≡ written ++ rest = cc (take-append-drop (length written) room, front) in
+      e ∙ all_same untouched rest ∙ sym (same_behind written rest (replicate (length rest) untouched))
+      ∙ cc (is, long)
+
+  -- a room that begins with something else
+  pub left_other : (take (length written) room ≡ written → ⊥) → false ≡ same room (left_as written (length room) untouched)
+  unfolding left_as
+  left_other other =
+      sym (differ_same _ _ (λ e. other (ap (take (length written)) e ∙ take_at written (replicate (length room - length written) untouched) (length written) refl)))
 
 -- ------------------------------------------------------------------ numbers of four bytes
 
@@ -113,16 +139,21 @@ module _ (bytes : List ℕ) where
 
 -- ------------------------------------------------------------------ parts
 
-module _ (file : List ℕ) (from to : ℕ) where
-  -- a part that ends before its bytes begin is empty
-  pub part_empty : {part : List ℕ} → part ≡ take 0 (drop 0 file) → to ≤ from + 4 → part ≡ part_of file from to
-  unfolding part_of
-  part_empty p h = let e : to - (from + 4) ≡ 0 = omega arith in p ∙ rw e refl
-
-  -- how many bytes it has otherwise
-  pub part_within : {part : List ℕ} → part ≡ take (to - 4 - from) (drop (from + 4) file) → part ≡ part_of file from to
-  unfolding part_of
-  part_within p = let e : to - 4 - from ≡ to - (from + 4) = omega arith in p ∙ rw e refl
+-- a part is read behind its count; one that ends before its bytes begin is empty
+pub part_is : (file : List ℕ) (from to : ℕ) {at size : ℕ} {part : List ℕ} → to < 2 ^ 64 → at ≡ min (from + 4) (2 ^ 64 - 1) → size ≡ to - at
+    → part ≡ take size (drop at file) → part ≡ part_of file from to
+unfolding part_of
+part_is file from to {at} {size} {part} small ea es e = by (dec_le to (from + 4))
+  where
+    by : Dec (to ≤ from + 4) → part ≡ part_of file from to
+    by (yes h) =
+        let none : size ≡ 0 = omega arith in
+        let empty : to - (from + 4) ≡ 0 = omega arith in
+        e ∙ rw (none, empty) refl
+    by (no n) =
+        let behind : at ≡ from + 4 = omega arith in
+        let long : size ≡ to - (from + 4) = omega arith in
+        e ∙ rw (long, behind) refl
 
 -- ------------------------------------------------------------------ what stands at an offset
 
@@ -136,28 +167,28 @@ far_broken file places far = simp (lt-leb places.end longest_file far, and-false
 
 module _ (file : List ℕ) (at : ℕ) where
   -- the end of the file
-  pub next-end : at ≡ length file → End ≡ next_at file at
+  pub next-end : at ≡ length file → Ok None ≡ next_at file at
   unfolding next_at
   next-end e = rw (eq-eqb at (length file) e, next_at) refl
 
   module _ (inside : at ≡ length file → ⊥) where
     -- a case that is whole
     pub next_whole : {places : Places} {case : Case} {test : Bool} → places ≡ places_at file at → test ≡ is_whole file places → test ≡ true
-        → case ≡ case_of file places → Whole case ≡ next_at file at
+        → case ≡ case_of file places → Ok (Some case) ≡ next_at file at
     unfolding next_at
     next_whole e t w c =
         let whole : is_whole file (places_at file at) ≡ true = cc in
         rw (ne_eqb at (length file) inside, whole, next_at) (cc)
 
     -- one that is not
-    pub next_broken : {places : Places} {test : Bool} → places ≡ places_at file at → test ≡ is_whole file places → test ≡ false → Broken ≡ next_at file at
+    pub next_broken : {places : Places} {test : Bool} → places ≡ places_at file at → test ≡ is_whole file places → test ≡ false → Err (record {}) ≡ next_at file at
     unfolding next_at
     next_broken e t w =
         let broken : is_whole file (places_at file at) ≡ false = cc in
         rw (ne_eqb at (length file) inside, broken, next_at) refl
 
     -- one that begins behind the longest file
-    pub next_far : longest_file < at → Broken ≡ next_at file at
+    pub next_far : longest_file < at → Err (record {}) ≡ next_at file at
     next_far far = next_broken refl refl (far_broken file (places_at file at) (omega (arith, end_behind file at)))
 
 -- a whole case expects a number that a cause has
@@ -184,7 +215,7 @@ pub record Within (file : List ℕ) (at : ℕ) (case : Case) : Type 0 where
   pub ends : case.places.end ≤ length file
 
 -- a case that is read as whole lies so
-pub next_within : (file : List ℕ) (at : ℕ) {case : Case} → next_at file at ≡ Whole case → Within file at case
+pub next_within : (file : List ℕ) (at : ℕ) {case : Case} → next_at file at ≡ Ok (Some case) → Within file at case
 next_within file at {case} next = by_test (eqb at (length file)) (λ t. at-end (eqb-true at (length file) t)) (λ t. inside (eqb-false at (length file) t))
   where
     at-end : at ≡ length file → Within file at case
@@ -194,7 +225,7 @@ next_within file at {case} next = by_test (eqb at (length file)) (λ t. at-end (
     inside n =
         by_test (is_whole file (places_at file at))
         (λ w.
-        let e : Whole (case_of file (places_at file at)) ≡ next_at file at = next_whole file at n refl refl w refl in
+        let e : Ok (Some (case_of file (places_at file at))) ≡ next_at file at = next_whole file at n refl refl w refl in
         let p : case.places ≡ places_at file at = cc (placed file (places_at file at)) in
         record { begins = rw p (end_behind file at); ends = rw p (whole_within file (places_at file at) w) })
-        (λ b. let e : Broken ≡ next_at file at = next_broken file at n refl refl b in let z : ◌≡◌ {A = ℕ} 0 1 = cc in absurd (omega arith))
+        (λ b. let e : Err (record {}) ≡ next_at file at = next_broken file at n refl refl b in let z : ◌≡◌ {A = ℕ} 0 1 = cc in absurd (omega arith))

@@ -6,20 +6,19 @@ use mathlib.Core.List.{List, [], ◌∷◌}
 use native.Mathlib.Nat.{add-zero, zero-add}
 use native.Mathlib.Omega.{arith}
 use lib.ListN.{length}
+use Rattle.std.specs.Prelude.{Option, Some, None, Result, Ok, Err}
 use Rattle.spellings.specs.Bytes.{one_if}
-use Rattle.reports.specs.declared.lines.Tally.{Tally}
-use Rattle.reports.specs.declared.lines.Tally.TheVariants as tallies
+use Rattle.reports.specs.Lines.{Tally}
 use Rattle.cases.specs.declared.case.Case.{Case}
-use Rattle.cases.specs.declared.case.Next.{Next}
-use Rattle.cases.specs.declared.case.Next.TheVariants.{Whole, End, Broken}
+use Rattle.cases.specs.declared.case.Broken.{Broken}
 use Rattle.cases.specs.Cases.{next_at}
 use Rattle.cases.specs.Tallies.{Cases, before, cases_from, cases_in, count, tally, tallied}
 use Rattle.cases.proofs.CaseLaws.{next_within}
 
 -- what cases come to behind others, of which there are `cases` and `differ` differ
 unfoldable pub tally_behind : (Case → Bool) → ℕ → ℕ → List Case → Bool → Tally
-tally_behind test cases differ each true = tallies.Read (cases + length each) (differ + count test each)
-tally_behind test cases differ each false = tallies.Broken (cases + length each)
+tally_behind test cases differ each true = Ok (cases + length each, differ + count test each)
+tally_behind test cases differ each false = Err (cases + length each)
 
 -- the same of the cases of a file, which is read to its end or broken off
 abbrev pub tallied_behind : (Case → Bool) → ℕ → ℕ → Cases → Tally
@@ -63,13 +62,13 @@ one_behind test cases differ c each false =
     let more : cases + suc (length each) ≡ cases + 1 + length each = omega arith in
     cc
 
-module _ {test : Case → Bool} {file : List ℕ} {at cases differ : ℕ} (tallying : Tallying test file at cases differ) {next : Next}
+module _ {test : Case → Bool} {file : List ℕ} {at cases differ : ℕ} (tallying : Tallying test file at cases differ) {next : Result (Option Case) Broken}
     (met : next ≡ next_at file at) where
   -- one case more
-  pub tallying_next : {c : Case} {one : ℕ} → next ≡ Whole c → one ≡ one_if (test c) → Tallying test file c.places.end (cases + 1) (differ + one)
+  pub tallying_next : {c : Case} {one : ℕ} → next ≡ Ok (Some c) → one ≡ one_if (test c) → Tallying test file c.places.end (cases + 1) (differ + one)
   unfolding cases_from
   tallying_next {c} {one} whole e =
-      let stands : next_at file at ≡ Whole c = sym met ∙ whole in
+      let stands : next_at file at ≡ Ok (Some c) = sym met ∙ whole in
       let inside = next_within file at stands in
       let left : suc (length file - (cases + 1)) ≡ length file - cases = omega (arith, inside.begins, inside.ends, tallying.few) in
       let stepped : cases_from (suc (length file - cases)) file at ≡ before c (cases_from (length file - cases) file c.places.end) =
@@ -82,22 +81,22 @@ module _ {test : Case → Bool} {file : List ℕ} {at cases differ : ℕ} (tally
       }
 
   -- there is none left
-  pub tallying_end : next ≡ End → tallies.Read cases differ ≡ tallied test (cases_in file)
+  pub tallying_end : next ≡ Ok None → Ok (cases, differ) ≡ tallied test (cases_in file)
   unfolding cases_from tally_behind count
   tallying_end end =
       let stepped : cases_from (suc (length file - cases)) file at ≡ record { each = []; whole = true } = rw (← met, end, cases_from) refl in
       rw (stepped, add-zero cases, add-zero differ) at tallying.rest
 
   -- the next one cannot be read
-  pub tallying_broken : next ≡ Broken → tallies.Broken cases ≡ tallied test (cases_in file)
+  pub tallying_broken : {fault : Broken} → next ≡ Err fault → Err cases ≡ tallied test (cases_in file)
   unfolding cases_from tally_behind
   tallying_broken broken =
       let stepped : cases_from (suc (length file - cases)) file at ≡ record { each = []; whole = false } = rw (← met, broken, cases_from) refl in
       rw (stepped, add-zero cases) at tallying.rest
 
 -- that a case cannot be read does not depend on which cases differ
-pub broken_either : (test other : Case → Bool) (each : List Case) (whole : Bool) {index : ℕ} → tallies.Broken index ≡ tally test each whole
-    → tallies.Broken index ≡ tally other each whole
+pub broken_either : (test other : Case → Bool) (each : List Case) (whole : Bool) {index : ℕ} → Err index ≡ tally test each whole
+    → Err index ≡ tally other each whole
 unfolding tally
 broken_either test other each true e = cc
 broken_either test other each false e = e

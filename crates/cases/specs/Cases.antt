@@ -1,13 +1,12 @@
 -- The conformance cases of a file's bytes, and what a case expects in the rooms that it lends. tests/cases/README.md has the layout. Nobody needs this to
 -- believe `expand`.
-use Rattle.std.specs.Prelude.{ℕ, zero, suc, ◌+◌, ◌-◌, ◌*◌, ◌/◌, Bool, true, false, ◌&&◌, List, [], ◌∷◌, ◌++◌, eqb, leb, length, get_or, take, drop, replicate}
+use Rattle.std.specs.Prelude.{ℕ, zero, suc, ◌+◌, ◌-◌, ◌*◌, ◌/◌, Bool, true, false, ◌&&◌, List, [], ◌∷◌, ◌++◌, eqb, leb, length, get_or, take, drop, replicate, Option, Some, None, Result, Ok, Err}
 use Rattle.spellings.specs.Bytes.{same}
 use Rattle.answers.specs.declared.Refusal.{Refusal}
 use Rattle.answers.specs.Refusals.{refusal}
 use Rattle.cases.specs.declared.case.Places.{Places}
 use Rattle.cases.specs.declared.case.Case.{Case}
-use Rattle.cases.specs.declared.case.Next.{Next}
-use Rattle.cases.specs.declared.case.Next.TheVariants.{Whole, End, Broken}
+use Rattle.cases.specs.declared.case.Broken.{Broken}
 
 -- the bytes that a file of cases may have, and the cells and the bytes of text that a case may lend
 abbrev pub longest_file : ℕ
@@ -78,12 +77,12 @@ unfoldable pub case_of : List ℕ → Places → Case
 case_of file p =
     record { places = p; cells = four_at file p.lent; text = four_at file (p.lent + 4); expected = expected_at file p.lent }
 
--- what stands at an offset
-unfoldable pub next_at : List ℕ → ℕ → Next
+-- the case at an offset, none at the end, or one that is not whole
+unfoldable pub next_at : List ℕ → ℕ → Result (Option Case) Broken
 next_at file at =
     elim (eqb at (length file)) [
-      | true ↦ End
-      | false ↦ elim (is_whole file (places_at file at)) [ true ↦ Whole (case_of file (places_at file at)) | false ↦ Broken ]
+      | true ↦ Ok None
+      | false ↦ elim (is_whole file (places_at file at)) [ true ↦ Ok (Some (case_of file (places_at file at))) | false ↦ Err (record {}) ]
     ]
 
 -- a part from one offset to another, without the count that it begins with

@@ -1,11 +1,8 @@
 -- All cases of a file, and what they come to. Nobody needs this to believe `expand`.
-use Rattle.std.specs.Prelude.{ℕ, zero, suc, ◌+◌, Bool, true, false, List, [], ◌∷◌, length}
+use Rattle.std.specs.Prelude.{ℕ, zero, suc, ◌+◌, Bool, true, false, List, [], ◌∷◌, length, Some, None, Ok, Err}
 use Rattle.spellings.specs.Bytes.{one_if}
-use Rattle.reports.specs.declared.lines.Tally.{Tally}
-use Rattle.reports.specs.declared.lines.Tally.TheVariants.{Read}
-use Rattle.reports.specs.declared.lines.Tally.TheVariants as tallies
+use Rattle.reports.specs.Lines.{Tally}
 use Rattle.cases.specs.declared.case.Case.{Case}
-use Rattle.cases.specs.declared.case.Next.TheVariants.{Whole, End, Broken}
 use Rattle.cases.specs.Cases.{next_at}
 
 -- the cases of a file as far as they are whole, and whether it ends behind them
@@ -22,9 +19,9 @@ unfoldable pub cases_from : ℕ → List ℕ → ℕ → Cases
 cases_from zero file at = record { each = []; whole = false }
 cases_from (suc k) file at =
     elim (next_at file at) [
-      | Whole c ↦ before c (cases_from k file c.places.end)
-      | End ↦ record { each = []; whole = true }
-      | Broken ↦ record { each = []; whole = false }
+      | Ok (Some c) ↦ before c (cases_from k file c.places.end)
+      | Ok None ↦ record { each = []; whole = true }
+      | Err broken ↦ record { each = []; whole = false }
     ]
 
 -- those of a whole file: no more than it has bytes
@@ -38,8 +35,8 @@ count test (c ∷ cs) = one_if (test c) + count test cs
 
 -- how many cases there are and how many of them differ, by a test, if the file ends behind them; else the index of the one that cannot be read
 unfoldable pub tally : (Case → Bool) → List Case → Bool → Tally
-tally differs each true = Read (length each) (count differs each)
-tally differs each false = tallies.Broken (length each)
+tally differs each true = Ok (length each, count differs each)
+tally differs each false = Err (length each)
 
 abbrev pub tallied : (Case → Bool) → Cases → Tally
 tallied differs cases = tally differs cases.each cases.whole

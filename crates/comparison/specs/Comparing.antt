@@ -1,9 +1,9 @@
 -- A conformance case compared with the expansion: its answer, every cell and every byte of text. Nobody needs this to believe `expand`.
-use Rattle.std.specs.Prelude.{ℕ, Bool, true, false, ◌&&◌, List, take, replicate}
+use Rattle.std.specs.Prelude.{ℕ, Bool, true, false, ◌&&◌, List, take, replicate, Option, Some, None}
 use Rattle.answers.specs.Refusals.{numbered}
 use Rattle.meaning.specs.Expand.{Expanded, expand}
-use Rattle.reports.specs.declared.lines.Compared.{Compared}
-use Rattle.reports.specs.declared.lines.Compared.TheVariants.{Same, OtherAnswer, OtherRooms}
+use Rattle.reports.specs.declared.lines.Difference.{Difference}
+use Rattle.reports.specs.declared.lines.Difference.TheVariants.{OtherAnswer, OtherRooms}
 use Rattle.reports.specs.Lines.{same_refusal, is_different}
 use Rattle.cases.specs.declared.case.Case.{Case}
 use Rattle.cases.specs.Cases.{most_cells, most_text, untouched_cell, untouched_byte, table_of, formula_of, left_as_expected}
@@ -13,15 +13,15 @@ unfoldable pub expanded_in : List ℕ → Case → List ℕ → List ℕ → Exp
 expanded_in file c cells text = expand (table_of file c) (formula_of file c) cells text
 
 -- an expansion held against what a case expects: first the answer's number and values, then the cells and the text
-unfoldable pub judged : List ℕ → Case → Expanded → Compared
+unfoldable pub judged : List ℕ → Case → Expanded → Option Difference
 judged file c e =
     elim (same_refusal (numbered e.answer) c.expected) [
-      | false ↦ OtherAnswer (numbered e.answer)
-      | true ↦ elim (left_as_expected file c e.cells e.text) [ true ↦ Same | false ↦ OtherRooms ]
+      | false ↦ Some (OtherAnswer (numbered e.answer))
+      | true ↦ elim (left_as_expected file c e.cells e.text) [ true ↦ None | false ↦ Some OtherRooms ]
     ]
 
 -- a case expanded in as much of some cells and of some text as it lends, and held against what it expects
-unfoldable pub compared_in : List ℕ → Case → List ℕ → List ℕ → Compared
+unfoldable pub compared_in : List ℕ → Case → List ℕ → List ℕ → Option Difference
 compared_in file c cells text = judged file c (expanded_in file c (take c.cells cells) (take c.text text))
 
 -- all cells and all text that a case may lend, none of them touched
@@ -32,7 +32,7 @@ unfoldable pub untouched_text : List ℕ
 untouched_text = replicate most_text untouched_byte
 
 -- a case expanded in what it lends, and held against what it expects
-abbrev pub compared : List ℕ → Case → Compared
+abbrev pub compared : List ℕ → Case → Option Difference
 compared file c = compared_in file c untouched_cells untouched_text
 
 -- whether a case is not as expected

@@ -1,14 +1,12 @@
 -- The lines that programs write. Document 01, of the program `phrase`: "`ok 2 2 31` (cells, constructors, text length)", "`refused 17 2 1 1` (number,
 -- a, b, c)".
-use Rattle.std.specs.Prelude.{ℕ, Bool, true, false, ◌&&◌, List, [], ◌∷◌, ◌++◌, eqb}
+use Rattle.std.specs.Prelude.{ℕ, Bool, true, false, ◌&&◌, List, [], ◌∷◌, ◌++◌, eqb, Option, Some, None, Result, Ok, Err}
 use Rattle.spellings.specs.Bytes.{bytes, decimal}
 use Rattle.answers.specs.declared.Refusal.{Refusal}
 use Rattle.answers.specs.declared.Answer.{Answer}
 use Rattle.answers.specs.declared.Answer.TheVariants.{Accepted, Refusing}
-use Rattle.reports.specs.declared.lines.Compared.{Compared}
-use Rattle.reports.specs.declared.lines.Compared.TheVariants.{Same, OtherAnswer, OtherRooms}
-use Rattle.reports.specs.declared.lines.Tally.{Tally}
-use Rattle.reports.specs.declared.lines.Tally.TheVariants.{Read, Broken}
+use Rattle.reports.specs.declared.lines.Difference.{Difference}
+use Rattle.reports.specs.declared.lines.Difference.TheVariants.{OtherAnswer, OtherRooms}
 
 -- whether two answers have one number and the same values
 abbrev pub same_refusal : Refusal → Refusal → Bool
@@ -68,19 +66,22 @@ unfoldable pub missing : List ℕ
 unfolding bytes
 missing = bytes "cases.bin cannot be opened" ++ newline
 
+-- what the cases of a file come to: how many there are and how many of them differ, or the index of the one that cannot be read
+abbrev pub Tally : Type 0
+Tally = Result (ℕ × ℕ) ℕ
+
 -- whether a case differs
-abbrev pub is_different : Compared → Bool
-is_different Same = false
-is_different (OtherAnswer found) = true
-is_different OtherRooms = true
+abbrev pub is_different : Option Difference → Bool
+is_different None = false
+is_different (Some found) = true
 
 -- the line of a case that was compared; none if it is as expected
-unfoldable pub compared_line : ℕ → Refusal → Compared → List ℕ
-compared_line index expected Same = []
-compared_line index expected (OtherAnswer found) = case_differs index expected found
-compared_line index expected OtherRooms = other_rooms index
+unfoldable pub compared_line : ℕ → Refusal → Option Difference → List ℕ
+compared_line index expected None = []
+compared_line index expected (Some (OtherAnswer found)) = case_differs index expected found
+compared_line index expected (Some OtherRooms) = other_rooms index
 
 -- the last line of a run of cases
 unfoldable pub tally_line : Tally → List ℕ
-tally_line (Read cases differ) = total cases differ
-tally_line (Broken index) = broken index
+tally_line (Ok counts) = total counts.0 counts.1
+tally_line (Err index) = broken index

@@ -1,21 +1,24 @@
--- `same_text`: the text is as expected in the bytes passed.
-use native.Mathlib.Omega.{arith}
-use Rattle.cases.proofs.CaseLaws.{left_longer, left_start, left_next, left_stop, left_end}
+-- `same_text`: the text begins with the one expected, and the rest is as it was.
+use mathlib.Core.Path.{sym, ap, ◌∙◌}
+use borrow.Author.Rules.{rules}
+use borrow.Author.Tests.{tests}
+use lib.Dec.{eqb}
+use Rattle.std.specs.Cmp.Lexicographic.{same_text, other_text}
+use Rattle.std.specs.List.{list_all}
+use Rattle.std.proofs.lemmas.Iterator.{YieldsList-from_slice}
+use Rattle.std.proofs.lemmas.Iterator.Search.{all_from_yields_List}
+use Rattle.cases.specs.Cases.{untouched_byte}
+use Rattle.cases.proofs.CaseLaws.{left_front, left_other}
 use Rattle.cases.proofs.contents.same_text.Goals as goal
 
-pub returns-then-text-written : goal.returns-then-text-written
-returns-then-text-written c = search left_longer
-
-pub loop-i-init : goal.loop-i-init
-loop-i-init c = search left_start
-
-pub returns-then-text-i : goal.returns-then-text-i
-returns-then-text-i c =
-    left_stop c.loop-i.invariant (omega arith) c.expected_byte.ensures c.if-text-i.true
-
-pub loop-i-preserved : goal.loop-i-preserved
-loop-i-preserved c =
-    left_next c.loop-i.invariant (omega arith) c.expected_byte.ensures c.if-text-i.false
+pub returns-in_default : goal.returns-in_default
+returns-in_default c = left_other _ _ _ (other_text _ _ (sym c.in_default.ensures.cases))
 
 pub returns : goal.returns
-returns c = left_end c.loop-i.invariant (omega arith)
+returns c =
+    let (front, rest, long) = c.in-Some.ensures.cases in
+    let all =
+    all_from_yields_List (λ b. eqb b untouched_byte) _ _ c.all.result c.all.ensures.ran (YieldsList-from_slice c.in-Some.rest.now cc)
+    (λ x b q k. search (rules, tests))
+    in
+    left_front _ _ _ (same_text _ _ (sym front)) (all ∙ ap (list_all (λ b. eqb b untouched_byte)) rest)

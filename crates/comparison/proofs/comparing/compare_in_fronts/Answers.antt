@@ -13,4 +13,4 @@ slice_bounds-compare_in-end-4 c = sym (length-take-le _ _ (omega arith))
 
 pub returns : goal.returns
 returns c =
-    compared_fronts _ _ _ _ c.least-count.ensures c.least-size.ensures c.compare_in.ensures
+    compared_fronts _ _ _ _ c.min-count.ensures c.min-size.ensures c.compare_in.ensures

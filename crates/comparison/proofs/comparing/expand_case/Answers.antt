@@ -4,4 +4,4 @@ use Rattle.comparison.proofs.comparing.expand_case.Goals as goal
 
 pub returns : goal.returns
 returns c =
-    expands _ _ _ _ c.part_of.ensures c.part_of-2.ensures c.expand.ensures.text_after
+    expands _ _ _ _ c.part_of-table.ensures c.part_of-formula.ensures c.expand.ensures.text_after

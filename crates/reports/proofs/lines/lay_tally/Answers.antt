@@ -2,12 +2,12 @@
 use Rattle.reports.specs.Lines.{tally_line}
 use Rattle.reports.proofs.lines.lay_tally.Goals as goal
 
-pub returns-in-Read : goal.returns-in-Read
+pub returns-in-Ok : goal.returns-in-Ok
 unfolding tally_line
-returns-in-Read c =
-    rw c.in-Read.is c.lay_total.ensures
+returns-in-Ok c =
+    rw c.in-Ok.is c.lay_total.ensures
 
-pub returns-in-Broken : goal.returns-in-Broken
+pub returns-in-Err : goal.returns-in-Err
 unfolding tally_line
-returns-in-Broken c =
-    rw c.in-Broken.is c.lay_broken.ensures
+returns-in-Err c =
+    rw c.in-Err.is c.lay_broken.ensures
