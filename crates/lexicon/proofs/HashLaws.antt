@@ -1,5 +1,5 @@
 -- Laws of the hash: how it is computed, eight bytes at a time.
-use Prim.Native.Nat.{ℕ, suc, ◌+◌, ◌-◌, ◌*◌, ◌/◌, ◌%◌, ◌<◌, ◌≤◌}
+use Prim.Native.Nat.{ℕ, suc, ◌+◌, ◌-◌, ◌*◌, ◌/◌, ◌<◌, ◌≤◌}
 use mathlib.Core.Path.{◌≡◌, refl, sym, ap, ◌∙◌}
 use mathlib.Core.List.{List}
 use native.Mathlib.Omega.{arith}
@@ -9,14 +9,7 @@ use borrow.Author.Tests.{lt-ltb, le-ltb}
 use Rattle.spellings.specs.Bytes.{longest_run, is_word_byte}
 use Rattle.spellings.specs.Eights.{four_at, eight_at}
 use Rattle.spellings.proofs.BytesLaws.{run_prefix}
-use Rattle.lexicon.specs.Trees.{few_of, crossed, mixed, chunks_from, seed_of, body_of, hash_of, Hashed}
-
--- the halves of a number fit in each other's place
-pub crossed_fits : (product : ℕ) → product < 18446744073709551616 → crossed product < 18446744073709551616
-crossed_fits product l = joined (product % 4294967296) (product / 4294967296) (omega arith) (omega arith)
-  where
-    joined : (high low : ℕ) → high ≤ 4294967295 → low < 4294967296 → high * 4294967296 + low < 18446744073709551616
-    joined high low hm hd = omega arith
+use Rattle.lexicon.specs.Trees.{few_of, mixed, chunks_from, seed_of, body_of, hash_of, Hashed}
 
 -- ------------------------------------------------------------------ eight bytes at a time
 
@@ -26,10 +19,6 @@ pub record Chunking (spelling : List ℕ) (chunks start hash count : ℕ) : Type
   pub within : chunks * 8 ≤ length spelling
   -- the eights left, behind what has the `hash`, have the hash of all eights
   pub rest : chunks_from (chunks - count) spelling (count * 8) hash ≡ chunks_from chunks spelling 0 start
-
--- before the first
-pub chunking_start : {spelling : List ℕ} {chunks start : ℕ} → chunks * 8 ≤ length spelling → Chunking spelling chunks start start 0
-chunking_start {spelling} {chunks} {start} l = let all : chunks - 0 ≡ chunks = omega arith in record { within = l; rest = cc }
 
 module _ {spelling : List ℕ} {chunks start hash count : ℕ} (chunking : Chunking spelling chunks start hash count) where
   -- eight bytes more

@@ -197,42 +197,6 @@ module _ {every : Bool} {kinds : ℕ} {table room₀ : List ℕ} {start tag most
 
 -- ------------------------------------------------------------------ symbols
 
-one_long : (spelling : List ℕ) → length spelling ≡ 1 → spelling ≡ get_or spelling 0 0 ∷ []
-one_long [] h = absurd (omega arith)
-one_long (b ∷ []) h = refl
-one_long (b ∷ c ∷ bs) h = absurd (omega arith)
-
-module _ (room : List ℕ) {spelling : List ℕ} {number : ℕ} where
-  -- the kind stored at a spelling of one byte that may be a symbol marks it
-  pub marked_one : length room ≡ lexicon_size → length spelling ≡ 1 → get_or spelling 0 0 < symbol_end
-      → Marked room (set room (symbols_at + get_or spelling 0 0) (number + 2)) spelling number
-  marked_one long one small =
-      record {
-        this =
-            λ b l e.
-            let z : get_or spelling 0 0 ≡ b = cc in
-            rw z (get_or-set_same room (symbols_at + b) (number + 2) 0 (omega arith));
-        others =
-            λ b l d.
-            get_or-set_other room (symbols_at + get_or spelling 0 0) (symbols_at + b) (number + 2) 0
-            (λ e.
-            let z : get_or spelling 0 0 ≡ b = omega (arith, e) in
-            d (cc (one_long spelling one)));
-        before = λ i l. get_or-set_other room (symbols_at + get_or spelling 0 0) i (number + 2) 0 (λ e. omega (arith, e));
-        same_length = length-set room (symbols_at + get_or spelling 0 0) (number + 2);
-      }
-
-  unmarked : ((byte : ℕ) → byte < symbol_end → spelling ≡ byte ∷ [] → ⊥) → Marked room room spelling number
-  unmarked d = record { this = λ b l e. absurd (d b l e); others = λ b l e. refl; before = λ i l. refl; same_length = refl }
-
-  -- a byte from `symbol_end` on is no symbol and needs no mark
-  pub unmarked_high : length spelling ≡ 1 → symbol_end ≤ get_or spelling 0 0 → Marked room room spelling number
-  unmarked_high one h = unmarked (λ b l e. omega (arith, ap (λ (v : List ℕ). get_or v 0 0) e))
-
-  -- a spelling that is not one byte needs no mark
-  pub unmarked_long : (length spelling ≡ 1 → ⊥) → Marked room room spelling number
-  unmarked_long d = unmarked (λ b l e. d (ap length e))
-
 -- the kinds by one spelling more at the front
 module _ (number : ℕ) (word : List ℕ) (vs : List (List ℕ)) (spelling : List ℕ) where
   kind_here : word ≡ spelling → kind_from number (word ∷ vs) spelling ≡ keyword_kind number
@@ -318,13 +282,6 @@ module _ {table room₀ : List ℕ} {count : ℕ} {room : List ℕ} {number : �
                 same_length = marked.same_length ∙ marking.places.same_length;
               };
         }
-
--- where none is left, each symbol has its kind by all keywords
-pub marking_end : {table room₀ : List ℕ} {count : ℕ} {room : List ℕ} {number : ℕ} → Marking table room₀ count room number → number ≤ 0
-    → Symbols (words_in table room₀ count) 0 room × SamePlaces room₀ room
-marking_end {table} {room₀} {count} {room} {number} c h =
-    let z : number ≡ 0 = omega arith in
-    ((rw (z) at c).symbols, c.places)
 
 -- ------------------------------------------------------------------ the lexicon
 

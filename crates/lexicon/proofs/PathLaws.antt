@@ -59,14 +59,6 @@ both_fit hash second l = joined (hash / 17592186044416) (second % 4294967296) (o
     joined : (low high : ℕ) → low < 1048576 → high < 4294967296 → low + high * 1048576 < 4503599627370496
     joined low high a b = omega arith
 
--- they fit a number of 64 bits
-pub both_fit_alone : (number : ℕ) → number < 4503599627370496 → number < 18446744073709551616
-both_fit_alone number l = omega arith
-
--- with the 1 behind them they fit a number of 64 bits
-pub both_fit_with : (number : ℕ) → number < 4503599627370496 → number + 4503599627370496 < 18446744073709551616
-both_fit_with number l = omega arith
-
 module _ (spelling : List ℕ) {hash turns : ℕ} (hashed : hash ≡ hash_of spelling) (fits : hash < 18446744073709551616) where
   -- the bits of the hash
   pub hash_window : turns ≡ hash / 17592186044416 + 1048576 → Window (behind_hash spelling) turns (turns_of spelling)
@@ -87,15 +79,6 @@ module _ (spelling : List ℕ) {hash turns : ℕ} (hashed : hash ≡ hash_of spe
 -- ------------------------------------------------------------------ the next byte
 
 module _ (spelling : List ℕ) {turns next : ℕ} (within : next ≤ length spelling) where
-  -- bits are left
-  pub refilled_same : (turns ≡ 1 → ⊥) → Refilled spelling turns next turns next
-  refilled_same d = record { some = λ h. some turns d h; within = within; path = λ path w. w }
-    where
-      some : (number : ℕ) → (number ≡ 1 → ⊥) → 0 < number → 2 ≤ number
-      some zero e h = absurd (omega arith)
-      some (suc zero) e h = absurd (e refl)
-      some (suc (suc number)) e h = omega arith
-
   -- a byte is left
   pub refilled_byte : turns ≡ 1 → (next ≡ length spelling → ⊥) → {byte : ℕ} → byte ≡ get_or spelling next 0 → byte < 256
       → Refilled spelling turns next (byte + 256) (next + 1)
@@ -128,10 +111,6 @@ pub record Mixing (bytes : List ℕ) (hash count : ℕ) : Type 0 where
   pub within : count ≤ length bytes
   -- the bytes left, behind what has the `hash`, have the hash of all
   pub rest : second_from hash (drop count bytes) ≡ second_of bytes
-
--- no byte is
-pub mixing_start : (bytes : List ℕ) → Mixing bytes 11400714819323198485 0
-mixing_start bytes = record { within = omega arith; rest = refl }
 
 module _ {bytes : List ℕ} {hash count : ℕ} (mixing : Mixing bytes hash count) where
   -- one byte more

@@ -1,13 +1,10 @@
 -- Laws of entering the sorts of variables: a room then holds them, and the spellings that it held.
 use Prim.Native.Nat.{ℕ, ◌+◌, ◌<◌, ◌≤◌}
-use mathlib.Core.Path.{◌≡◌, refl, ◌∙◌}
+use mathlib.Core.Path.{◌≡◌, ◌∙◌}
 use mathlib.Core.List.{List}
 use native.Mathlib.Omega.{arith}
-use lib.Dec.{ltb}
-use lib.ListN.{length, get_or, set, drop, length-set, length-drop}
-use lib.Seq.{get_or-set_same, get_or-set_other, get_or-take, get_or-drop, length-take-le, ext_get_or}
-use borrow.Author.Tests.{ltb-true, ltb-false}
-use Rattle.spellings.proofs.BytesLaws.{by_test}
+use lib.ListN.{length, get_or, drop, length-drop}
+use lib.Seq.{get_or-take, get_or-drop, length-take-le, ext_get_or}
 use Rattle.grammar.specs.Table.{Lexicon}
 use Rattle.grammar.specs.Variables.{most_variables}
 use Rattle.lexicon.specs.LexiconRoom.{symbols_at, keyword_count_at, spelling_count_at, variable_count_at, variables_at, lexicon_size}
@@ -28,58 +25,6 @@ pub record SortsEntering (sorts room₀ room : List ℕ) (count : ℕ) : Type 0 
   pub small : (number : ℕ) → number < count → get_or sorts number 0 < 256
   -- the room is as long as it was
   pub same_length : length room ≡ length room₀
-
--- none is stored yet
-pub entering_start : {sorts room : List ℕ} → SortsEntering sorts room room 0
-entering_start =
-    record {
-      within = omega arith;
-      before = λ index l. refl;
-      each = λ number l. absurd (omega arith);
-      small = λ number l. absurd (omega arith);
-      same_length = refl;
-    }
-
--- one more is stored
-pub entering_next : {sorts room₀ room : List ℕ} {count : ℕ} → SortsEntering sorts room₀ room count → count < length sorts → get_or sorts count 0 < 256
-    → variables_at + count < length room
-    → SortsEntering sorts room₀ (set room (variables_at + count) (get_or sorts count 0)) (count + 1)
-entering_next {sorts} {room₀} {room} {count} entering more byte inside =
-    record {
-      within = omega arith;
-      before =
-          λ index l. get_or-set_other room (variables_at + count) index (get_or sorts count 0) 0 (λ e. omega (arith, e)) ∙ entering.before index l;
-      each = λ number l.
-          by_test (ltb number count)
-          (λ t.
-          let below : number < count = ltb-true number count t in
-          get_or-set_other room (variables_at + count) (variables_at + number) (get_or sorts count 0) 0 (λ e. omega (arith, e))
-          ∙ entering.each number below)
-          (λ t.
-          let last : number ≡ count = omega (arith, ltb-false number count t) in
-          rw last (get_or-set_same room (variables_at + count) (get_or sorts count 0) 0 inside));
-      small = λ number l.
-          by_test (ltb number count) (λ t. entering.small number (ltb-true number count t))
-          (λ t.
-          let last : number ≡ count = omega (arith, ltb-false number count t) in
-          rw last byte);
-      same_length = length-set room (variables_at + count) (get_or sorts count 0) ∙ entering.same_length;
-    }
-
--- all are stored, behind their number
-pub entering_end : {sorts room room' : List ℕ} {count : ℕ} → SortsEntering sorts (set room variable_count_at (length sorts)) room' count → length sorts ≤ count
-    → variable_count_at < length room
-    → SortsEntered sorts room room'
-entering_end {sorts} {room} {room'} {count} entering all inside =
-    record {
-      before =
-          λ index l.
-          entering.before index (omega arith) ∙ get_or-set_other room variable_count_at index (length sorts) 0 (λ e. omega (arith, e));
-      counted = entering.before variable_count_at (omega arith) ∙ get_or-set_same room variable_count_at (length sorts) 0 inside;
-      each = λ number l. entering.each number (omega arith);
-      small = λ number l. entering.small number (omega arith);
-      same_length = entering.same_length ∙ length-set room variable_count_at (length sorts);
-    }
 
 -- ------------------------------------------------------------------ the room after it
 

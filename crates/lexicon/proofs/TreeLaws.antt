@@ -12,14 +12,12 @@ use lib.Seq.{get_or-set_same, get_or-set_other, get_or_at}
 use borrow.Author.Tests.{eqb-true, eqb-false, ltb-true, ltb-false}
 use Rattle.spellings.specs.Bytes.{same, index_of}
 use Rattle.spellings.proofs.BytesLaws.{by_test, same_true, same_false, index_le, index_self, index_found, index_front, index_rest}
-use Rattle.lexicon.specs.Trees.{hash_of, bytes_of, behind_hash, Window, Refilled, Seeks}
+use Rattle.lexicon.specs.Trees.{hash_of, bytes_of, behind_hash, Window, Refilled}
 use Rattle.lexicon.specs.Trees.{root_of, turns_of, branch_of, Leads, there, further, Linked, SearchTree, Planted, Extends, FreeFor, FoundAt}
 use Rattle.lexicon.specs.Trees.{Searched, Linkable, links_with}
 use Rattle.lexicon.specs.declared.trees.Spot.{Spot}
 use Rattle.lexicon.specs.declared.trees.Spot.TheVariants.{Node, Free}
 use Rattle.lexicon.specs.Places.{word_at, words_in}
-use Rattle.lexicon.specs.declared.trees.Seen.{Seen}
-use Rattle.lexicon.specs.declared.trees.Seen.TheVariants.{Met, New}
 use Rattle.lexicon.proofs.PlaceLaws.{words_length, word_same}
 use Rattle.lexicon.proofs.PathLaws.{window_some, window_turn, window_next, hash_window}
 
@@ -265,10 +263,6 @@ pub record Standing (text places links : List ℕ) (mask count slot link : ℕ) 
   pub below : slot < mask + 1 + count * 2
 
 module _ {text places links : List ℕ} {mask count : ℕ} (planted : Planted text places links mask count) where
-  -- the root's link is one of the room's
-  pub root_inside : (hash : ℕ) → bit_and hash mask < length links
-  root_inside hash = omega (arith, and_le_r hash mask, planted.linked)
-
   -- a search begins at the root of a tree
   standing_root : (hash : ℕ) {slot link : ℕ} → slot ≡ bit_and hash mask → link ≡ get_or links slot 0 → Standing text places links mask count slot link
   standing_root hash es el = record { planted = planted; here = el; below = omega (arith, and_le_r hash mask) }
@@ -404,13 +398,3 @@ module _ {text places links : List ℕ} {mask count : ℕ} {sought : List ℕ} {
             (record { path = f.path; window = r.path f.path f.window; walking = f.walking })
             (r.some (window_some f.window)) a b;
       }
-
--- what the bits of the hash told, as an answer
-module _ (mask : ℕ) (words : List (List ℕ)) (links sought : List ℕ) {seen : Seen} (seeks : Seeks mask words links sought seen) where
-  -- the node of a number
-  pub settled_node : {number : ℕ} → seen ≡ Met number → Searched mask words links sought (Node number)
-  settled_node e = subst (Seeks mask words links sought) e seeks
-
-  -- the link that is free
-  pub settled_free : {slot : ℕ} → seen ≡ New slot → Searched mask words links sought (Free slot)
-  settled_free e = subst (Seeks mask words links sought) e seeks

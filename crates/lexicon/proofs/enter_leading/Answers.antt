@@ -8,9 +8,6 @@ use Rattle.keywords.proofs.KeptLaws.{kept_less}
 use Rattle.lexicon.proofs.LexiconLaws as laws
 use Rattle.lexicon.proofs.enter_leading.Goals as goal
 
-pub loop-e-init : goal.loop-e-init
-loop-e-init c = laws.entering_start _ _ c.requires
-
 pub returns-in-Nothing : goal.returns-in-Nothing
 returns-in-Nothing c =
     elim c.in-Nothing.is [
@@ -22,14 +19,6 @@ pub returns-then-t-tag : goal.returns-then-t-tag
 returns-then-t-tag c =
     laws.entering_stop c.loop-e.invariant (Field _ _) (sym c.in-Field.is ∙ c.front_at-front.ensures)
     c.if-t-tag.true
-
-pub overflow_sub-e : goal.overflow_sub-e
-overflow_sub-e c = omega (arith, c.loop-e.invariant.from)
-
-pub kept_size-kept-requires : goal.kept_size-kept-requires
-kept_size-kept-requires c =
-    let inv = c.loop-e.invariant in
-    omega (arith, inv.from, inv.upto, inv.enough)
 
 pub overflow_add-at : goal.overflow_add-at
 overflow_add-at c =

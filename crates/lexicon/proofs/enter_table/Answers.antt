@@ -1,7 +1,4 @@
 -- `enter_table`: keywords, symbols, outside names, and their counts.
-use mathlib.Core.Path.{sym, ◌∙◌}
-use native.Mathlib.Omega.{arith}
-use lib.ListN.{length-set}
 use Rattle.lexicon.proofs.LexiconLaws as laws
 use Rattle.lexicon.proofs.enter_table.Goals as goal
 
@@ -23,18 +20,6 @@ pub enter_leading-spellings-requires : goal.enter_leading-spellings-requires
 enter_leading-spellings-requires c =
     let asked = c.requires in
     laws.second_enters _ asked.0 asked.1 c.enter_leading-keywords.ensures (c.mark_symbols.ensures.symbols, c.mark_symbols.ensures.same_places)
-
-pub bounds-room-381 : goal.bounds-room-381
-bounds-room-381 c = simp length-set (omega (arith, c.enter_leading-spellings.ensures.spelled.long))
-
-pub shape_of-room : goal.shape_of-room
-shape_of-room c =
-    let asked = c.requires in
-    (laws.lexical _ asked.0 asked.1 c.enter_leading-keywords.ensures (c.mark_symbols.ensures.symbols, c.mark_symbols.ensures.same_places)
-    c.after_leading-names.result
-    c.after_leading-names.ensures c.enter_leading-spellings.ensures
-    ).long
-    ∙ sym asked.0.long
 
 pub returns : goal.returns
 returns c =

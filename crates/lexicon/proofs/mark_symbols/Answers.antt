@@ -12,10 +12,3 @@ pub loop-k-preserved : goal.loop-k-preserved
 loop-k-preserved c =
     laws.marking_next c.loop-k.invariant c.loop-k-test.true refl refl c.part.ensures
     c.mark.ensures
-
-pub returns : goal.returns
-returns c =
-    let all =
-    laws.marking_end c.loop-k.invariant c.loop-k-test.false
-    in
-    record { symbols = all.0; same_places = all.1 }

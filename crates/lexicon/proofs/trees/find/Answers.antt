@@ -4,18 +4,6 @@ use native.Mathlib.Omega.{arith}
 use Rattle.lexicon.proofs.TreeLaws as laws
 use Rattle.lexicon.proofs.trees.find.Goals as goal
 
-pub offset_bounds-links-slot : goal.offset_bounds-links-slot
-offset_bounds-links-slot c =
-    omega (arith, laws.root_inside c.requires.planted c.args.hash)
-
-pub bounds-links-slot : goal.bounds-links-slot
-bounds-links-slot c =
-    laws.root_inside c.requires.planted c.args.hash
-
-pub loop-p-init : goal.loop-p-init
-loop-p-init c =
-    laws.searching_start c.requires.planted c.requires.hash_value refl refl c.hashed_turns-turns.ensures
-
 pub is_spelled-here-requires : goal.is_spelled-here-requires
 is_spelled-here-requires c = laws.place_inside c.loop-p.invariant.standing c.loop-p-test.true
 
@@ -23,26 +11,6 @@ pub returns-then-here : goal.returns-then-here
 returns-then-here c =
     let inv = c.loop-p.invariant in
     laws.standing_found inv.standing c.loop-p-test.true _ c.is_spelled-here.ensures c.if-here.true
-
-pub overflow_add-slot : goal.overflow_add-slot
-overflow_add-slot c =
-    omega (arith, laws.branch_inside c.loop-p.invariant.standing c.loop-p-test.true)
-
-pub overflow_mul-slot : goal.overflow_mul-slot
-overflow_mul-slot c =
-    omega (arith, laws.branch_inside c.loop-p.invariant.standing c.loop-p-test.true)
-
-pub overflow_add-slot-in-loop-p : goal.overflow_add-slot-in-loop-p
-overflow_add-slot-in-loop-p c =
-    omega (arith, laws.branch_inside c.loop-p.invariant.standing c.loop-p-test.true)
-
-pub overflow_add-slot-in-loop-p-2 : goal.overflow_add-slot-in-loop-p-2
-overflow_add-slot-in-loop-p-2 c =
-    omega (arith, laws.branch_inside c.loop-p.invariant.standing c.loop-p-test.true)
-
-pub offset_bounds-links-slot-in-loop-p : goal.offset_bounds-links-slot-in-loop-p
-offset_bounds-links-slot-in-loop-p c =
-    omega (arith, laws.branch_inside c.loop-p.invariant.standing c.loop-p-test.true, c.well_formed)
 
 pub bounds-links-slot-in-loop-p : goal.bounds-links-slot-in-loop-p
 bounds-links-slot-in-loop-p c =

@@ -1,13 +1,6 @@
 -- `mix_front`: what is left gives what the whole gives.
 use Rattle.lexicon.proofs.HashLaws as laws
-use native.Mathlib.Omega.{arith}
 use Rattle.lexicon.proofs.trees.mix_front.Goals as goal
-
-pub loop-i-init : goal.loop-i-init
-loop-i-init c = search laws.chunking_start
-
-pub eight-requires : goal.eight-requires
-eight-requires c = omega (arith, c.loop-i.invariant.within)
 
 pub loop-i-preserved : goal.loop-i-preserved
 loop-i-preserved c = search laws.chunking_next

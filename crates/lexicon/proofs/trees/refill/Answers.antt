@@ -2,9 +2,6 @@
 use Rattle.lexicon.proofs.PathLaws as laws
 use Rattle.lexicon.proofs.trees.refill.Goals as goal
 
-pub returns-then-turns-ne1 : goal.returns-then-turns-ne1
-returns-then-turns-ne1 c = search laws.refilled_same
-
 pub returns-then-next-s : goal.returns-then-next-s
 returns-then-next-s c = search laws.refilled_none
 

@@ -2,9 +2,6 @@
 use Rattle.lexicon.proofs.PathLaws as laws
 use Rattle.lexicon.proofs.trees.second.Goals as goal
 
-pub loop-b-init : goal.loop-b-init
-loop-b-init c = laws.mixing_start _
-
 pub loop-b-preserved : goal.loop-b-preserved
 loop-b-preserved c = search laws.mixing_next
 
