@@ -1,6 +1,6 @@
 -- Laws of the index of spellings: what a search in it finds, and that one spelling more keeps it. Of the hash they use only that equal
 -- spellings have equal ones, and that it fits 32 bits.
-use Prim.Native.Nat.{ℕ, zero, suc, ◌+◌, ◌-◌, ◌*◌, ◌<◌, ◌≤◌}
+use Prim.Native.Nat.{ℕ, zero, suc, ◌+◌, ◌-◌, ◌<◌, ◌≤◌}
 use mathlib.Core.Path.{◌≡◌, refl, sym, ap, subst, ◌∙◌}
 use mathlib.Core.Bool.{Bool, true, false, ◌||◌}
 use mathlib.Core.List.{List, [], ◌∷◌}
@@ -15,7 +15,7 @@ use Rattle.spellings.proofs.BytesLaws.{by_test, differ_same}
 use Rattle.grammar.specs.Values.{Field, field}
 use Rattle.decoding.specs.Layout.{is_repeated}
 use Rattle.grammar.specs.Limits.{most}
-use Rattle.layout.specs.Index.{buckets, entry_size, index_size}
+use Rattle.layout.specs.Index.{index_size}
 use Rattle.layout.specs.Index.{spellings_under, is_among, packed, Packs, bucket_mixed, bucket_hash_from, bucket_hash, bucket_of, HashedUnder, entry}
 use Rattle.layout.specs.Index.{SpellingHeld}
 use Rattle.layout.specs.Index.{Bucket, leads_none, leads_past, leads_here}
@@ -371,27 +371,6 @@ module _ (room : List ℕ) (long : length room ≡ index_size) (number hash from
             (sym (outside j (λ q. omega arith) (λ q. omega arith) (λ q. omega arith) (λ q. omega arith) other))
             (leads_past (λ z. other (cc)) (leads_kept table room room' j words kept (x.leads j l))));
       }
-
--- what the code stores
-pub entered_none : (room : List ℕ) {spelled : Bool} (count from : ℕ) (spelling : List ℕ) → spelled ≡ false → room ≡ entered room spelled count from spelling
-entered_none room count from spelling e = cc
-
-stored_at : List ℕ → ℕ → ℕ → ℕ → ℕ → ℕ → List ℕ
-stored_at room at n h from size = set (set (set (set (set room at (get_or room (bucket_of h) 0)) (at + 1) h) (at + 2) from) (at + 3) size) (bucket_of h) n
-
--- five stores
-pub entered_some :
-    (room : List ℕ) {spelled : Bool} (count from : ℕ) (spelling : List ℕ) {hash : ℕ} → spelled ≡ true → hash ≡ bucket_hash spelling
-    → set
-    (set (set (set (set room (buckets + entry_size * count) (get_or room (bucket_of hash) 0)) (buckets + entry_size * count + 1) hash)
-    (buckets + entry_size * count + 2) from) (buckets + entry_size * count + 3)
-    (length spelling))
-    (bucket_of hash) (count + 1)
-    ≡ entered room spelled count from spelling
-unfolding stored_at
-entered_some room count from spelling {hash} e f =
-    let at : buckets + entry_size * count ≡ entry (count + 1) = omega arith in
-    cc
 
 -- ------------------------------------------------------------------ one field more
 
