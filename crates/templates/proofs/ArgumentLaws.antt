@@ -1,5 +1,5 @@
 -- Laws of the loop over the arguments of a call: templates one behind the other, up to the end of the bytes.
-use Prim.Native.Nat.{ℕ, suc, ◌+◌, ◌-◌, ◌<◌, ◌≤◌}
+use Prim.Native.Nat.{ℕ, suc, ◌+◌, ◌<◌, ◌≤◌}
 use mathlib.Core.Path.{◌≡◌, refl, sym, ap, ◌∙◌, subst, subst⁻¹}
 use mathlib.Core.Bool.{true}
 use mathlib.Core.List.{List, [], ◌∷◌, ◌++◌, append-nil}
@@ -13,7 +13,7 @@ use Rattle.grammar.specs.SortTests.{is_constructor}
 use Rattle.grammar.specs.Table.{Template, Templates, variable, none, more}
 use Rattle.decoding.specs.Prefix.{ReadTemplates, fault, parsed, in_front, SplitTemplates, short, taken, take_templates, applied, constructed, byte_in_front}
 use Rattle.decoding.specs.Prefix.{is_name_tag, templates_of}
-use Rattle.decoding.specs.Prefix.{is_templates, found}
+use Rattle.decoding.specs.Prefix.{found}
 use Rattle.decoding.proofs.PrefixLaws.{name_first, name_last, byte_first, variable_first, constructor_first, unknown_first}
 use Rattle.expansion.specs.declared.State.{State}
 use Rattle.templates.specs.declared.Making.{Making}
@@ -22,7 +22,7 @@ use Rattle.templates.specs.declared.Built.TheVariants.{Made, Full}
 use Rattle.templates.specs.declared.Arguments.TheVariants.{Listed, Overfull}
 use Rattle.templates.specs.declared.Head.{Head}
 use Rattle.templates.specs.declared.Head.TheVariants.{Leaf}
-use Rattle.expansion.specs.Run.{Result, done, halt, return, after, ◌>>=◌}
+use Rattle.expansion.specs.Run.{Result, done, return, after, ◌>>=◌}
 use Rattle.expansion.specs.Expansion.{Input, build, build_all}
 use Rattle.templates.specs.Built.{Holds, with_made, Ahead, template_at, built, Behind, Builds, Lists}
 use Rattle.templates.specs.Heads.{HeadValue, Heads}
@@ -102,30 +102,6 @@ pub record Listing (bytes : List ℕ) (start : ℕ) (env : List ℕ) (m : Making
       → after (build_all ahead input values (with_made state count) cells) (λ ys. return (given ++ ys))
       ≡ build_all (found (templates_of (drop start bytes))) input values (with_made state m.made) cells₀
 
-whole_read : (read : ReadTemplates) → is_templates read ≡ true → read ≡ parsed (found read)
-whole_read fault e = let z : ◌≡◌ {A = ℕ} 0 1 = cc in absurd (omega arith)
-whole_read (parsed ts) e = refl
-
-same_after : (result : Result (List ℕ)) → after result (λ ys. return ([] ++ ys)) ≡ result
-same_after (done vs s cs) = refl
-same_after (halt result cs) = refl
-
--- no template is built at the start
-pub listing_start : (bytes : List ℕ) (start : ℕ) (env : List ℕ) (m : Making) (cells out : List ℕ) → length out ≡ 16
-    → is_templates (templates_of (drop start bytes)) ≡ true
-    → Listing bytes start env m cells out cells start 0 m.made
-listing_start bytes start env m cells out l w =
-    record {
-      small = omega arith;
-      few = omega arith;
-      as_long = refl;
-      given = [];
-      holds = record { long = l; count = refl; same = λ i a b. absurd (omega arith) };
-      ahead = found (templates_of (drop start bytes));
-      read = whole_read (templates_of (drop start bytes)) w;
-      rest = λ I s M e g. same_after (build_all (found (templates_of (drop start bytes))) I M (with_made s m.made) cells);
-    }
-
 -- the same with as many cells made as there are
 abbrev pub further : Making → ℕ → Making
 further m count = record { count = m.count; rows = m.rows; made = count }
@@ -158,12 +134,6 @@ module _ {bytes : List ℕ} {start : ℕ} {env : List ℕ} {m : Making} {cells�
       listing_full er input state values e g =
           sym (listing_one (built state Full cells') input state values e g (cc (builds.evaluates input state values e g)))
 
-      -- a template takes a byte at least
-      pub listing_less : {row after' made' : ℕ} → given_built ≡ Made row after' made' → length bytes - after' < length bytes - at
-      listing_less {row} {after'} {made'} er =
-          let q : Behind bytes at (Made row after' made') = subst (Behind bytes at) er builds.behind in
-          omega (arith, q.0, q.1)
-
       -- one template more is built
       pub listing_next : {row after' made' : ℕ} → length cells' ≡ length cells → given_built ≡ Made row after' made' → (out' : List ℕ)
           → ((values : List ℕ) → Holds out given_count values → Holds out' (given_count + 1) (values ++ (row ∷ [])))
@@ -190,10 +160,6 @@ module _ {bytes : List ℕ} {start : ℕ} {env : List ℕ} {m : Making} {cells�
         (leads : (values : List ℕ) → Holds env m.count values → HeadValue bytes at values head) (heads : Heads bytes at head) where
       leaf : Builds bytes at env (further m count) cells (Made row next count) cells
       leaf = leaf_built bytes at (further m count) head equal leads heads cells
-
-      -- it takes a byte at least
-      pub leaf_less : length bytes - next < length bytes - at
-      leaf_less = listing_less cells (Made row next count) leaf refl
 
       -- its value is one more
       pub leaf_next : (out' : List ℕ) → ((values : List ℕ) → Holds out given_count values → Holds out' (given_count + 1) (values ++ (row ∷ [])))

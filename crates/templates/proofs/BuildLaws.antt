@@ -4,8 +4,8 @@ use mathlib.Core.Path.{◌≡◌, refl, sym, ap, ◌∙◌, subst}
 use mathlib.Core.List.{List, [], ◌∷◌}
 use native.Mathlib.Omega.{arith}
 use lib.Dec.{eqb}
-use lib.ListN.{length, get_or, take, drop, set, length-set, length-append, length-take}
-use lib.Seq.{sets, get_or-take, get_or-drop}
+use lib.ListN.{length, get_or, take, drop, set, length-set, length-append}
+use lib.Seq.{sets}
 use Rattle.grammar.specs.Sorts.{arity}
 use Rattle.grammar.specs.Table.{Template, Templates, none, more}
 use Rattle.terms.specs.Cells.{columns, row_numbers}
@@ -21,8 +21,6 @@ use Rattle.expansion.specs.Expansion.{Input, cell, build}
 use Rattle.templates.specs.Built.{Holds, with_made, Ahead, template_at, others_at, built, Builds}
 use Rattle.templates.specs.Heads.{join, HeadValue, Past, Takes, Heads}
 use Rattle.expansion.proofs.CellLaws.{cell_row, cell_none}
-use Rattle.grammar.proofs.ReaderLaws.{get_d_past}
-use Rattle.templates.proofs.VariableLaws.{spare}
 use Rattle.templates.proofs.TemplateLaws.{template_is, others_are, ahead_inside, makes, variable_built, behind_variable, at_name, behind_name}
 use Rattle.templates.proofs.StackLaws.{Pending, fed, waits, opened, going, resume, resume_halt, takes_value, waits_for, makes_cell, going_make}
 use Rattle.templates.proofs.StackLaws.{lefts, Filling, took_are, place, place_none, image_length, Stands}
@@ -67,29 +65,6 @@ name_head {bytes} {at} ahead eb low high en {made_value} f =
     )
 
 -- ------------------------------------------------------------------ the arguments of a constructor, in the stack
-
--- an argument that is given stands in the stack
-pub given_in : (stack : List ℕ) (pos : ℕ) {number index : ℕ} → index < number → get_or stack (pos + index) 0 ≡ get_or (take number (drop pos stack)) index 0
-given_in stack pos {number} {index} h = sym (get_or-take number (drop pos stack) index 0 h ∙ get_or-drop pos stack index 0)
-
--- one that is not given counts as 0
-pub given_out : (stack : List ℕ) (pos : ℕ) {number index : ℕ} → number ≤ index → 0 ≡ get_or (take number (drop pos stack)) index 0
-given_out stack pos {number} {index} h = sym (get_d_past (take number (drop pos stack)) index 0 (omega (arith, length-take number (drop pos stack))))
-
-spare_is : (rest : List ℕ) → get_or rest 0 0 ∷ get_or rest 1 0 ∷ get_or rest 2 0 ∷ [] ≡ spare rest
-spare_is [] = refl
-spare_is (a ∷ []) = refl
-spare_is (a ∷ b ∷ []) = refl
-spare_is (a ∷ b ∷ c ∷ rest) = refl
-
--- a row is its code and three arguments
-pub cell_stored : (cells arguments : List ℕ) (row code : ℕ) {cells' : List ℕ} {first second third : ℕ} → first ≡ get_or arguments 0 0
-    → second ≡ get_or arguments 1 0 → third ≡ get_or arguments 2 0
-    → cells' ≡ sets cells (row * columns) (code ∷ first ∷ second ∷ third ∷ [])
-    → cells' ≡ sets cells (row * columns) (row_numbers code arguments)
-cell_stored cells arguments row code {cells'} {first} {second} {third} ex ey ez e =
-    let q : first ∷ second ∷ third ∷ [] ≡ spare arguments = (cc) ∙ spare_is arguments in
-    cc
 
 -- ------------------------------------------------------------------ the loop
 
@@ -503,10 +478,6 @@ module _ {whole : Whole} {turn : Turn} {code needed out : ℕ} {cells : List ℕ
 
 -- ------------------------------------------------------------------ the template, by its head
 
--- a head that is a constructor takes its arguments
-pub node_takes : {bytes : List ℕ} {at byte : ℕ} (head : Head) → head ≡ Node byte → Heads bytes at head → Takes bytes at byte
-node_takes {bytes} {at} head e h = subst (Heads bytes at) e h
-
 -- a template with no argument is built at once
 pub leaf_built : (bytes : List ℕ) (at : ℕ) {env : List ℕ} (m : Making) {made_value next : ℕ} (head : Head) → head ≡ Leaf made_value next
     → ((values : List ℕ) → Holds env m.count values → HeadValue bytes at values head)
@@ -519,7 +490,3 @@ leaf_built bytes at m {next = next} head e l h cells =
       evaluates = λ I s M ei g. sym (subst (HeadValue bytes at M) e (l M g) I (with_made s m.made) cells);
       behind = (q.less, q.inside, q.read);
     }
-
--- it takes a byte at least
-pub leaf_past : {bytes : List ℕ} {at made_value next : ℕ} (head : Head) → head ≡ Leaf made_value next → Heads bytes at head → Past bytes at next
-leaf_past {bytes} {at} head e h = subst (Heads bytes at) e h

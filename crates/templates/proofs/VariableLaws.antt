@@ -10,7 +10,6 @@ use lib.Dec.{eqb}
 use lib.ListN.{length, get_or, take, set, length-append, length-set, get_or-append}
 use lib.Seq.{sets, get_or_at, get_or-set_same, get_or-set_other}
 use borrow.Author.Tests.{eq-eqb, ne_eqb, lt-ltb, le-ltb}
-use Rattle.grammar.proofs.ReaderLaws.{get_d_past}
 use Rattle.terms.specs.Cells.{outside_name, rows_lent}
 use Rattle.decoding.specs.Prefix.{name_by}
 use Rattle.expansion.specs.declared.State.{State}
@@ -25,10 +24,6 @@ module _ (env values : List ℕ) (count : ℕ) (holds : Holds env count values) 
   -- a variable that is bound has its value
   pub picked : (index : ℕ) → index < 16 → index < count → get_or env index 0 ≡ get_or values index 0
   picked index small less = holds.same index small less
-
-  -- one that is not counts as 0
-  pub not_picked : (index : ℕ) → count ≤ index → 0 ≡ get_or values index 0
-  not_picked index l = sym (get_d_past values index 0 (omega (arith, holds.count)))
 
   -- one more
   longer : (value : ℕ) → length (values ++ (value ∷ [])) ≡ count + 1

@@ -1,9 +1,7 @@
 -- A constructor whose arguments are all values, stored without the stack. These definitions mirror code: nobody needs them to believe `expand`.
-use Rattle.std.specs.Prelude.{ℕ, ◌+◌, ◌<◌, ◌≡◌, List}
+use Rattle.std.specs.Prelude.{ℕ, ◌+◌, ◌<◌, ◌≡◌, List, Option, Some, None}
 use Rattle.templates.specs.declared.Making.{Making}
 use Rattle.templates.specs.declared.Built.TheVariants.{Made}
-use Rattle.templates.specs.declared.Flat.{Flat}
-use Rattle.templates.specs.declared.Flat.TheVariants.{Stored, Left}
 use Rattle.templates.specs.Built.{RowsFit, Builds}
 use Rattle.templates.specs.Heads.{Takes}
 
@@ -18,6 +16,6 @@ pub record FlatStored (v : List ℕ) (from : ℕ) (env : List ℕ) (m : Making) 
   pub builds : Builds v from env m cells (Made m.made next (m.made + 1)) cells'
 
 -- that, or nothing is made
-abbrev pub StoresFlat : List ℕ → ℕ → List ℕ → Making → List ℕ → Flat → List ℕ → Type 0
-StoresFlat v from env m cells (Stored next) cells' = FlatStored v from env m cells next cells'
-StoresFlat v from env m cells Left cells' = cells' ≡ cells
+abbrev pub StoresFlat : List ℕ → ℕ → List ℕ → Making → List ℕ → Option ℕ → List ℕ → Type 0
+StoresFlat v from env m cells (Some next) cells' = FlatStored v from env m cells next cells'
+StoresFlat v from env m cells None cells' = cells' ≡ cells

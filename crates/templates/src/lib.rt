@@ -19,7 +19,6 @@ ghost use Rattle.templates.specs.Flat.{MayStore, StoresFlat};
 use grammar::codes::{NAME_AS_VAR, TERM_VAR, VARIABLES};
 use grammar::limits::MOST_VARIABLES;
 use grammar::reader::{arity_of, byte};
-use spellings::length_of;
 use terms::{COLUMNS, MOST_CELLS, OUTSIDE};
 
 // What a template is evaluated with: how many variables there are, how many rows there may be, and how many cells are made.
@@ -160,15 +159,8 @@ fn store_cell(cells: &mut [u32], row: usize, stack: &[u32], pos: usize, n: usize
     around_of(w)
 }
 
-// What is done with a constructor none of whose arguments is one: its row is stored, and this is the offset behind it; or nothing is,
-// since one of them is a constructor or no row is left.
-#[derive(Drop)]
-enum Flat {
-    Stored(usize),
-    Left,
-}
-
-// The row of a constructor whose arguments are all values. They are read one behind the other, without a stack.
+// The row of a constructor whose arguments are all values, which are read one behind the other, without a stack, and the offset behind it. Nothing is done
+// where one of them is a constructor or no row is left.
 fn store_flat(
     cells: &mut [u32],
     v: &[u8],
@@ -176,34 +168,25 @@ fn store_flat(
     code: u8,
     env: &[u32; MOST_VARIABLES],
     m: Making,
-) -> Flat
+) -> Option<usize>
     requires { MayStore v.now from code m cells.old }
     ensures { StoresFlat v.now from env.now m cells.old result cells.new }
 {
-    let k = m.count;
-    let made = m.made;
-    if m.rows <= made {
-        return Flat::Left;
+    if m.rows <= m.made {
+        return None;
     }
     let n = arity_of(code);
     let mut args = [0u32; 3];
     let mut at = from + 1;
-    let mut i: usize = 0;
-    while i < n {
-        let head = head_at(v, at, env, k);
-        match head {
-            Head::Leaf(x, next) => {
-                args[i] = x;
-                at = next;
-                i += 1;
-            }
-            Head::Node(_) => {
-                return Flat::Left;
-            }
-        }
+    for i in 0..n {
+        let Head::Leaf(x, next) = head_at(v, at, env, m.count) else {
+            return None;
+        };
+        args[i] = x;
+        at = next;
     }
-    store_row(cells, made, code, args);
-    Flat::Stored(at)
+    store_row(cells, m.made, code, args);
+    Some(at)
 }
 
 // The template of a constructor at an offset. The stack holds the open constructors, each with its arguments so far behind it; `pos` is
@@ -273,15 +256,9 @@ fn build_node(
     requires { MayMake v.now from code m cells.old stack.old }
     ensures { Builds v.now from env.now m cells.old result cells.new }
 {
-    let made = m.made;
-    let flat = store_flat(cells, v, from, code, env, m);
-    match flat {
-        Flat::Stored(next) => {
-            let row = made as u32;
-            let more = made + 1;
-            Built::Made(row, next, more)
-        }
-        Flat::Left => build_nested(cells, stack, v, from, code, env, m),
+    match store_flat(cells, v, from, code, env, m) {
+        Some(next) => Built::Made(m.made as u32, next, m.made + 1),
+        None => build_nested(cells, stack, v, from, code, env, m),
     }
 }
 
@@ -297,20 +274,10 @@ pub fn build(
     requires { MayBuild v.now at m cells.old stack.old }
     ensures { Builds v.now at env.now m cells.old result cells.new }
 {
-    let k = m.count;
-    let made = m.made;
-    let head = head_at(v, at, env, k);
-    match head {
-        Head::Leaf(x, next) => Built::Made(x, next, made),
+    match head_at(v, at, env, m.count) {
+        Head::Leaf(x, next) => Built::Made(x, next, m.made),
         Head::Node(b) => build_node(cells, stack, v, at, b, env, m),
     }
-}
-
-// An array has as many values as its type says: looking at it makes that known.
-fn known_values(values: &[u32; MOST_VARIABLES]) -> usize
-    ensures { length values.now ≡ most_variables }
-{
-    length_of(values)
 }
 
 // The templates of a call, from an offset of its item's value on; `out` takes their values.
@@ -326,38 +293,26 @@ pub fn build_arguments(
     requires { MayList v.now start m cells.old stack.old }
     ensures { ListsAll v.now start env.now m out.old cells.old result out.new cells.new }
 {
-    let k = m.count;
-    let rows = m.rows;
-    known_values(out);
     let mut at = start;
     let mut n: usize = 0;
     let mut count = m.made;
     while at < v.len() {
-        let head = head_at(v, at, env, k);
-        match head {
+        match head_at(v, at, env, m.count) {
             Head::Leaf(x, next) => {
                 put(out, n, x);
                 at = next;
                 n += 1;
             }
             Head::Node(b) => {
-                let here = Making {
-                    count: k,
-                    rows,
-                    made: count,
+                let here = Making { made: count, ..m };
+                let Built::Made(x, after, more) = build_node(cells, stack, v, at, b, env, here)
+                else {
+                    return Arguments::Overfull;
                 };
-                let part = build_node(cells, stack, v, at, b, env, here);
-                match part {
-                    Built::Full => {
-                        return Arguments::Overfull;
-                    }
-                    Built::Made(x, after, more) => {
-                        put(out, n, x);
-                        at = after;
-                        count = more;
-                        n += 1;
-                    }
-                }
+                put(out, n, x);
+                at = after;
+                count = more;
+                n += 1;
             }
         }
     }

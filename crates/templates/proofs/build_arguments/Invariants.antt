@@ -8,7 +8,7 @@ use Rattle.templates.proofs.build_arguments.Given as goal
 
 abbrev pub invariant-loop-at : goal.invariant-loop-at
 invariant-loop-at l =
-    laws.Listing l.v l.start l.env (record { count = l.k; rows = l.rows; made = l.initial.count }) l.initial.cells l.out l.cells l.at l.n l.count
+    laws.Listing l.v l.start l.env l.m l.initial.cells l.out l.cells l.at l.n l.count
     × (length l.stack ≡ length l.initial.stack)
     × KeptFrom l.initial.out l.out l.n
 

@@ -1,8 +1,7 @@
 -- `build_nested`: a loop over the constructors that are open. What is left of them gives what the template gives. The measure is the number of
 -- bytes left, and under it the place of the innermost constructor's arguments.
-use mathlib.Core.Path.{refl, ◌∙◌}
+use mathlib.Core.Path.{refl}
 use native.Mathlib.Omega.{arith}
-use lib.ListN.{length-set}
 use Rattle.templates.proofs.BuildLaws as laws
 use Rattle.templates.proofs.build_nested.Goals as goal
 
@@ -15,14 +14,6 @@ overflow_sub-top c = omega (arith, laws.building_pos c.loop-top.invariant.buildi
 pub head_at-head-requires : goal.head_at-head-requires
 head_at-head-requires c = laws.building_ahead c.loop-top.invariant c.if-top-pos.true
 
-pub bounds-stack-top : goal.bounds-stack-top
-bounds-stack-top c = search (laws.building_inside, c.loop-top.invariant)
-
-pub loop-top-smaller-in-Leaf : goal.loop-top-smaller-in-Leaf
-loop-top-smaller-in-Leaf c =
-    let past = laws.leaf_past c.head_at-head.result c.in-Leaf.is c.head_at-head.ensures.heads in
-    omega arith
-
 pub loop-top-preserved-in-Leaf : goal.loop-top-preserved-in-Leaf
 loop-top-preserved-in-Leaf c = search (laws.building_leaf, c.loop-top.invariant)
 
@@ -31,20 +22,8 @@ opening-requires-in-Node c =
     let building = c.loop-top.invariant.building in
     omega (arith, laws.building_pos building, building.past, building.inside, c.requires.fits.small)
 
-pub bounds-stack-top-in-Node : goal.bounds-stack-top-in-Node
-bounds-stack-top-in-Node c = search (laws.building_inside, c.loop-top.invariant)
-
-pub loop-top-smaller-in-Node : goal.loop-top-smaller-in-Node
-loop-top-smaller-in-Node c =
-    let building = c.loop-top.invariant.building in
-    let taken = laws.node_takes c.head_at-head.result c.in-Node.is c.head_at-head.ensures.heads in
-    omega (arith, building.past, building.inside, c.requires.fits.small)
-
 pub loop-top-preserved-in-Node : goal.loop-top-preserved-in-Node
 loop-top-preserved-in-Node c = search (laws.building_node, c.loop-top.invariant)
-
-pub shape_of-stack-then-m-count : goal.shape_of-stack-then-m-count
-shape_of-stack-then-m-count c = c.loop-top.invariant.building.stack_long ∙ length-set c.args.stack.now 0 c.opening.result
 
 pub returns-then-m-count : goal.returns-then-m-count
 returns-then-m-count c =
@@ -60,9 +39,6 @@ store_cell-around-requires c =
       inside = laws.building_fits c.loop-top.invariant c.if-top-pos.false;
     }
 
-pub shape_of-stack-then-around-eq0 : goal.shape_of-stack-then-around-eq0
-shape_of-stack-then-around-eq0 c = c.loop-top.invariant.building.stack_long ∙ length-set c.args.stack.now 0 c.opening.result
-
 pub returns-then-around-eq0 : goal.returns-then-around-eq0
 returns-then-around-eq0 c =
     laws.closing_made
@@ -72,16 +48,6 @@ returns-then-around-eq0 c =
 
 pub overflow_sub-stack : goal.overflow_sub-stack
 overflow_sub-stack c = omega (arith, laws.building_pos c.loop-top.invariant.building)
-
-pub offset_bounds-stack-pos : goal.offset_bounds-stack-pos
-offset_bounds-stack-pos c =
-    let building = c.loop-top.invariant.building in
-    omega (arith, laws.building_pos building, building.past, building.inside, c.requires.fits.small)
-
-pub bounds-stack-pos : goal.bounds-stack-pos
-bounds-stack-pos c =
-    let building = c.loop-top.invariant.building in
-    omega (arith, laws.building_pos building, building.stack_long)
 
 pub offset_bounds-stack-pos-else-top-pos : goal.offset_bounds-stack-pos-else-top-pos
 offset_bounds-stack-pos-else-top-pos c =

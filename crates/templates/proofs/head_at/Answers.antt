@@ -1,5 +1,4 @@
 -- `head_at`: by the first byte.
-use Rattle.templates.proofs.TemplateLaws.{ahead_inside}
 use native.Mathlib.Omega.{arith}
 use Rattle.templates.proofs.BuildLaws as laws
 use Rattle.templates.proofs.head_at.Goals as goal
@@ -14,19 +13,6 @@ returns-then-b-lt-VARIABLES c =
     laws.variable_head c.requires c.byte-b.ensures c.if-b-lt-VARIABLES.true c.pick.ensures
     in
     record { by_index = all.0; heads = all.1 }
-
-pub overflow_add-at : goal.overflow_add-at
-overflow_add-at c =
-    omega (arith, ahead_inside _ _ c.requires, c.well_formed)
-
-pub overflow_add-result-then-b-lt-TERM_VAR : goal.overflow_add-result-then-b-lt-TERM_VAR
-overflow_add-result-then-b-lt-TERM_VAR c =
-    omega (
-      arith,
-      (laws.name_head c.requires c.byte-b.ensures c.if-b-lt-VARIABLES.false c.if-b-lt-TERM_VAR.true
-          c.byte-n.ensures c.name_value.ensures {env = c.args.env.now} {variables = c.args.k}).1.inside,
-      c.well_formed,
-    )
 
 pub returns-then-b-lt-TERM_VAR : goal.returns-then-b-lt-TERM_VAR
 returns-then-b-lt-TERM_VAR c =

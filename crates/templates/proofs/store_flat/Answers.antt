@@ -7,8 +7,8 @@ use Rattle.templates.proofs.store_flat.Goals as goal
 pub loop-i-init : goal.loop-i-init
 loop-i-init c = search laws.reading_start
 
-pub head_at-head-requires : goal.head_at-head-requires
-head_at-head-requires c = search laws.reading_ahead
+pub head_at-requires : goal.head_at-requires
+head_at-requires c = search laws.reading_ahead
 
 pub offset_bounds-args-i : goal.offset_bounds-args-i
 offset_bounds-args-i c =
