@@ -31,10 +31,6 @@ use Rattle.copying.specs.declared.Copied.TheVariants.{Made, Full}
 
 -- ------------------------------------------------------------------ rows that hang together
 
--- a row's code is a byte
-pub code_byte : {text : List ℕ} {count row : ℕ} → Hangs text count row → column text row 0 < 256
-code_byte (hangs byte variables before parts) = byte
-
 -- an argument that is a variable is one of the first
 pub argument_below : {text : List ℕ} {count row : ℕ} → Hangs text count row → (i : ℕ) → i < arity (column text row 0)
     → VariableBelow count (argument_at text row i)
@@ -346,10 +342,6 @@ module _ {text : List ℕ} {row : ℕ} {env : List ℕ} {made : ℕ} {cells₀ :
         ∙ ended I s M depth known l)
 
 -- ------------------------------------------------------------------ a text
-
--- a value that is a row hangs together
-pub text_hangs : {text : List ℕ} {most sort x : ℕ} {below : Bool} → below ≡ is_row_at sort x → below ≡ true → HangsAt text most sort x → Hangs text most x
-text_hangs told true_is hang = hang.row (sym told ∙ true_is)
 
 module _ {text : List ℕ} {sort x : ℕ} {env : List ℕ} {made : ℕ} {cells : List ℕ} {below : Bool} (told : below ≡ is_row_at sort x) where
   -- a text whose value is a row

@@ -1,7 +1,7 @@
 -- Laws of the sizes of templates held as rows: by the parts of a row, by what is left of a number, and by one pass over the rows.
 use Prim.Native.Nat.{ℕ, zero, suc, ◌+◌, ◌-◌, ◌/◌, ◌<◌, ◌≤◌, min}
 use mathlib.Core.Path.{◌≡◌, refl, sym, ap, ◌∙◌}
-use mathlib.Core.Bool.{Bool, true, false, ◌&&◌, ◌||◌, not, true≢false, and-eq-true_iff}
+use mathlib.Core.Bool.{Bool, true, false, ◌&&◌, ◌||◌, not, and-eq-true_iff}
 use mathlib.Core.List.{List, [], ◌∷◌}
 use native.Mathlib.Omega.{arith}
 use lib.Dec.{eqb, leb, ltb}
@@ -99,10 +99,6 @@ row_size depth text row = ap (λ k. k + 1) (columns_size (λ q. row_template dep
 -- ------------------------------------------------------------------ what is left of a number
 
 module _ (text : List ℕ) (bound x left : ℕ) {variable : Bool} (told : variable ≡ is_variable_name x) where
-  -- a variable has no constructor
-  pub variable_left : variable ≡ true → left ≡ left - part_size bound text x
-  variable_left t = let e : is_variable_name x ≡ true = sym told ∙ t in rw (e, part_size) (omega arith)
-
   module _ (no_variable : variable ≡ false) where
     row_part : part_size bound text x ≡ rows_of (row_template bound text x)
     row_part = let e : is_variable_name x ≡ false = sym told ∙ no_variable in rw (e, part_size) refl
@@ -205,27 +201,12 @@ pub record Passed (text sizes₀ sizes : List ℕ) (row : ℕ) : Type 0 where
   -- those passed have their sizes
   pub sized : SizedBelow text sizes row
 
--- No row has its size at the start.
-pub passed_start : (text sizes : List ℕ) → length sizes ≤ most_cells → Passed text sizes sizes 0
-passed_start text sizes few =
-    record { long = refl; sized = record { few = few; within = omega arith; each = λ q depth l d. absurd (omega arith) } }
-
 module _ {text sizes₀ sizes : List ℕ} {row : ℕ} (passed : Passed text sizes₀ sizes row) where
   -- One row more, whose parts stand before it.
   pub passed_next : row < length sizes → {parts : Parts} {ordered : Bool} {below : ℕ} → parts ≡ parts_at text row → ordered ≡ are_parts row parts
       → ordered ≡ true → below ≡ min largest_term (sum_in sizes parts) → Passed text sizes₀ (set sizes row (below + 1)) (row + 1)
   passed_next l {below = below} ep eo t eb =
       record { long = length-set sizes row (below + 1) ∙ passed.long; sized = sized_next passed.sized l ep eo t eb }
-
-  -- A row whose parts do not all stand before it: nothing is told.
-  pub passed_stop : SizesRows text sizes₀ sizes false
-  passed_stop = record { long = passed.long; sized = λ e. absurd (true≢false (sym e)) }
-
-  -- No row is left.
-  pub passed_end : length sizes ≤ row → SizesRows text sizes₀ sizes true
-  passed_end l =
-      let all : row ≡ length sizes = omega (arith, passed.sized.within) in
-      record { long = passed.long; sized = λ e. rw all at passed.sized }
 
 -- ------------------------------------------------------------------ a text
 

@@ -73,23 +73,19 @@ fn copy_row(
     let n = arity_of(code);
     let mut args = [0u32; 3];
     let mut count = made;
-    let mut i: usize = 0;
-    while i < n {
+    for i in 0..n {
         let x = column(*text, row, i + 1);
         let sort = argument_of(code, i);
-        let below = is_row(sort.0, x);
-        if below {
-            let more = copy_row(text, x, env, count, cells);
-            if more == 0 {
-                return 0;
-            }
-            args[i] = (more - 1) as u32;
-            count = more;
-            i += 1;
-        } else {
+        if !is_row(sort.0, x) {
             args[i] = value_of(sort.0, x, env);
-            i += 1;
+            continue;
         }
+        let more = copy_row(text, x, env, count, cells);
+        if more == 0 {
+            return 0;
+        }
+        args[i] = (more - 1) as u32;
+        count = more;
     }
     if rows_of(cells.len()) <= count {
         return 0;

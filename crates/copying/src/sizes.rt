@@ -72,18 +72,13 @@ fn size_rows(text: &[u32], sizes: &mut [u32]) -> bool
     requires { length sizes.old ≤ most_cells }
     ensures { SizesRows text.now sizes.old sizes.new result }
 {
-    let mut row: usize = 0;
-    while row < sizes.len() {
-        let here = row as u32;
-        let parts = parts_at(text, here);
+    for row in 0..sizes.len() {
+        let parts = parts_at(text, row as u32);
         let ordered = are_parts(row, parts);
-        if ordered {
-            let below = parts_sum(sizes, parts, LARGEST_TERM as u32);
-            sizes[row] = below + 1;
-            row += 1;
-        } else {
+        if !ordered {
             return false;
         }
+        sizes[row] = parts_sum(sizes, parts, LARGEST_TERM as u32) + 1;
     }
     true
 }

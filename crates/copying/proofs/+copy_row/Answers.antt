@@ -4,35 +4,18 @@ use borrow.Author.Rules.{rules}
 use Rattle.copying.proofs.CopyLaws as laws
 use Rattle.copying.proofs.+copy_row.Goals as goal
 
-pub overflow_cast-code : goal.overflow_cast-code
-overflow_cast-code t c = omega (arith, c.column-code.ensures, laws.code_byte c.requires)
-
 pub loop-i-init : goal.loop-i-init
 loop-i-init t c = search laws.copying_start
 
 pub column-x-requires : goal.column-x-requires
 column-x-requires t c = omega (arith, laws.argument_place c.loop-i.invariant c.loop-i-test.true)
 
-pub copy_row-more-requires : goal.copy_row-more-requires
-copy_row-more-requires t c =
-    let found : laws.Found c.args.text.now.now c.args.row c.column-code.result c.arity_of-n.result c.loop-i.i
-    c.argument_of-sort.result.0 c.column-x.result c.is_row-below.result
-    = record { less = c.loop-i-test.true; number_is = c.column-x.ensures; sort_is = c.argument_of-sort.ensures; told = c.is_row-below.ensures } in
-    let copying = c.loop-i.invariant in
-    let pre = c.requires in (
-      omega (arith, laws.part_less copying found c.if-below.true pre),
-      laws.part_whole copying found c.if-below.true pre,
-    )
-
 pub returns-then-more-eq0 : goal.returns-then-more-eq0
 returns-then-more-eq0 t c =
     let found : laws.Found c.args.text.now.now c.args.row c.column-code.result c.arity_of-n.result c.loop-i.i
-    c.argument_of-sort.result.0 c.column-x.result c.is_row-below.result
-    = record { less = c.loop-i-test.true; number_is = c.column-x.ensures; sort_is = c.argument_of-sort.ensures; told = c.is_row-below.ensures } in
-    laws.copying_stops c.loop-i.invariant found c.if-below.true c.copy_row-more.ensures c.if-more-eq0.true
-
-pub overflow_cast-args : goal.overflow_cast-args
-overflow_cast-args t c = omega (arith, c.copy_row-more.ensures.few)
+    c.argument_of-sort.result.0 c.column-x.result c.is_row.result
+    = record { less = c.loop-i-test.true; number_is = c.column-x.ensures; sort_is = c.argument_of-sort.ensures; told = c.is_row.ensures } in
+    laws.copying_stops c.loop-i.invariant found c.if-not-is_row.false c.copy_row-more.ensures c.if-more-eq0.true
 
 pub offset_bounds-args-i : goal.offset_bounds-args-i
 offset_bounds-args-i t c = omega (arith, laws.argument_place c.loop-i.invariant c.loop-i-test.true)
@@ -40,39 +23,36 @@ offset_bounds-args-i t c = omega (arith, laws.argument_place c.loop-i.invariant 
 pub bounds-args-i : goal.bounds-args-i
 bounds-args-i t c = laws.argument_place c.loop-i.invariant c.loop-i-test.true
 
-pub loop-i-preserved-then-below : goal.loop-i-preserved-then-below
-loop-i-preserved-then-below t c =
+pub loop-i-preserved : goal.loop-i-preserved
+loop-i-preserved t c =
     let found : laws.Found c.args.text.now.now c.args.row c.column-code.result c.arity_of-n.result c.loop-i.i
-    c.argument_of-sort.result.0 c.column-x.result c.is_row-below.result
-    = record { less = c.loop-i-test.true; number_is = c.column-x.ensures; sort_is = c.argument_of-sort.ensures; told = c.is_row-below.ensures } in
-    laws.copying_row c.loop-i.invariant found c.if-below.true c.copy_row-more.ensures c.if-more-eq0.false
+    c.argument_of-sort.result.0 c.column-x.result c.is_row.result
+    = record { less = c.loop-i-test.true; number_is = c.column-x.ensures; sort_is = c.argument_of-sort.ensures; told = c.is_row.ensures } in
+    laws.copying_row c.loop-i.invariant found c.if-not-is_row.false c.copy_row-more.ensures c.if-more-eq0.false
     (search rules)
 
 pub value_of-requires : goal.value_of-requires
 value_of-requires t c =
     let found : laws.Found c.args.text.now.now c.args.row c.column-code.result c.arity_of-n.result c.loop-i.i
-    c.argument_of-sort.result.0 c.column-x.result c.is_row-below.result
-    = record { less = c.loop-i-test.true; number_is = c.column-x.ensures; sort_is = c.argument_of-sort.ensures; told = c.is_row-below.ensures } in
+    c.argument_of-sort.result.0 c.column-x.result c.is_row.result
+    = record { less = c.loop-i-test.true; number_is = c.column-x.ensures; sort_is = c.argument_of-sort.ensures; told = c.is_row.ensures } in
     laws.argument_small c.loop-i.invariant found c.requires
 
-pub offset_bounds-args-i-else-below : goal.offset_bounds-args-i-else-below
-offset_bounds-args-i-else-below t c = omega (arith, laws.argument_place c.loop-i.invariant c.loop-i-test.true)
+pub offset_bounds-args-i-in-loop-i : goal.offset_bounds-args-i-in-loop-i
+offset_bounds-args-i-in-loop-i t c = omega (arith, laws.argument_place c.loop-i.invariant c.loop-i-test.true)
 
-pub bounds-args-i-else-below : goal.bounds-args-i-else-below
-bounds-args-i-else-below t c = laws.argument_place c.loop-i.invariant c.loop-i-test.true
+pub bounds-args-i-in-loop-i : goal.bounds-args-i-in-loop-i
+bounds-args-i-in-loop-i t c = laws.argument_place c.loop-i.invariant c.loop-i-test.true
 
-pub loop-i-preserved : goal.loop-i-preserved
-loop-i-preserved t c =
+pub loop-i-preserved-then-not-is_row : goal.loop-i-preserved-then-not-is_row
+loop-i-preserved-then-not-is_row t c =
     let found : laws.Found c.args.text.now.now c.args.row c.column-code.result c.arity_of-n.result c.loop-i.i
-    c.argument_of-sort.result.0 c.column-x.result c.is_row-below.result
-    = record { less = c.loop-i-test.true; number_is = c.column-x.ensures; sort_is = c.argument_of-sort.ensures; told = c.is_row-below.ensures } in
-    laws.copying_value c.loop-i.invariant found c.if-below.false c.value_of.ensures
+    c.argument_of-sort.result.0 c.column-x.result c.is_row.result
+    = record { less = c.loop-i-test.true; number_is = c.column-x.ensures; sort_is = c.argument_of-sort.ensures; told = c.is_row.ensures } in
+    laws.copying_value c.loop-i.invariant found c.if-not-is_row.true c.value_of.ensures
 
 pub returns-then-rows_of-count : goal.returns-then-rows_of-count
 returns-then-rows_of-count t c = search laws.copying_full
-
-pub store_row-requires : goal.store_row-requires
-store_row-requires t c = (omega arith, omega arith)
 
 pub returns : goal.returns
 returns t c = search laws.copying_made

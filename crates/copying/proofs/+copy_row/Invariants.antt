@@ -1,5 +1,4 @@
 -- `copy_row`: a loop over the arguments of a row. What is left of them gives what the row gives; a part stands before its row.
-use Prim.Native.Nat.{◌-◌}
 use Rattle.copying.proofs.CopyLaws as laws
 use Rattle.copying.proofs.+copy_row.Given as goal
 
@@ -9,6 +8,3 @@ decreases-copy_row l = l.row
 abbrev pub invariant-loop-i : goal.invariant-loop-i
 invariant-loop-i l =
     laws.Copying l.text.now l.row l.env l.made l.initial.cells l.code l.n l.cells l.args l.count l.i
-
-abbrev pub decreases-loop-i : goal.decreases-loop-i
-decreases-loop-i l = l.n - l.i

@@ -2,14 +2,8 @@
 use Rattle.copying.proofs.CopyLaws as laws
 use Rattle.copying.proofs.copy_text.Goals as goal
 
-pub copy_row-more-requires : goal.copy_row-more-requires
-copy_row-more-requires c = search laws.text_hangs
-
 pub returns-then-more-eq0 : goal.returns-then-more-eq0
 returns-then-more-eq0 c = search laws.text_full
 
 pub returns-then-below : goal.returns-then-below
 returns-then-below c = search laws.text_row
-
-pub returns : goal.returns
-returns c = search laws.text_value

@@ -2,9 +2,6 @@
 use Rattle.copying.proofs.CopyLaws as laws
 use Rattle.copying.proofs.value_of.Goals as goal
 
-pub bounds-env-i : goal.bounds-env-i
-bounds-env-i c = c.requires c.if-x-eq-VARIABLE_CLASS.true
-
 pub returns-then-x-eq-VARIABLE_CLASS : goal.returns-then-x-eq-VARIABLE_CLASS
 returns-then-x-eq-VARIABLE_CLASS c = search (laws.value_variable, c.requires c.if-x-eq-VARIABLE_CLASS.true)
 

@@ -2,9 +2,6 @@
 use Rattle.copying.proofs.SizeLaws as laws
 use Rattle.copying.proofs.sizes.is_small.Goals as goal
 
-pub bounds-sizes-at : goal.bounds-sizes-at
-bounds-sizes-at c = search laws.told_inside
-
 pub returns-then-ordered-at : goal.returns-then-ordered-at
 returns-then-ordered-at c = search laws.told_small
 
