@@ -7,7 +7,7 @@ use native.Mathlib.Omega.{arith}
 use lib.Dec.{eqb}
 use lib.ListN.{length, get_or}
 use Rattle.kinds.specs.Kinds.{only}
-use Rattle.grammar.specs.Table.{Templates, ide, number, Item, terminal}
+use Rattle.grammar.specs.Table.{Templates, number, Item, terminal}
 use Rattle.expansion.specs.declared.State.{State}
 use Rattle.expansion.specs.declared.Outcome.{Outcome}
 use Rattle.expansion.specs.declared.Outcome.TheVariants.{Value, Halted}
@@ -52,16 +52,6 @@ module _ (kind operand : ℕ) (ts : Templates) where
     pub keyword_read : kind ≡ 0 → {result : Result ℕ} → result ≡ Expansion.take_token input (operand + 2) (λ x. 0) state cells
         → result ≡ run_item callee input (item_by kind operand ts) values state cells
     keyword_read e f = runs (item_is 0 e) f
-
-    -- Kind 1: an ide.
-    pub ide_read : kind ≡ 1 → {result : Result ℕ} → result ≡ Expansion.take_terminal input (ide operand) state cells
-        → result ≡ run_item callee input (item_by kind operand ts) values state cells
-    ide_read e f = runs (item_is 1 e) f
-
-    -- Kind 3: a fresh name.
-    pub local_read : kind ≡ 3 → {result : Result ℕ} → result ≡ fresh_made state cells
-        → result ≡ run_item callee input (item_by kind operand ts) values state cells
-    local_read e f = runs (item_is 3 e) f
 
     module _ (room : List ℕ) (et : input.tokens ≡ tokens_lent room) {value : ℕ} (ev : value ≡ (get_or (tokens_lent room) state.at end_token).value) where
       value-is : value ≡ (next_token input state).value

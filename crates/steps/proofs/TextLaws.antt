@@ -3,11 +3,10 @@ use Prim.Native.Nat.{ℕ, zero, suc, ◌+◌, ◌-◌, ◌/◌, ◌%◌, ◌<◌
 use mathlib.Core.Path.{◌≡◌, refl, sym, ap, ap₂, ◌∙◌}
 use mathlib.Core.List.{List, [], ◌∷◌, ◌++◌}
 use native.Mathlib.Omega.{arith}
-use native.Mathlib.Decide.{ℕ_discrete, dec_lt}
-use lib.ListN.{length, get_or, set, take, drop, replicate, length-set, length-drop, length-append, length-replicate, get_or-replicate, get_or-eq_default}
-use lib.Seq.{get_or-set_same, get_or-set_other, take_all}
+use native.Mathlib.Decide.{dec_lt}
+use lib.ListN.{length, get_or, take, drop, replicate, length-drop, length-append, length-replicate, get_or-replicate, get_or-eq_default}
+use lib.Seq.{take_all}
 use Rattle.grammar.specs.Table.{Template, Templates, variable, outside_var, outside_label, unit, make, none, more}
-use Rattle.grammar.specs.Variables.{most_variables}
 use Rattle.terms.specs.Cells.{rows_lent}
 use Rattle.expansion.specs.declared.State.{State}
 use Rattle.expansion.specs.Run.{Run, return, ◌>>=◌}
@@ -22,41 +21,6 @@ use Rattle.copying.specs.declared.Copied.TheVariants.{Made, Full}
 use Rattle.steps.specs.HeldTexts.{held_value, held_word, held_sort, held_rows, text_at, TextHangs}
 use Rattle.steps.specs.Steps.{Stays}
 use Rattle.steps.specs.TextSteps.{Shows, copied_step, GivesText}
-
--- ------------------------------------------------------------------ the values of the variables, with 0 behind them
-
--- the first `done` of 16 are read
-pub record Showing (vars : List ℕ) (count : ℕ) (env : List ℕ) (done : ℕ) : Type 0 where
-  -- the array has 16 places
-  pub long : length env ≡ 16
-  -- `done` is 16 at most
-  pub small : done ≤ 16
-  -- each has its value
-  pub values : (M : List ℕ) → Holds vars count M → (place : ℕ) → place < done → get_or env place 0 ≡ get_or M place 0
-
--- None is read yet.
-pub showing_start : (vars : List ℕ) (count : ℕ) → Showing vars count (replicate 16 0) 0
-showing_start vars count = record { long = refl; small = omega arith; values = λ M h j l. absurd (omega arith) }
-
--- One more is read.
-pub showing_next : {vars : List ℕ} {count : ℕ} {env : List ℕ} {done value : ℕ} → Showing vars count env done → done < 16
-    → ((M : List ℕ) → Holds vars count M → value ≡ get_or M done 0)
-    → Showing vars count (set env done value) (done + 1)
-showing_next {vars} {count} {env} {done} {value} shown l picked =
-    record {
-      long = length-set env done value ∙ shown.long;
-      small = omega arith;
-      values = λ M h j less. by M h j less (ℕ_discrete j done);
-    }
-  where
-    by : (M : List ℕ) → Holds vars count M → (place : ℕ) → place < done + 1 → Dec (place ≡ done) → get_or (set env done value) place 0 ≡ get_or M place 0
-    by M h place less (yes e) = rw (e, get_or-set_same env done value 0 (omega (arith, shown.long))) (picked M h)
-    by M h place less (no n) = get_or-set_other env done place value 0 n ∙ shown.values M h place (omega arith)
-
--- All 16 are read.
-pub showing_end : {vars : List ℕ} {count : ℕ} {env : List ℕ} {done : ℕ} → Showing vars count env done → 16 ≤ done
-    → (M : List ℕ) → Holds vars count M → Shows env M
-showing_end shown l M h = record { long = shown.long; same = λ j less. shown.values M h j (omega arith) }
 
 -- ------------------------------------------------------------------ values with 0 behind them give the same
 
@@ -121,14 +85,6 @@ module _ {texts : List ℕ} {at word : ℕ} (there : TextHangs texts at) (word_i
   rows_held : rows_from texts word ≡ held_rows texts at
   rows_held =
       take_all (length texts - word / 8) (drop (word / 8) texts) (omega (arith, length-drop (word / 8) texts)) ∙ ap (λ (w : ℕ). drop (w / 8) texts) word_is
-
-  -- The rows that are held for a field hang together.
-  pub text_may : HangsAt (rows_from texts word) most_variables (word % 8) (held_value texts at)
-  text_may = rw (rows_held, word_is) there.hangs
-
-  -- They begin inside.
-  pub text_inside : word / 8 ≤ length texts
-  text_inside = rw word_is there.rows_inside
 
   -- They give what its template gives.
   pub text_given : {vars env : List ℕ} {count done : ℕ} {cells cells' : List ℕ} (made : Copied)

@@ -20,7 +20,6 @@ use grammar::codes::{CALL_ITEM, IDE_ITEM, ITEM_TAG, KEYWORD_ITEM, LOCAL_ITEM, PL
 use grammar::limits::MOST_VARIABLES;
 use kinds::{KEYWORD_KIND, NUMBER_KIND, VARIABLE_KIND};
 use scanner::room::{TOKEN, value_at};
-use spellings::wide_byte;
 use templates::{Arguments, Built, Making, build, build_arguments};
 use terms::FRESH;
 
@@ -66,14 +65,11 @@ fn fresh_name(s: State) -> Outcome
     requires { s.fresh < 2 ^ 31 }
     ensures { GivesFresh s result }
 {
-    let fresh = s.fresh;
     Outcome::Value(
-        FRESH + fresh as u32,
+        FRESH + s.fresh as u32,
         State {
-            at: s.at,
-            fresh: fresh + 1,
-            calls: s.calls,
-            made: s.made,
+            fresh: s.fresh + 1,
+            ..s
         },
     )
 }
@@ -106,12 +102,7 @@ fn no_row(s: State) -> Refusal
 fn with_made(s: State, made: usize) -> State
     ensures { result ≡ with_made s made }
 {
-    State {
-        at: s.at,
-        fresh: s.fresh,
-        calls: s.calls,
-        made,
-    }
+    State { made, ..s }
 }
 
 // A token or a fresh name, as what is done at an offset: the next item stands at another.
@@ -157,7 +148,7 @@ fn value_size(table: &[u8], at: usize) -> usize
     requires { at + 3 ≤ length table.now }
     ensures { result ≡ size_at table.now at }
 {
-    wide_byte(table[at + 1]) * 256 + wide_byte(table[at + 2])
+    table[at + 1] as usize * 256 + table[at + 2] as usize
 }
 
 // What is done at an offset of the table, where a production goes on; `out` takes a call's arguments.

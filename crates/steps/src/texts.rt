@@ -8,8 +8,6 @@ use crate::{no_row, with_made};
 use copying::{Copied, copy_text};
 use expansion::{Outcome, State};
 use grammar::limits::MOST_VARIABLES;
-use spellings::wide_number;
-use templates::pick;
 
 // A field with a text has so many bytes at least, and a pair of numbers.
 const LEAST_FIELD: usize = 4;
@@ -24,11 +22,8 @@ fn values_of(vars: &[u32; MOST_VARIABLES], count: usize) -> [u32; MOST_VARIABLES
     ensures { (M : List ℕ) → Holds vars.now count M → Shows result M }
 {
     let mut env = [0u32; MOST_VARIABLES];
-    let mut i: usize = 0;
-    while i < MOST_VARIABLES {
-        env[i] = pick(vars, count, i);
-        i += 1;
-    }
+    let given = count.min(MOST_VARIABLES);
+    env[..given].copy_from_slice(&vars[..given]);
     env
 }
 
@@ -42,8 +37,10 @@ pub(crate) fn copied_step(copied: Copied, s: State) -> Outcome
     }
 }
 
-// What the text gives that is held for the field at an offset, with `count` variables and `made` cells made.
-fn held_result(
+// What the text gives that is held for the field at an offset, with `count` variables and `made` cells made. It is laid into no caller, so that templates in
+// bytes are evaluated without its frame.
+#[inline(never)]
+pub(crate) fn text_result(
     cells: &mut [u32],
     texts: &[u32],
     vars: &[u32; MOST_VARIABLES],
@@ -56,29 +53,9 @@ fn held_result(
 {
     let pair = at / LEAST_FIELD * PAIR;
     let value = texts[pair];
-    let word = wide_number(texts[pair + 1]);
+    let word = texts[pair + 1] as usize;
     let start = word / SORTS;
     let sort = (word % SORTS) as u8;
     let env = values_of(vars, count);
     copy_text(&texts[start..], sort, value, &env, made, cells)
-}
-
-// The same. It calls itself on what it is never passed, no texts: the back end lays no such function into its caller, so that templates in bytes are
-// evaluated without its frame.
-pub(crate) fn text_result(
-    cells: &mut [u32],
-    texts: &[u32],
-    vars: &[u32; MOST_VARIABLES],
-    at: usize,
-    count: usize,
-    made: usize,
-) -> Copied
-    requires { TextHangs texts.now at }
-    ensures { GivesText texts.now at vars.now count made cells.old result cells.new }
-{
-    if texts.len() == 0 {
-        let none = [0u32; 1];
-        return text_result(cells, &none, vars, at, count, made);
-    }
-    held_result(cells, texts, vars, at, count, made)
 }

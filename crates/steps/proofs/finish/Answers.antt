@@ -10,22 +10,6 @@ use Rattle.steps.proofs.ItemLaws as laws
 use Rattle.steps.proofs.TextLaws as texts
 use Rattle.steps.proofs.finish.Goals as goal
 
-pub overflow_add-from : goal.overflow_add-from
-overflow_add-from c = omega (arith, c.requires.holds.goes_on.inside, c.well_formed.1.1.0)
-
-pub value_size-requires : goal.value_size-requires
-value_size-requires c = omega (arith, c.requires.holds.goes_on.inside)
-
-pub overflow_add-to : goal.overflow_add-to
-overflow_add-to c =
-    let inside : c.args.c.call.next + 3 + c.value_size.result ≤ length c.args.table.now = sources.field_inside c.requires.holds.goes_on c.value_size.ensures in
-    omega (arith, inside, c.well_formed.1.1.0)
-
-pub slice_bounds-build-end : goal.slice_bounds-build-end
-slice_bounds-build-end c =
-    let inside : c.args.c.call.next + 3 + c.value_size.result ≤ length c.args.table.now = sources.field_inside c.requires.holds.goes_on c.value_size.ensures in
-    omega (arith, inside)
-
 pub build-value-requires : goal.build-value-requires
 build-value-requires c =
     let inside : c.args.c.call.next + 3 + c.value_size.result ≤ length c.args.table.now = sources.field_inside c.requires.holds.goes_on c.value_size.ensures in
@@ -40,9 +24,6 @@ build-value-requires c =
             rows_fit = may.rooms.rows_fit;
           };
     }
-
-pub bounds-table-at : goal.bounds-table-at
-bounds-table-at c = omega (arith, c.requires.holds.goes_on.inside)
 
 pub text_result-copied-requires : goal.text_result-copied-requires
 text_result-copied-requires c =

@@ -7,25 +7,10 @@ use Rattle.steps.proofs.SourceLaws as sources
 use Rattle.steps.proofs.ItemLaws as laws
 use Rattle.steps.proofs.item_step.Goals as goal
 
-pub bounds-table-at : goal.bounds-table-at
-bounds-table-at c = omega (arith, c.requires.holds.goes_on.inside)
-
 pub returns-then-table-at-ne-ITEM_TAG : goal.returns-then-table-at-ne-ITEM_TAG
 returns-then-table-at-ne-ITEM_TAG c =
     λ texts patterns there.
     record { does = λ I M reads g. refl; advances = sources.no_item there refl c.if-table-at-ne-ITEM_TAG.true; keeps = refl }
-
-pub overflow_add-from : goal.overflow_add-from
-overflow_add-from c = omega (arith, c.requires.holds.goes_on.inside, c.well_formed.1.1.1.0)
-
-pub value_size-requires : goal.value_size-requires
-value_size-requires c = omega (arith, c.requires.holds.goes_on.inside)
-
-pub overflow_add-next : goal.overflow_add-next
-overflow_add-next c =
-    let inside : c.args.c.call.next + 3 + c.value_size.result ≤ length c.args.table.now =
-    sources.field_inside c.requires.holds.goes_on c.value_size.ensures in
-    omega (arith, inside, c.well_formed.1.1.1.0)
 
 pub bounds-table-from : goal.bounds-table-from
 bounds-table-from c =
@@ -34,24 +19,12 @@ bounds-table-from c =
     let long : 2 ≤ c.value_size.result = sources.item_long c.requires.holds.goes_on c.value_size.ensures c.if-table-at-ne-ITEM_TAG.false in
     omega (arith, inside, long)
 
-pub overflow_add-operand : goal.overflow_add-operand
-overflow_add-operand c =
-    let inside : c.args.c.call.next + 3 + c.value_size.result ≤ length c.args.table.now =
-    sources.field_inside c.requires.holds.goes_on c.value_size.ensures in
-    omega (arith, inside, c.well_formed.1.1.1.0)
-
 pub bounds-table-from-2 : goal.bounds-table-from-2
 bounds-table-from-2 c =
     let inside : c.args.c.call.next + 3 + c.value_size.result ≤ length c.args.table.now =
     sources.field_inside c.requires.holds.goes_on c.value_size.ensures in
     let long : 2 ≤ c.value_size.result = sources.item_long c.requires.holds.goes_on c.value_size.ensures c.if-table-at-ne-ITEM_TAG.false in
     omega (arith, inside, long)
-
-pub slice_bounds-build_arguments-end : goal.slice_bounds-build_arguments-end
-slice_bounds-build_arguments-end c =
-    let inside : c.args.c.call.next + 3 + c.value_size.result ≤ length c.args.table.now =
-    sources.field_inside c.requires.holds.goes_on c.value_size.ensures in
-    omega (arith, inside)
 
 pub build_arguments-listed-requires : goal.build_arguments-listed-requires
 build_arguments-listed-requires c =
@@ -68,9 +41,6 @@ build_arguments-listed-requires c =
             rows_fit = may.rooms.rows_fit;
           };
     }
-
-pub read_item-requires : goal.read_item-requires
-read_item-requires c = record { may_read = c.requires.holds.may_read; no_call = c.if-kind-eq-CALL_ITEM.false }
 
 pub returns-then-kind-eq-CALL_ITEM : goal.returns-then-kind-eq-CALL_ITEM
 returns-then-kind-eq-CALL_ITEM c =

@@ -11,24 +11,6 @@ returns-in-0 c =
       spends = c.take.ensures.spends;
     }
 
-pub returns-in-1 : goal.returns-in-1
-returns-in-1 c =
-    record {
-      reads =
-          λ C I ts M cells et.
-          laws.ide_read _ _ ts C I M c.args.s cells c.in-1.is (c.take_ide.ensures.takes I cells et);
-      spends = c.take_ide.ensures.spends;
-    }
-
-pub returns-in-3 : goal.returns-in-3
-returns-in-3 c =
-    record {
-      reads =
-          λ C I ts M cells et.
-          laws.local_read _ _ ts C I M c.args.s cells c.in-3.is (c.fresh_name.ensures.gives cells);
-      spends = c.fresh_name.ensures.spends;
-    }
-
 pub returns-in-5 : goal.returns-in-5
 returns-in-5 c =
     record {

@@ -1,5 +1,4 @@
 -- `take_ide`: a word, or a token of a text that meets the ide.
-use mathlib.Core.Path.{refl}
 use Rattle.steps.proofs.TokenLaws as laws
 use Rattle.steps.proofs.taking.take_ide.Goals as goal
 
@@ -11,26 +10,4 @@ returns-then-here-eq-WORD_KIND c =
           laws.ide_word I c.args.s cells c.args.sort c.args.tokens.now e c.kind_at-here.ensures
           c.value_at-word.ensures.0 c.if-here-eq-WORD_KIND.true c.word_value.ensures c.behind.ensures;
       spends = laws.taken_spends c.args.s c.behind.ensures;
-    }
-
-pub returns-then-met : goal.returns-then-met
-returns-then-met c =
-    record {
-      takes =
-          λ I cells e.
-          laws.ide_met I c.args.s cells c.args.sort c.args.tokens.now e c.kind_at-here.ensures
-          c.value_at-value.ensures.0 c.meets_ide-met.ensures c.if-met.true c.ide_value.ensures
-          c.behind-then-met.ensures;
-      spends = laws.taken_spends c.args.s c.behind-then-met.ensures;
-    }
-
-pub returns : goal.returns
-returns c =
-    record {
-      takes =
-          λ I cells e.
-          laws.ide_misfits I c.args.s cells c.args.sort c.args.tokens.now e c.kind_at-here.ensures
-          refl c.if-here-eq-WORD_KIND.false c.meets_ide-met.ensures c.if-met.false
-          c.set_of_kind.ensures c.misfit.ensures;
-      spends = tt;
     }
