@@ -6,7 +6,6 @@ ghost use Rattle.frames.specs.Frames.{activation_in, LevelFits, Storable, Saved,
 
 use expansion::MOST_OPEN;
 use grammar::limits::MOST_VARIABLES;
-use spellings::wide_number;
 use steps::Activation;
 
 // Where a frame has the numbers of the activation, behind the values of the variables.
@@ -37,11 +36,7 @@ pub fn save(frames: &mut [u32], level: usize, vars: &[u32; MOST_VARIABLES], call
     ensures { Saved frames.old frames.new level vars.now call }
 {
     let base = level * FRAME;
-    let mut i: usize = 0;
-    while i < MOST_VARIABLES {
-        frames[base + i] = vars[i];
-        i += 1;
-    }
+    frames[base..base + MOST_VARIABLES].copy_from_slice(vars);
     frames[base + PRODUCTION] = call.production as u32;
     frames[base + BEGAN] = call.began as u32;
     frames[base + COUNT] = call.count as u32;
@@ -55,11 +50,7 @@ pub fn load(frames: &[u32], level: usize) -> [u32; MOST_VARIABLES]
 {
     let base = level * FRAME;
     let mut vars = [0u32; MOST_VARIABLES];
-    let mut i: usize = 0;
-    while i < MOST_VARIABLES {
-        vars[i] = frames[base + i];
-        i += 1;
-    }
+    vars.copy_from_slice(&frames[base..base + MOST_VARIABLES]);
     vars
 }
 
@@ -70,10 +61,10 @@ pub fn activation_at(frames: &[u32], level: usize) -> Activation
 {
     let base = level * FRAME;
     Activation {
-        production: wide_number(frames[base + PRODUCTION]),
-        began: wide_number(frames[base + BEGAN]),
-        count: wide_number(frames[base + COUNT]),
-        next: wide_number(frames[base + NEXT]),
+        production: frames[base + PRODUCTION] as usize,
+        began: frames[base + BEGAN] as usize,
+        count: frames[base + COUNT] as usize,
+        next: frames[base + NEXT] as usize,
     }
 }
 
@@ -82,9 +73,5 @@ pub fn copy(frames: &mut [u32], short: &[u32])
     requires { length short.now ≤ length frames.old }
     ensures { frames.new ≡ with_front frames.old short.now }
 {
-    let mut i: usize = 0;
-    while i < short.len() {
-        frames[i] = short[i];
-        i += 1;
-    }
+    frames[..short.len()].copy_from_slice(short);
 }
