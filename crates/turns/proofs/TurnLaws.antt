@@ -19,7 +19,7 @@ use Rattle.steps.specs.declared.ItemStep.{ItemStep}
 use Rattle.steps.specs.declared.ItemStep.TheVariants.{Finished, Stopped, Taken, Opened}
 use Rattle.steps.specs.Source.{Source, alternative_at}
 use Rattle.steps.specs.Steps.{body, weight, Steps, Onward, Advances, Stays}
-use Rattle.frames.specs.Frames.{frame_size, activation_in, most_waiting, LevelFits, CallFits, Saved, Loaded, Frame, resume, ahead, owed, Waits, Stacked}
+use Rattle.frames.specs.Frames.{frame_size, most_waiting, LevelFits, CallFits, Saved, Frame, resume, ahead, owed, Waits, Stacked}
 use Rattle.frames.specs.Frames.{stacked_none, stacked_one, Standing}
 use Rattle.frames.proofs.FrameLaws.{resume_halt, stacked_same, stacked_more, waits_next, waits_count, waits_fits, waits_saved, waits_holds}
 use Rattle.turns.specs.declared.begins.Begun.{Begun}
@@ -35,12 +35,6 @@ use Rattle.turns.specs.Turns.{Goes, TurnStands, Turns}
 use Rattle.turns.proofs.BeginLaws.{positive, entry_weight}
 use Rattle.grammar.specs.Limits.{most}
 use Rattle.expansion.specs.Limits.{most_calls}
-
--- The call at a level of the room is read back.
-pub resumes_at : {frames : List ℕ} {from : Resumption} {vars : List ℕ} → Loaded frames from.level vars → {call : Activation}
-    → call ≡ activation_in frames from.level
-    → Resumes frames from vars (record { call = call; level = from.level; state = from.state })
-resumes_at l e = record { loaded = l; cursor_is = rw e }
 
 -- The call at a level of the room is loaded.
 pub going_resumed : {input : Input} {S : Source} {frames : List ℕ} {from : Resumption} {cells : List ℕ} {result : Result ℕ}

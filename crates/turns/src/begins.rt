@@ -1,5 +1,5 @@
 // The beginning of a call.
-ghost use Rattle.std.specs.Prelude.{◌≤◌, ◌≡◌};
+ghost use Rattle.std.specs.Prelude.{ℕ, ◌<◌, ◌≤◌, ◌≡◌};
 ghost use Rattle.expansion.specs.Expansion.{call_begun, initial_state};
 ghost use Rattle.expansion.specs.Limits.{most_open, most_calls};
 ghost use Rattle.turns.specs.Lent.{MayBegin};
@@ -26,11 +26,38 @@ fn with_call(s: State) -> State
     ensures { result ≡ call_begun s }
 {
     State {
-        at: s.at,
-        fresh: s.fresh,
         calls: s.calls + 1,
-        made: s.made,
+        ..s
     }
+}
+
+// The production that is chosen at the next token is entered; 17 if there is none.
+#[inline(always)]
+fn enter(
+    memory: &mut [u8; MEMORY],
+    room: &[u64; ROOM],
+    tokens: &[u32],
+    nonterminal: u8,
+    given: usize,
+    s: State,
+) -> Begun
+    requires may_begin { MayBegin room.now memory.old tokens.now }
+    requires may_call { s.calls < most_calls }
+    ensures { (depth : ℕ) → 0 < depth → StartsFor room.now memory.old tokens.now depth nonterminal given s result memory.new }
+{
+    let n = tokens.len() / TOKEN;
+    let kind = kind_at(tokens, n, s.at);
+    let place = choose(room, memory, nonterminal, kind);
+    if place < NO_PLACE {
+        let call = Activation {
+            production: place,
+            began: s.at,
+            count: given,
+            next: start(room, place),
+        };
+        return Begun::Entered(call, with_call(s));
+    }
+    Begun::Refused(misfit(s.at, kinds_of(room, nonterminal)))
 }
 
 // The beginning of a call of a nonterminal with so many arguments, while `depth` more calls may be open: tested 19, 20, 17. It has one caller, the loop
@@ -47,27 +74,13 @@ pub fn begin(
     requires { MayBegin room.now memory.old tokens.now }
     ensures { StartsFor room.now memory.old tokens.now depth nonterminal given s result memory.new }
 {
-    let at = s.at;
-    let calls = s.calls;
     if depth == 0 {
-        return Begun::Refused(refuse(TOO_MANY_OPEN_CALLS, at as u64, 0, 0));
+        return Begun::Refused(refuse(TOO_MANY_OPEN_CALLS, s.at as u64, 0, 0));
     }
-    if MOST_CALLS <= calls {
-        return Begun::Refused(refuse(TOO_MANY_CALLS, at as u64, 0, 0));
+    if MOST_CALLS <= s.calls {
+        return Begun::Refused(refuse(TOO_MANY_CALLS, s.at as u64, 0, 0));
     }
-    let n = tokens.len() / TOKEN;
-    let kind = kind_at(tokens, n, at);
-    let place = choose(room, memory, nonterminal, kind);
-    if place < NO_PLACE {
-        let call = Activation {
-            production: place,
-            began: at,
-            count: given,
-            next: start(room, place),
-        };
-        return Begun::Entered(call, with_call(s));
-    }
-    Begun::Refused(misfit(at, kinds_of(room, nonterminal)))
+    enter(memory, room, tokens, nonterminal, given, s)
 }
 
 // The beginning of the root's call, which has no arguments: none is open and none was begun, so that only 17 is tested.
@@ -81,17 +94,5 @@ pub fn begin_root(memory: &mut [u8; MEMORY], room: &[u64; ROOM], tokens: &[u32],
         calls: 0,
         made: 0,
     };
-    let n = tokens.len() / TOKEN;
-    let kind = kind_at(tokens, n, 0);
-    let place = choose(room, memory, root, kind);
-    if place < NO_PLACE {
-        let call = Activation {
-            production: place,
-            began: 0,
-            count: 0,
-            next: start(room, place),
-        };
-        return Begun::Entered(call, with_call(s));
-    }
-    Begun::Refused(misfit(0, kinds_of(room, root)))
+    enter(memory, room, tokens, root, 0, s)
 }
