@@ -23,7 +23,8 @@ pub overflow_add-due : goal.overflow_add-due
 overflow_add-due c =
     let k = room (goal.at.overflow_add-due c).Else-size-v in
     let a = c.args in
-    let n : laws.Due a.v.now a.from a.single (c.saturating_sub.result + c.argument_count.result) (c.loop-i.i + c.head_size-size.result) = search laws.due_next in
+    let n : laws.Due a.v.now a.from a.single (c.saturating_sub.result + c.argument_count.result) (c.loop-i.i + c.head_size-size.result)
+    = search laws.due_next in
     omega (arith, n.small)
 
 pub overflow_add-i : goal.overflow_add-i

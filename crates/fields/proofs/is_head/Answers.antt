@@ -10,7 +10,8 @@ use Rattle.fields.proofs.is_head.Goals as goal
 
 pub returns-then-sized : goal.returns-then-sized
 returns-then-sized c =
-    let sorts = all_from_yields_List is_sort _ _ c.all.result c.all.ensures.ran (YieldsList-from_slice _ c.iter.ensures.rest) (λ x b q k. search (rules, tests)) in
+    let sorts = all_from_yields_List is_sort _ _ c.all.result c.all.ensures.ran (YieldsList-from_slice _ c.iter.ensures.rest)
+    (λ x b q k. search (rules, tests)) in
     laws.head_sorts c.args.v.now sorts ∙ laws.head_by _ c.byte.ensures c.byte-2.ensures true c.if-sized.true
 
 pub returns-else-sized : goal.returns-else-sized

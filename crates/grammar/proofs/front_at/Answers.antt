@@ -18,5 +18,6 @@ returns-then-left-size c = sym (laws.front_cut _ _ c.if-table-at.false (omega (a
 pub returns : goal.returns
 returns c =
     let a = c.args in
-    let size : c.from_be_bytes-size.result ≡ get_or a.table.now (a.at + 1) 0 * 256 + get_or a.table.now (a.at + 2) 0 = omega (arith, c.from_be_bytes-size.ensures) in
+    let size : c.from_be_bytes-size.result ≡ get_or a.table.now (a.at + 1) 0 * 256 + get_or a.table.now (a.at + 2) 0
+    = omega (arith, c.from_be_bytes-size.ensures) in
     rw size (sym (laws.front_is a.table.now a.at c.if-table-at.false c.if-left-lt-HEADER.false refl refl (omega (arith, c.if-left-size.false))))
