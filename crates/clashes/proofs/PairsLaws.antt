@@ -92,14 +92,6 @@ module _ (room : List ℕ) where
   after_more place h =
       by_test (ltb place (next_place_in room place)) (λ e. rw (e, after_in) (ltb-true place (next_place_in room place) e)) (λ e. rw (e, after_in) h)
 
-  -- a link that leads on
-  pub after_on : (place : ℕ) {next : ℕ} → next ≡ next_place_in room place → place < next → next ≡ after_in room place
-  after_on place {next} e h = sym (rw (lt-ltb place (next_place_in room place) (omega arith), after_in) (sym e))
-
-  -- one that does not
-  pub after_end : (place : ℕ) {next : ℕ} → next ≡ next_place_in room place → next ≤ place → 256 ≡ after_in room place
-  after_end place e h = sym (rw (le-ltb place (next_place_in room place) (omega arith), after_in) refl)
-
   after_less : (place next_place : ℕ) → place < 256 → next_place ≡ after_in room place → 256 - next_place < 256 - place
   after_less place next_place h e = omega (arith, after_more place h)
 
