@@ -60,8 +60,8 @@ module _ {pool cells numbers : List ℕ} {depth row place : ℕ} (m : TermMeasur
   MeasuredTerm count place' = Measured Long (size_at cells depth row) place count place'
 
   -- its place is that of a number
-  pub term_there : (place < length numbers) × (length numbers ≤ 16384)
-  term_there = (omega (arith, m.inside, size-some (term_at depth no_spell cells row)), m.few)
+  pub term_there : place < length numbers
+  term_there = omega (arith, m.inside, size-some (term_at depth no_spell cells row))
 
   -- the place behind it is a number of 64 bits
   pub term_next : val.Fits w64 (place + 1)

@@ -1,9 +1,8 @@
 // The length of the text of a term, found without the text.
 #![tactic(auto)]
 
-ghost use Rattle.std.specs.Prelude.{◌<◌, ◌≤◌, ◌≡◌, length, get_or};
+ghost use Rattle.std.specs.Prelude.{◌≡◌, length};
 ghost use Rattle.spellings.specs.Bytes.{decimal};
-ghost use Rattle.terms.specs.Term.{largest_term};
 ghost use Rattle.rows.specs.Sizes.{size_at, size_fields_at};
 ghost use Rattle.writer.specs.Pool.{spell_in};
 ghost use Rattle.writer.specs.Beginnings.{name_text};
@@ -45,13 +44,6 @@ fn name_length(pool: &&[u8], x: u32, shown: u16) -> usize
     label_length(pool, x % NAME_BASE)
 }
 
-fn shown_at(shown: &[u16], place: usize) -> u16
-    requires { (place < length shown.now) × (length shown.now ≤ largest_term) }
-    ensures { result ≡ get_or shown.now place 0 }
-{
-    shown[place]
-}
-
 // The length of the text of the term at a row. `place` moves on by its constructors.
 #[cycle(length_fields_length_term)]
 fn length_term(
@@ -76,9 +68,9 @@ fn length_term(
     let first = column(*cells, row, 1);
     let last = column(*cells, row, 2);
     match code {
-        TERM_VAR => 11 + name_length(pool, first, shown_at(*shown, here)),
+        TERM_VAR => 11 + name_length(pool, first, shown[here]),
         TERM_FUN => {
-            let name = name_length(pool, first, shown_at(*shown, here));
+            let name = name_length(pool, first, shown[here]);
             12 + name + length_term(pool, cells, shown, deep, last, place)
         }
         TERM_APP => {

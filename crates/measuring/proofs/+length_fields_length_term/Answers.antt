@@ -83,14 +83,14 @@ length_term-overflow_add-place t c = search laws.term_next
 pub length_term-returns-then-bound-eq0 : goal.length_term-returns-then-bound-eq0
 length_term-returns-then-bound-eq0 t c = search laws.shallow_measured
 
-pub length_term-shown_at-requires : goal.length_term-shown_at-requires
-length_term-shown_at-requires t c = search laws.term_there
+pub length_term-bounds-shown-here : goal.length_term-bounds-shown-here
+length_term-bounds-shown-here t c = search laws.term_there
 
 pub length_term-overflow_add-result : goal.length_term-overflow_add-result
 length_term-overflow_add-result t c = search laws.var_small
 
-pub length_term-shown_at-requires-in-33 : goal.length_term-shown_at-requires-in-33
-length_term-shown_at-requires-in-33 t c = search laws.term_there
+pub length_term-bounds-shown-here-in-33 : goal.length_term-bounds-shown-here-in-33
+length_term-bounds-shown-here-in-33 t c = search laws.term_there
 
 pub length_term-overflow_add-result-in-33 : goal.length_term-overflow_add-result-in-33
 length_term-overflow_add-result-in-33 t c = search laws.fun_front_small
