@@ -33,7 +33,8 @@ index_fits indexable = indexable.fits
 
 module _ {bs : List ℕ} {many : ℕ} {owners₀ starts₀ owners starts : List ℕ} (built : BuiltIndex bs many owners₀ starts₀ owners starts) where
   -- The kinds that are reached in an index that was built are those of its bytes.
-  pub kinds_in_lem : (start : ℕ) {kinds : ℕ} → kinds ≡ kinds_reached (productions_by many bs owners starts) start → kinds ≡ kinds_reached (productions_in bs) start
+  pub kinds_in_lem : (start : ℕ) {kinds : ℕ} → kinds ≡ kinds_reached (productions_by many bs owners starts) start
+      → kinds ≡ kinds_reached (productions_in bs) start
   kinds_in_lem start e = e ∙ rw built.index.entries refl
 
   -- Its room and the verdict are what a text asks for.

@@ -1,5 +1,5 @@
--- The check of one field with a text, by the bytes of its table: as `check_text` of the elaboration has it, with the bytes up to the text's block for the blocks
--- before. These mirror code: nobody needs them to believe `expand`.
+-- The check of one field with a text, by the bytes of its table: as `check_text` of the elaboration has it, with the bytes up to the text's block for the
+-- blocks before. These mirror code: nobody needs them to believe `expand`.
 use Rattle.std.specs.Prelude.{ℕ, ◌&&◌, List, leb, ltb, length, get_or, take}
 use Rattle.answers.specs.Refusals.{refusal}
 use Rattle.answers.specs.Checked.{Checked, bad, ◌>>◌, need}

@@ -95,5 +95,6 @@ module _ (tokens : List ℕ) (head : TextHead) (cells : List ℕ) (S : Source) {
   explained_halted e = record { explains = ap (λ q. unread_because (reading_of head.sort q)) (again e) }
 
   -- Where it is done, its size tells.
-  pub explained_done : {x : ℕ} {s : State} → outcome ≡ Value x s → {r : TextFault} → cause_of r ≡ because_of head.sort x s cells' → Explains tokens head cells r S
+  pub explained_done : {x : ℕ} {s : State} → outcome ≡ Value x s → {r : TextFault} → cause_of r ≡ because_of head.sort x s cells'
+      → Explains tokens head cells r S
   explained_done e q = record { explains = q ∙ ap (λ q. unread_because (reading_of head.sort q)) (again e) }

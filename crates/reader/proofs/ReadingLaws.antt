@@ -22,7 +22,8 @@ use Rattle.expansion.specs.Expansion.{Grammar, ready_for, run}
 use Rattle.steps.specs.Source.{Source, source_of, productions_from, SomeLent}
 use Rattle.steps.specs.Steps.{tokens_lent}
 use Rattle.parser.proofs.Cutting.{cut_tokens}
-use Rattle.texts.specs.Reading.{TextContext, lexicon_for, ready_text, rows_left, as_outside, has_number, is_scanned, other_words, run_text, reading_of, unread_because}
+use Rattle.texts.specs.Reading.{TextContext, lexicon_for, ready_text, rows_left, as_outside, has_number, is_scanned, other_words, run_text, reading_of}
+use Rattle.texts.specs.Reading.{unread_because}
 use Rattle.texts.specs.Reading.{read_else, TextRead, check_reading}
 use Rattle.reader.specs.declared.judging.TextFault.{TextFault}
 use Rattle.reader.specs.declared.judging.TextFault.TheVariants.{Unread}

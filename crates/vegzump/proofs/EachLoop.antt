@@ -6,7 +6,8 @@ use native.Mathlib.Decide.{dec_le}
 use native.Mathlib.Numerals.{add-one}
 use native.Mathlib.Omega.{arith}
 use lib.ListN.{length, get_or, take, drop, length-append, length-take, length-drop, take-append-drop, drop_of_length-le}
-use lib.Seq.{take_all, take-nil, take_at, drop_at, take-append-add, drop-append-add, drop-drop, length-take-le, drop-cons, get_or-take, sets, length-sets, sets-eq}
+use lib.Seq.{take_all, take-nil, take_at, drop_at, take-append-add, drop-append-add, drop-drop, length-take-le, drop-cons, get_or-take}
+use lib.Seq.{sets, length-sets, sets-eq}
 use borrow.Rule.Slice.PartMut.{put_mid, mid_of}
 use Rattle.answers.specs.declared.Answer.{Answer}
 use Rattle.terms.specs.Emit.{text_of}

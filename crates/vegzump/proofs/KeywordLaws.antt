@@ -127,7 +127,8 @@ module _ (bs : List ℕ) (bytes : Bytes bs)
       by (ok t) e = let read = (decode_exactly bs bytes t).0 e in sorted t read.0 read.1 (check_sorts t) refl
 
   -- an expansion of any writing
-  pub expands_same : (write : Term Name → List ℕ) (formula cells text : List ℕ) → expand_by write bs formula cells text ≡ expand_every write bs formula cells text
+  pub expands_same : (write : Term Name → List ℕ) (formula cells text : List ℕ)
+      → expand_by write bs formula cells text ≡ expand_every write bs formula cells text
   unfolding expand_by expand_every
   expands_same write formula cells text = ap (λ (checked : Checked Syntax). checked_first write checked formula cells text) passed_same
 

@@ -59,5 +59,6 @@ module _ (written wanted : ℕ) (table formula cells list : List ℕ) where
       accepted_list made size count accepted {meant} means = (
         portions_of written wanted meant,
         portions_exactly written wanted allowed.0 meant,
-        rw as_expansion (demands.accepted_text (portions_of written wanted) table formula cells list passes made size count (rw as_expansion at accepted) means),
+        rw as_expansion
+            (demands.accepted_text (portions_of written wanted) table formula cells list passes made size count (rw as_expansion at accepted) means),
       )
