@@ -1,8 +1,7 @@
 -- What a check gives: a value, or the first refusal. Checks are done in order: `do` goes on only after what passed.
-use Rattle.std.specs.Prelude.{ℕ, Bool, true, false}
+use Rattle.std.specs.Prelude.{ℕ, Bool, true, false, Ok, Err}
 use Rattle.answers.specs.declared.Refusal.{Refusal}
-use Rattle.answers.specs.declared.Verdict.{Verdict, TheVariants.Passed, TheVariants.Refused}
-use Rattle.answers.specs.Refusals.{refusal}
+use Rattle.answers.specs.Refusals.{Verdict, refusal}
 
 infixl 15 ◌>>=◌ ◌>>◌
 pub data Checked (A : Type 0) : Type 0 where
@@ -24,5 +23,5 @@ need false n at = bad (refusal n at 0 0)
 
 -- the answer of a check whose value is not asked for
 abbrev pub verdict : {A : Type 0} → Checked A → Verdict
-verdict (ok a) = Passed
-verdict (bad r) = Refused r
+verdict (ok a) = Ok tt
+verdict (bad r) = Err r

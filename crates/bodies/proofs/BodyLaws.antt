@@ -12,8 +12,7 @@ use Rattle.spellings.proofs.BytesLaws.{by_test}
 use Rattle.std.specs.Prelude.{Result, Ok, Err, ⊤}
 use Rattle.grammar.specs.Sorts.{unit, binder, num}
 use Rattle.bodies.specs.declared.Known.{Known}
-use Rattle.bodies.specs.declared.ItemSort.{ItemSort}
-use Rattle.bodies.specs.declared.ItemSort.TheVariants.{As, Unsorted}
+use Rattle.bodies.specs.Faults.{ItemSort}
 use Rattle.bodies.specs.declared.Fault.{Fault}
 use Rattle.bodies.specs.declared.Fault.TheVariants.{Undefined}
 use Rattle.judgements.proofs.TemplateSorts.{both}
@@ -96,7 +95,7 @@ module _ (bs : List ℕ) (known : Known) (heads L : List ℕ) (count : ℕ) (arg
   -- by the test of the head
   call_by :
       (missing : Bool) → eqb head 0 ≡ missing
-      → choose (Unsorted Undefined)
+      → choose (Err Undefined)
       (unless_faulty (get_or (signature_at bs head) 0 0) (templates_fault known.outsides (take known.variables L) arguments (drop 1 (signature_at bs head))))
       missing
       ≡ call_at bs known heads L count arguments
@@ -107,13 +106,13 @@ module _ (bs : List ℕ) (known : Known) (heads L : List ℕ) (count : ℕ) (arg
       cc
 
   -- the nonterminal has no head
-  pub call_undefined : head ≡ 0 → Unsorted Undefined ≡ call_at bs known heads L count arguments
+  pub call_undefined : head ≡ 0 → Err Undefined ≡ call_at bs known heads L count arguments
   call_undefined z = call_by true (eq-eqb head 0 z)
 
   -- no arguments, where the signature has no parameters
   pub call_bare :
       {sort : ℕ} {signature : List ℕ} → (head ≡ 0 → ⊥) → signature ≡ signature_at bs head → (eqb (length arguments) 0 && leb (length signature) 1) ≡ true
-      → sort ≡ get_or signature 0 0 → As sort ≡ call_at bs known heads L count arguments
+      → sort ≡ get_or signature 0 0 → Ok sort ≡ call_at bs known heads L count arguments
   unfolding templates_fault closed_bytes fill_bytes
   call_bare {sort} {signature} declared agrees e f =
       let (a, b) = both (eqb (length arguments) 0) (leb (length signature) 1) e in
@@ -127,11 +126,11 @@ module _ (bs : List ℕ) (known : Known) (heads L : List ℕ) (count : ℕ) (arg
     call_tested = cc (call_by false (ne_eqb head 0 declared))
 
     -- the arguments have a fault
-    pub call_unfit : {fault : Fault} → tested ≡ Err fault → Unsorted fault ≡ call_at bs known heads L count arguments
+    pub call_unfit : {fault : Fault} → tested ≡ Err fault → Err fault ≡ call_at bs known heads L count arguments
     call_unfit f = cc call_tested
 
     -- they have none
-    pub call_fit : {sort : ℕ} → tested ≡ Ok tt → sort ≡ get_or signature 0 0 → As sort ≡ call_at bs known heads L count arguments
+    pub call_fit : {sort : ℕ} → tested ≡ Ok tt → sort ≡ get_or signature 0 0 → Ok sort ≡ call_at bs known heads L count arguments
     call_fit f g = cc call_tested
 
 -- ------------------------------------------------------------------ items
@@ -139,8 +138,8 @@ module _ (bs : List ℕ) (known : Known) (heads L : List ℕ) (count : ℕ) (arg
 module _ (bs : List ℕ) (known : Known) (heads L value : List ℕ) {kind operand : ℕ} (equal : kind ≡ get_or value 0 0) (agrees : operand ≡ get_or value 1 0) where
   item_tests : ℕ → Bool → Bool → Bool → Bool → Bool → ItemSort
   item_tests o keyword ide local call place =
-      choose (choose (As unit) (Unsorted Undefined) (ltb o known.keywords))
-      (choose (As o) (choose (As binder) (choose (call_at bs known heads L o (drop 2 value)) (choose (As o) (As num) place) call) local) ide)
+      choose (choose (Ok unit) (Err Undefined) (ltb o known.keywords))
+      (choose (Ok o) (choose (Ok binder) (choose (call_at bs known heads L o (drop 2 value)) (choose (Ok o) (Ok num) place) call) local) ide)
       keyword
 
   item_by : ℕ → ℕ → ItemSort
@@ -151,22 +150,22 @@ module _ (bs : List ℕ) (known : Known) (heads L value : List ℕ) {kind operan
   item_is g = sym (ap₂ item_by (sym equal ∙ g) (sym agrees))
 
   -- a keyword that is defined
-  pub item_keyword : kind ≡ 0 → operand < known.keywords → As 0 ≡ item_at bs known heads L value
+  pub item_keyword : kind ≡ 0 → operand < known.keywords → Ok 0 ≡ item_at bs known heads L value
   unfolding item_by item_tests
-  item_keyword g h = ap (choose (As unit) (Unsorted Undefined)) (sym (lt-ltb operand known.keywords (omega arith))) ∙ item_is g
+  item_keyword g h = ap (choose (Ok unit) (Err Undefined)) (sym (lt-ltb operand known.keywords (omega arith))) ∙ item_is g
 
   -- one that is not
-  pub item_unknown : kind ≡ 0 → known.keywords ≤ operand → Unsorted Undefined ≡ item_at bs known heads L value
+  pub item_unknown : kind ≡ 0 → known.keywords ≤ operand → Err Undefined ≡ item_at bs known heads L value
   unfolding item_by item_tests
-  item_unknown g h = ap (choose (As unit) (Unsorted Undefined)) (sym (le-ltb operand known.keywords (omega arith))) ∙ item_is g
+  item_unknown g h = ap (choose (Ok unit) (Err Undefined)) (sym (le-ltb operand known.keywords (omega arith))) ∙ item_is g
 
   -- an identifier at a sort
-  pub item_ide : kind ≡ 1 → As operand ≡ item_at bs known heads L value
+  pub item_ide : kind ≡ 1 → Ok operand ≡ item_at bs known heads L value
   unfolding item_by item_tests
   item_ide g = item_is g
 
   -- a local is a Binder
-  pub item_local : kind ≡ 3 → As 2 ≡ item_at bs known heads L value
+  pub item_local : kind ≡ 3 → Ok 2 ≡ item_at bs known heads L value
   unfolding item_by item_tests
   item_local g = item_is g
 
@@ -178,12 +177,12 @@ module _ (bs : List ℕ) (known : Known) (heads L value : List ℕ) {kind operan
       ap (call_at bs known heads L operand) (a ∙ take_all (length value) (drop 2 value) (omega (arith, length-drop 2 value))) ∙ item_is g
 
   -- a pattern place of a sort
-  pub item_place : kind ≡ 5 → As operand ≡ item_at bs known heads L value
+  pub item_place : kind ≡ 5 → Ok operand ≡ item_at bs known heads L value
   unfolding item_by item_tests
   item_place g = item_is g
 
   -- no kind that is tested
-  pub item_other : ((((Unit {0} × (kind ≡ 0 → ⊥)) × (kind ≡ 1 → ⊥)) × (kind ≡ 3 → ⊥)) × (kind ≡ 4 → ⊥)) × (kind ≡ 5 → ⊥) → As 6
+  pub item_other : ((((Unit {0} × (kind ≡ 0 → ⊥)) × (kind ≡ 1 → ⊥)) × (kind ≡ 3 → ⊥)) × (kind ≡ 4 → ⊥)) × (kind ≡ 5 → ⊥) → Ok 6
       ≡ item_at bs known heads L value
   unfolding item_by item_tests
   item_other (((((u, a), b), c), d), e) =

@@ -5,8 +5,7 @@ use mathlib.Core.Bool.{Bool, true, false}
 use mathlib.Core.List.{List}
 use lib.ListN.{length}
 use Rattle.std.specs.Prelude.{Result, Ok, Err, ⊤}
-use Rattle.answers.specs.declared.Verdict.{Verdict}
-use Rattle.answers.specs.declared.Verdict.TheVariants.{Passed, Refused}
+use Rattle.answers.specs.Refusals.{Verdict}
 use Rattle.answers.specs.Refusals.{refusal}
 use Rattle.grammar.specs.declared.FieldSpan.{FieldSpan}
 use Rattle.grammar.specs.Lookup.{field_at, fields_at}
@@ -27,19 +26,19 @@ pub record Collecting (bs : List ℕ) (block from : ℕ) (heads₀ : List ℕ) (
 pub collecting_start : {bs : List ℕ} {block from : ℕ} {heads₀ : List ℕ} → Collecting bs block from heads₀ from heads₀
 collecting_start = record { as_many = refl; rest = refl }
 
-collect_walk : (bs : List ℕ) (block : ℕ) (heads : List ℕ) → Walk (λ fs. collect_from fs bs block heads) (collected Passed heads)
+collect_walk : (bs : List ℕ) (block : ℕ) (heads : List ℕ) → Walk (λ fs. collect_from fs bs block heads) (collected (Ok tt) heads)
 unfolding collect_from
 collect_walk bs block heads = record { at-end = λ at. refl; at_cut = λ at. refl; at_none = λ at to. refl }
 
 module _ {bs : List ℕ} {block from : ℕ} {heads₀ : List ℕ} {at : ℕ} {heads : List ℕ} (collecting : Collecting bs block from heads₀ at heads) where
   -- at the end
-  pub collecting_end : length bs ≤ at → collected Passed heads ≡ collect_from (fields_at bs from) bs block heads₀
+  pub collecting_end : length bs ≤ at → collected (Ok tt) heads ≡ collect_from (fields_at bs from) bs block heads₀
   collecting_end h = sym (walk_end (collect_walk bs block heads) bs at h) ∙ collecting.rest
 
   module _ {field : FieldSpan} (equal : field ≡ field_at bs at) where
     -- the field, by whether it ends the block
     field_is : (ends : Bool) → ends_block field.tag ≡ ends
-        → choose (collected Passed heads)
+        → choose (collected (Ok tt) heads)
         (collect_after (fault_at field.tag bs at block heads) at heads
         (collect_from (fields_at bs field.to) bs block (heads_with field.tag bs at heads)))
         ends
@@ -48,14 +47,14 @@ module _ {bs : List ℕ} {block from : ℕ} {heads₀ : List ℕ} {at : ℕ} {he
     field_is ends e = cc (walk_field (collect_walk bs block heads) bs at equal, collecting.rest)
 
     -- at the next block or the root
-    pub collecting_ends : ends_block field.tag ≡ true → collected Passed heads ≡ collect_from (fields_at bs from) bs block heads₀
+    pub collecting_ends : ends_block field.tag ≡ true → collected (Ok tt) heads ≡ collect_from (fields_at bs from) bs block heads₀
     collecting_ends e = field_is true e
 
     module _ {tested : Result ⊤ Fault} {heads' : List ℕ} (agrees : ends_block field.tag ≡ false)
         (defined : Defined bs at field.tag block heads tested heads') where
       -- at a head that is refused
       pub collecting_fault :
-          {fault : Fault} {number : ℕ} {verdict : Verdict} → tested ≡ Err fault → number ≡ cause_of fault → verdict ≡ Refused (refusal number at 0 0)
+          {fault : Fault} {number : ℕ} {verdict : Verdict} → tested ≡ Err fault → number ≡ cause_of fault → verdict ≡ Err (refusal number at 0 0)
           → collected verdict heads' ≡ collect_from (fields_at bs from) bs block heads₀
       collecting_fault f n q = cc (field_is false agrees, defined.tested_is, defined.heads_are)
 

@@ -5,8 +5,7 @@ use Rattle.std.specs.Prelude.{ℕ, ◌+◌, ◌-◌, ◌≤◌, ◌≡◌, true,
 use Rattle.grammar.specs.Sorts.{unit, binder, num}
 use Rattle.grammar.specs.Variables.{most_variables}
 use Rattle.bodies.specs.declared.Known.{Known}
-use Rattle.bodies.specs.declared.ItemSort.{ItemSort}
-use Rattle.bodies.specs.declared.ItemSort.TheVariants.{As, Unsorted}
+use Rattle.bodies.specs.Faults.{ItemSort}
 use Rattle.bodies.specs.declared.Fault.{Fault}
 use Rattle.bodies.specs.declared.Fault.TheVariants.{Undefined}
 use Rattle.bodies.specs.TemplateBytes.{templates_fault, places}
@@ -14,15 +13,15 @@ use Rattle.bodies.specs.HeadBytes.{signature_at}
 
 -- a sort, unless there is a fault
 abbrev pub unless_faulty : ℕ → Result ⊤ Fault → ItemSort
-unless_faulty s (Ok tt) = As s
-unless_faulty s (Err fault) = Unsorted fault
+unless_faulty s (Ok tt) = Ok s
+unless_faulty s (Err fault) = Err fault
 
 -- a call of n with its arguments' bytes, where k is known, H has the heads and L is the room of the sorts
 unfoldable pub call_at : List ℕ → Known → List ℕ → List ℕ → ℕ → List ℕ → ItemSort
 call_at bs k H L n arguments =
     let h : ℕ = get_or H n 0 in
     elim (eqb h 0) [
-      | true ↦ Unsorted Undefined
+      | true ↦ Err Undefined
       | false ↦
           unless_faulty (get_or (signature_at bs h) 0 0)
           (templates_fault k.outsides (take k.variables L) arguments (drop 1 (signature_at bs h)))
@@ -32,17 +31,17 @@ call_at bs k H L n arguments =
 unfoldable pub item_at : List ℕ → Known → List ℕ → List ℕ → List ℕ → ItemSort
 item_at bs k H L v =
     elim (eqb (get_or v 0 0) 0) [
-      | true ↦ elim (ltb (get_or v 1 0) k.keywords) [ true ↦ As unit | false ↦ Unsorted Undefined ]
+      | true ↦ elim (ltb (get_or v 1 0) k.keywords) [ true ↦ Ok unit | false ↦ Err Undefined ]
       | false ↦
           elim (eqb (get_or v 0 0) 1) [
-            | true ↦ As (get_or v 1 0)
+            | true ↦ Ok (get_or v 1 0)
             | false ↦
                 elim (eqb (get_or v 0 0) 3) [
-                  | true ↦ As binder
+                  | true ↦ Ok binder
                   | false ↦
                       elim (eqb (get_or v 0 0) 4) [
                         | true ↦ call_at bs k H L (get_or v 1 0) (drop 2 v)
-                        | false ↦ elim (eqb (get_or v 0 0) 5) [ true ↦ As (get_or v 1 0) | false ↦ As num ]
+                        | false ↦ elim (eqb (get_or v 0 0) 5) [ true ↦ Ok (get_or v 1 0) | false ↦ Ok num ]
                       ]
                 ]
           ]

@@ -1,7 +1,6 @@
 -- The heads of a block's definitions, read off the bytes of a table. Nobody needs this file to believe `expand`.
 use Rattle.std.specs.Prelude.{ℕ, ◌+◌, ◌*◌, ◌≡◌, Bool, true, false, ◌&&◌, ◌||◌, List, eqb, leb, ltb, get_or, take, drop, set, Result, Ok, Err, ⊤}
-use Rattle.answers.specs.declared.Verdict.{Verdict}
-use Rattle.answers.specs.declared.Verdict.TheVariants.{Passed, Refused}
+use Rattle.answers.specs.Refusals.{Verdict}
 use Rattle.answers.specs.Refusals.{refusal}
 use Rattle.spellings.specs.Bytes.{same}
 use Rattle.grammar.specs.Fields.{RawFields, end, cut, next}
@@ -61,14 +60,14 @@ pub data Collected : Type 0 where
 -- what comes after a test at an offset, where the heads are H
 abbrev pub collect_after : Result ⊤ Fault → ℕ → List ℕ → Collected → Collected
 collect_after (Ok tt) at H more = more
-collect_after (Err fault) at H more = collected (Refused (refusal (cause_of fault) at 0 0)) H
+collect_after (Err fault) at H more = collected (Err (refusal (cause_of fault) at 0 0)) H
 
 unfoldable pub collect_from : RawFields → List ℕ → ℕ → List ℕ → Collected
-collect_from (end at) bs block H = collected Passed H
-collect_from (cut at) bs block H = collected Passed H
+collect_from (end at) bs block H = collected (Ok tt) H
+collect_from (cut at) bs block H = collected (Ok tt) H
 collect_from (next at tag v fs) bs block H =
     elim (ends_block tag) [
-      | true ↦ collected Passed H
+      | true ↦ collected (Ok tt) H
       | false ↦ collect_after (fault_at tag bs at block H) at H (collect_from fs bs block (heads_with tag bs at H))
     ]
 

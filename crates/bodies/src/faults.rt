@@ -1,21 +1,22 @@
 // Faults by document 01's numbers.
 ghost use Rattle.std.specs.Prelude.{◌≡◌};
+ghost use Rattle.answers.specs.Causes.{cause_number};
 ghost use Rattle.bodies.specs.Faults.{cause_of, verdict_of};
 
 use crate::Fault;
-use answers::causes::{BAD_EXTENSION, NUMBER_IN_USE, UNDEFINED, WRONG_SORT};
-use answers::{Verdict, refused};
+use answers::Verdict;
+use answers::causes::Cause;
 
-// The number of a fault.
-impl From<Fault> for u8 {
-    ghost from_gives = { λ fault number. number ≡ cause_of fault };
+// A fault as a cause of refusal.
+impl From<Fault> for Cause {
+    ghost from_gives = { λ fault cause. cause_number cause ≡ cause_of fault };
 
-    fn from(fault: Fault) -> u8 {
+    fn from(fault: Fault) -> Cause {
         match fault {
-            Fault::NumberInUse => NUMBER_IN_USE,
-            Fault::BadExtension => BAD_EXTENSION,
-            Fault::Undefined => UNDEFINED,
-            Fault::WrongSort => WRONG_SORT,
+            Fault::NumberInUse => Cause::NumberInUse,
+            Fault::BadExtension => Cause::BadExtension,
+            Fault::Undefined => Cause::Undefined,
+            Fault::WrongSort => Cause::WrongSort,
         }
     }
 }
@@ -25,7 +26,7 @@ pub fn verdict_of(tested: Result<(), Fault>, at: usize) -> Verdict
     ensures { result ≡ verdict_of at tested }
 {
     match tested {
-        Ok(()) => Verdict::Passed,
-        Err(fault) => refused(fault.into(), at),
+        Ok(()) => Ok(()),
+        Err(fault) => Cause::from(fault).refused(at),
     }
 }

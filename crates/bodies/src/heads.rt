@@ -4,7 +4,8 @@ ghost use Rattle.grammar.specs.Limits.{most};
 ghost use Rattle.bodies.specs.HeadBytes.{signature_at, head_before, fault_of, Defined, collected, collect_at};
 
 use crate::Fault;
-use answers::{Verdict, refused};
+use answers::Verdict;
+use answers::causes::Cause;
 use grammar::codes::{BLOCK_TAG, EXTEND, HEAD_TAG, HEADER, ROOT_TAG, UPDATE};
 use grammar::field_at;
 use grammar::limits::MOST_PARAMETERS;
@@ -110,12 +111,12 @@ pub fn collect(heads: &mut [u16], table: &[u8], block: usize, from: usize) -> Ve
         let field = field_at(table, at);
         let tag = field.tag;
         if (tag == BLOCK_TAG) | (tag == ROOT_TAG) {
-            return Verdict::Passed;
+            return Ok(());
         }
         if let Err(fault) = define(heads, table, at, tag, block) {
-            return refused(fault.into(), at);
+            return Cause::from(fault).refused(at);
         }
         at = field.to;
     }
-    Verdict::Passed
+    Ok(())
 }

@@ -5,9 +5,8 @@ use mathlib.Core.Bool.{Bool, true, false}
 use mathlib.Core.List.{List, ◌++◌}
 use lib.ListN.{get_or-eq_default}
 use Rattle.spellings.specs.Bytes.{bytes}
-use Rattle.answers.specs.declared.Answer.{Answer}
+use Rattle.answers.specs.Refusals.{Answer, numbered}
 use Rattle.answers.specs.declared.Refusal.{Refusal}
-use Rattle.answers.specs.Refusals.{numbered}
 use Rattle.reports.specs.Lines.{newline, difference}
 use Rattle.rooms.specs.Laying.{Lays}
 use Rattle.boundaries.specs.declared.Formula.TheVariants.{Nothing}

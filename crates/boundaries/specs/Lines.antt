@@ -1,11 +1,9 @@
 -- The lines of document 01's "Formulas and their terms" that stand at a limit: "13 `twice` and `q`: 16,383 constructors, and `phrase` refuses with 24, 196596;
 -- with 14, 22 and 15 cells. 511 parentheses round a word pass, 512 give 19. 1,022 `.a` after a word pass, 1,023 give 19. Sixteen levels of nonterminals ..
 -- make 65,535 calls; seventeen give 20."
-use Rattle.std.specs.Prelude.{ℕ, zero, suc, Bool, true, false, not, List, [], ◌∷◌, ◌++◌, get_or}
+use Rattle.std.specs.Prelude.{ℕ, zero, suc, Bool, true, false, not, List, [], ◌∷◌, ◌++◌, get_or, Err}
 use Rattle.spellings.specs.Bytes.{bytes}
-use Rattle.answers.specs.declared.Answer.{Answer}
-use Rattle.answers.specs.declared.Answer.TheVariants.{Accepted, Refusing}
-use Rattle.answers.specs.Refusals.{refusal, numbered}
+use Rattle.answers.specs.Refusals.{Answer, accepted, refusal, numbered}
 use Rattle.reports.specs.Lines.{newline, same_refusal, difference}
 use Rattle.boundaries.specs.declared.Line.{Line}
 use Rattle.boundaries.specs.declared.Formula.{Formula}
@@ -40,7 +38,7 @@ file_name tables.SeventeenLevels = bytes "levels17.tab"
 
 -- the answer that refuses by a number and one value
 abbrev pub refusing : ℕ → ℕ → Answer
-refusing number a = Refusing (refusal number a 0 0)
+refusing number a = Err (refusal number a 0 0)
 
 -- a line: its table and formula, whether 196,596 bytes of text are lent in place of those of the program `phrase`, and the answer listed
 abbrev pub line : Table → Formula → Bool → Answer → Line
@@ -49,14 +47,14 @@ line table formula long expected = record { table = table; formula = formula; lo
 -- the lines but the last
 abbrev pub first_lines : List Line
 first_lines =
-    line tables.House (Parentheses 511) false (Accepted 1 1 12)
+    line tables.House (Parentheses 511) false (accepted 1 1 12)
     ∷ line tables.House (Parentheses 512) false (refusing 19 512)
-    ∷ line tables.House (Selections 1022) false (Accepted 1023 1023 13298)
+    ∷ line tables.House (Selections 1022) false (accepted 1023 1023 13298)
     ∷ line tables.House (Selections 1023) false (refusing 19 2047)
     ∷ line tables.Twice (Twice 13) false (refusing 24 196596)
-    ∷ line tables.Twice (Twice 13) true (Accepted 14 16383 196596)
+    ∷ line tables.Twice (Twice 13) true (accepted 14 16383 196596)
     ∷ line tables.Twice (Twice 14) false (refusing 22 15)
-    ∷ line tables.SixteenLevels Nothing false (Accepted 2 2 27)
+    ∷ line tables.SixteenLevels Nothing false (accepted 2 2 27)
     ∷ []
 
 -- line i; the last for all numbers behind those

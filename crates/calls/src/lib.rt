@@ -12,7 +12,7 @@ use grammar::limits::MOST_VARIABLES;
 use productions::room::ROOM;
 use steps::{ItemStep, finish, item_step};
 use templates::rows_of;
-use turns::begins::{Begun, begin};
+use turns::begins::begin;
 use turns::{Advance, Resumption, entered, paused, resumed, returned, valued};
 
 // How many calls may wait.
@@ -32,8 +32,8 @@ pub fn items(
     from: Resumption,
 ) -> Advance
     requires { SomeLent table.now texts.now (λ S. MayGo S room.now memory.old tokens.now cells.old stack.old frames.old from) }
-    ensures { EachLent table.now texts.now (λ S. MayGo S room.now memory.old tokens.now cells.old stack.old frames.old from) (λ S. Continues S tokens.now cells.old frames.old
-        from result cells.new frames.new memory.new) }
+    ensures { EachLent table.now texts.now (λ S. MayGo S room.now memory.old tokens.now cells.old stack.old frames.old from) (λ S.
+        Continues S tokens.now cells.old frames.old from result cells.new frames.new memory.new) }
 {
     let rows = rows_of(cells.len());
     let mut vars = [0u32; MOST_VARIABLES];
@@ -45,7 +45,7 @@ pub fn items(
         match step {
             ItemStep::Finished => {
                 let outcome = finish(cells, stack, table, texts, rows, &vars, c);
-                let Outcome::Value(x, t) = outcome else {
+                let Ok((x, t)) = outcome else {
                     return Advance::Ended(outcome);
                 };
                 if level == 0 {
@@ -53,15 +53,15 @@ pub fn items(
                 }
                 c = returned(frames, &mut vars, level - 1, x, t);
             }
-            ItemStep::Stopped(r) => return Advance::Ended(Outcome::Halted(r)),
+            ItemStep::Stopped(r) => return Advance::Ended(Err(r)),
             ItemStep::Taken(x, next, t) => {
                 c = valued(&mut vars, c, x, next, t);
             }
             ItemStep::Opened(callee, given, next, t) => {
                 let begun = begin(memory, room, tokens, MOST_WAITING - level, callee, given, t);
                 match begun {
-                    Begun::Refused(r) => return Advance::Ended(Outcome::Halted(r)),
-                    Begun::Entered(call, u) => {
+                    Err(r) => return Advance::Ended(Err(r)),
+                    Ok((call, u)) => {
                         c = entered(frames, &mut vars, &args, c, next, call, u);
                         if frames.len() < (level + 3) * FRAME {
                             return paused(frames, &vars, c);

@@ -1,4 +1,5 @@
 -- A table is refused exactly as the rules say: what is proved of refusals 1 to 13, for every list of bytes. Each statement has one sentence above it.
+use Rattle.std.specs.Prelude.{Ok, Err}
 use Prim.Native.Nat.{ℕ, ◌<◌, ◌≤◌}
 use mathlib.Core.Path.{◌≡◌, refl, sym, ap, ◌∙◌, subst⁻¹}
 use mathlib.Core.Bool.{Bool, true, false, true≢false, ◌&&◌, ◌||◌}
@@ -10,8 +11,7 @@ use lib.ListN.{get_or}
 use borrow.Author.Tests.{eqb-true, leb-true}
 use Rattle.spellings.proofs.BytesLaws.{by_test}
 use Rattle.answers.specs.declared.Refusal.{Refusal}
-use Rattle.answers.specs.declared.Verdict.{Verdict}
-use Rattle.answers.specs.declared.Verdict.TheVariants.{Passed, Refused}
+use Rattle.answers.specs.Refusals.{Verdict}
 use Rattle.answers.specs.Checked.{Checked, ok, bad, ◌>>=◌, ◌>>◌, verdict}
 use Rattle.grammar.specs.Table.{Table, Definition}
 use Rattle.grammar.specs.Written.{Written}
@@ -80,13 +80,13 @@ normalized_in_blocks table made elaborates p =
 
 -- ------------------------------------------------------------------ the whole check
 
-same : {cause other : Refusal} → Refused other ≡ Refused cause → other ≡ cause
+same : {cause other : Refusal} → ◌≡◌ {A = Verdict} (Err other) (Err cause) → other ≡ cause
 same e = cc
 
 module _ (bs : List ℕ) (bytes : (place : ℕ) → get_or bs place 0 < 256) where
   -- what the check refuses, part by part
   from_firsts : (table : Written) (made : Table) {cause : Refusal} → decode bs ≡ ok table → check_sorts table ≡ ok made → (checked : Checked (Unit {0}))
-      → check_firsts (grammar_of made) ≡ checked → verdict (checked >> ok (syntax_of made)) ≡ Refused cause → RefusesTable bs cause
+      → check_firsts (grammar_of made) ≡ checked → verdict (checked >> ok (syntax_of made)) ≡ Err cause → RefusesTable bs cause
   from_firsts table made {cause} d s (ok u) e h = never cause (sym h)
   from_firsts table made {cause} d s (bad q) e h =
       let (encoded, within) = (decode_exactly bs bytes table).0 d in
@@ -98,33 +98,33 @@ module _ (bs : List ℕ) (bytes : (place : ℕ) → get_or bs place 0 < 256) whe
           subst⁻¹ (RefusesTable bs) says.answer (clashing encoded within elaborates says.earlier says.lowest says.shared)
 
   from_sorts : (table : Written) {cause : Refusal} → decode bs ≡ ok table → (checked : Checked Table) → check_sorts table ≡ checked
-      → verdict (checked >>= λ u. check_firsts (grammar_of u) >> ok (syntax_of u)) ≡ Refused cause → RefusesTable bs cause
+      → verdict (checked >>= λ u. check_firsts (grammar_of u) >> ok (syntax_of u)) ≡ Err cause → RefusesTable bs cause
   from_sorts table d (ok made) e h = from_firsts table made d e (check_firsts (grammar_of made)) refl h
   from_sorts table d (bad q) e h =
       let (encoded, within) = (decode_exactly bs bytes table).0 d in
       unlaid (by_sorts encoded within ((missorted_exactly table within _).0 (e ∙ ap bad (same h))))
 
   from_layout : {cause : Refusal} (checked : Checked Written) → decode bs ≡ checked
-      → verdict (checked >>= λ t. check_sorts t >>= λ u. check_firsts (grammar_of u) >> ok (syntax_of u)) ≡ Refused cause → RefusesTable bs cause
+      → verdict (checked >>= λ t. check_sorts t >>= λ u. check_firsts (grammar_of u) >> ok (syntax_of u)) ≡ Err cause → RefusesTable bs cause
   from_layout (ok t) e h = from_sorts t e (check_sorts t) refl h
   from_layout (bad q) e h = unlaid (by_layout ((misplaced_exactly bs bytes _).0 (e ∙ ap bad (same h))))
 
-  refuses : {cause : Refusal} → check bs ≡ Refused cause → RefusesTable bs cause
+  refuses : {cause : Refusal} → check bs ≡ Err cause → RefusesTable bs cause
   unfolding check passed_table
   refuses h = from_layout (decode bs) refl h
 
-  refused_unlaid : {cause : Refusal} → Unlaid bs cause → check bs ≡ Refused cause
+  refused_unlaid : {cause : Refusal} → Unlaid bs cause → check bs ≡ Err cause
   refused_unlaid {cause} (by_layout m) = refused_by_layout bs cause ((misplaced_exactly bs bytes cause).1 m)
   refused_unlaid {cause} (by_sorts {t} e w m) =
       refused_by_sorts bs t cause ((decode_exactly bs bytes t).1 (e, w)) ((missorted_exactly t w cause).1 m)
 
   of_firsts : (table : Written) (made : Table) (cause : Refusal) → bs ≡ encode table → Within table → Elaborates table made
-      → Says (grammar_of made) (bad cause) → check bs ≡ Refused cause
+      → Says (grammar_of made) (bad cause) → check bs ≡ Err cause
   of_firsts table made cause encoded within elaborates says =
       refused_by_firsts bs table made cause ((decode_exactly bs bytes table).1 (encoded, within)) ((sorts_exactly table made within).1 elaborates)
       ((result_exactly (grammar_of made) (bad cause)).1 says)
 
-  refused : {cause : Refusal} → RefusesTable bs cause → check bs ≡ Refused cause
+  refused : {cause : Refusal} → RefusesTable bs cause → check bs ≡ Err cause
   refused (unlaid u) = refused_unlaid u
   refused (left_recursive {t} {u} {n} encoded within elaborates lowest) =
       of_firsts t u _ encoded within elaborates (inl (record { nonterminal = n; answer = refl; lowest = lowest }))
@@ -133,7 +133,7 @@ module _ (bs : List ℕ) (bytes : (place : ℕ) → get_or bs place 0 < 256) whe
       (inr (record { nonterminal = n; kind = bit; answer = refl; earlier = earlier; lowest = lowest; shared = shared }))
 
   -- The check gives a refusal exactly if the rules of 1 to 13 do.
-  pub refused_exactly : (cause : Refusal) → (check bs ≡ Refused cause) ↔ RefusesTable bs cause
+  pub refused_exactly : (cause : Refusal) → (check bs ≡ Err cause) ↔ RefusesTable bs cause
   refused_exactly cause = (refuses, refused)
 
   -- All bytes pass or are refused by these rules.
@@ -141,8 +141,8 @@ module _ (bs : List ℕ) (bytes : (place : ℕ) → get_or bs place 0 < 256) whe
   passes_or_refuses = by (check bs) refl
     where
       by : (given : Verdict) → check bs ≡ given → Passes bs ⊎ ((cause : Refusal) × RefusesTable bs cause)
-      by Passed e = inl ((check_exactly bs bytes).0 e)
-      by (Refused cause) e = inr (cause, refuses e)
+      by (Ok tt) e = inl ((check_exactly bs bytes).0 e)
+      by (Err cause) e = inr (cause, refuses e)
 
   -- They never give two.
   pub refused_once : (cause other : Refusal) → RefusesTable bs cause → RefusesTable bs other → cause ≡ other
@@ -178,7 +178,7 @@ module _ (bs : List ℕ) (bytes : (place : ℕ) → get_or bs place 0 < 256) whe
   unlaid_number {cause} (by_sorts {t} e w m) = sort_number (sort_refusals t cause w ((missorted_exactly t w cause).1 m)).0
 
   -- The check gives a refusal of 1 to 11 exactly if the rules of 1 to 11 do.
-  pub unlaid_exactly : (cause : Refusal) → ((check bs ≡ Refused cause) × (cause.number ≤ 11)) ↔ Unlaid bs cause
+  pub unlaid_exactly : (cause : Refusal) → ((check bs ≡ Err cause) × (cause.number ≤ 11)) ↔ Unlaid bs cause
   unlaid_exactly cause = (λ h. by (refuses h.0) h.1, λ u. (refused_unlaid u, unlaid_number u))
     where
       by : {other : Refusal} → RefusesTable bs other → other.number ≤ 11 → Unlaid bs other

@@ -14,9 +14,8 @@ use Rattle.answers.specs.Checked.{Checked, ok, bad, need}
 use Rattle.spellings.proofs.BytesLaws.{by_test}
 use Rattle.grammar.specs.Sorts.{Signature, gives, unit, term}
 use Rattle.grammar.specs.SortTests.{fits}
-use Rattle.grammar.specs.Table.{Template, Templates, variable, outside_var, outside_label, make, none, more, keyword, ide, number, Item, terminal}
+use Rattle.grammar.specs.Table.{Template, Templates, variable, outside_var, outside_label, make, none, more, keyword, ide, number, Item, terminal, local, call}
 use Rattle.grammar.specs.Table as Table
-use Rattle.grammar.specs.Table.{local, call}
 use Rattle.grammar.specs.Table.{Mode, add, extend, update}
 use Rattle.grammar.specs.Written.{WrittenResult, template, WrittenDefinition}
 use Rattle.decoding.specs.Within.{keyword_within, ide_within, number_within, ItemWithin, terminal_within, local_within, call_within}

@@ -2,10 +2,9 @@
 use Prim.Native.Nat.{ℕ}
 use mathlib.Core.Path.{◌≡◌, refl, sym, ◌∙◌, ap}
 use mathlib.Core.List.{List}
-use Rattle.std.specs.Prelude.{Some, None, IsSome, is_some}
+use Rattle.std.specs.Prelude.{Some, None, IsSome, is_some, Ok, Err}
 use Rattle.answers.specs.declared.Refusal.{Refusal}
-use Rattle.answers.specs.declared.Verdict.{Verdict}
-use Rattle.answers.specs.declared.Verdict.TheVariants.{Passed, Refused}
+use Rattle.answers.specs.Refusals.{Verdict}
 use Rattle.answers.specs.Checked.{Checked, ok, bad, ◌>>◌, verdict}
 use Rattle.grammar.specs.Limits.{most}
 use Rattle.grammar.specs.Table.{Table}
@@ -39,11 +38,11 @@ use Rattle.checker.specs.Passes.{grammar_of}
 use Rattle.checker.proofs.Passing.{never, refused_by_layout, refused_by_sorts}
 
 -- a verdict says what the check gave
-refused_bad : {A : Type 0} (checked : Checked A) (refusal : Refusal) → verdict checked ≡ Refused refusal → checked ≡ bad refusal
+refused_bad : {A : Type 0} (checked : Checked A) (refusal : Refusal) → verdict checked ≡ Err refusal → checked ≡ bad refusal
 refused_bad (ok a) refusal e = never refusal (sym e)
 refused_bad (bad q) refusal e = ap bad (let z : q ≡ refusal = cc in z)
 
-passed_ok : {A : Type 0} (checked : Checked A) → verdict checked ≡ Passed → (value : A) × (checked ≡ ok value)
+passed_ok : {A : Type 0} (checked : Checked A) → verdict checked ≡ Ok tt → (value : A) × (checked ≡ ok value)
 passed_ok (ok a) e = (a, refl)
 passed_ok (bad q) e = never q e
 
@@ -52,13 +51,13 @@ verdict_then (ok u) item = refl
 verdict_then (bad r) item = refl
 
 module _ (bs : List ℕ) where
-  refused_layout : (refusal : Refusal) → verdict (layout bs) ≡ Refused refusal → check bs ≡ Refused refusal
+  refused_layout : (refusal : Refusal) → verdict (layout bs) ≡ Err refusal → check bs ≡ Err refusal
   unfolding decode
   refused_layout refusal e =
       refused_by_layout bs refusal (cc (refused_bad (layout bs) refusal e))
 
   -- a table refused for its layout leaves the room as it was
-  pub into_layout : (refusal : Refusal) → verdict (layout bs) ≡ Refused refusal → (room : List ℕ) → CheckedInto bs room room (Refused refusal)
+  pub into_layout : (refusal : Refusal) → verdict (layout bs) ≡ Err refusal → (room : List ℕ) → CheckedInto bs room room (Err refusal)
   unfolding decode room_after
   into_layout refusal e room =
       record {
@@ -67,7 +66,7 @@ module _ (bs : List ℕ) where
         whole = λ p. never refusal p;
       }
 
-  module _ (bytes : Bytes bs) (laid : verdict (layout bs) ≡ Passed) where
+  module _ (bytes : Bytes bs) (laid : verdict (layout bs) ≡ Ok tt) where
     layout_right : layout bs ≡ ok tt
     layout_right = (passed_ok (layout bs) laid).1
 
@@ -87,22 +86,22 @@ module _ (bs : List ℕ) where
       where
         judgement : Finding → Verdict
         judgement (Some v) = v
-        judgement None = Passed
+        judgement None = Ok tt
 
     -- no text is met
     pub no_text : {finding : Finding} → finding ≡ sorts_of bs → IsSome finding
     no_text e = ap is_some (e ∙ sorts_here)
 
-    refused_sorts : (refusal : Refusal) → sorts_of bs ≡ Some (Refused refusal) → check bs ≡ Refused refusal
+    refused_sorts : (refusal : Refusal) → sorts_of bs ≡ Some (Err refusal) → check bs ≡ Err refusal
     refused_sorts refusal e = refused_by_sorts bs encoded.0 refusal decoded (refused_bad (check_sorts encoded.0) refusal (judged_here e))
 
-    room_left : (refusal : Refusal) → sorts_of bs ≡ Some (Refused refusal) → (room : List ℕ) → room ≡ room_after bs room
+    room_left : (refusal : Refusal) → sorts_of bs ≡ Some (Err refusal) → (room : List ℕ) → room ≡ room_after bs room
     unfolding room_after
     room_left refusal e room =
         cc (refused_bad (check_sorts encoded.0) refusal (judged_here e), decoded)
 
     -- and so does one refused for its sorts
-    pub into_sorts : (refusal : Refusal) → sorts_of bs ≡ Some (Refused refusal) → (room : List ℕ) → CheckedInto bs room room (Refused refusal)
+    pub into_sorts : (refusal : Refusal) → sorts_of bs ≡ Some (Err refusal) → (room : List ℕ) → CheckedInto bs room room (Err refusal)
     into_sorts refusal e room =
         record { answer = sym (refused_sorts refusal e); held = room_left refusal e room; whole = λ p. never refusal p }
 
@@ -123,7 +122,7 @@ module _ (bs : List ℕ) where
     pub indexed : productions_in bs ≡ normalized (templated encoded.0.blocks)
     indexed = cc (productions_at_lem bs, encoded.1, normalized_by_lem encoded.0 encoded.2)
 
-    module _ (sorted : sorts_of bs ≡ Some Passed) where
+    module _ (sorted : sorts_of bs ≡ Some (Ok tt)) where
       -- what its check of sorts answers
       sorts_ok : (made : Table) × (check_sorts encoded.0 ≡ ok made)
       sorts_ok = passed_ok (check_sorts encoded.0) (judged_here sorted)

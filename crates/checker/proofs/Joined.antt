@@ -1,12 +1,12 @@
 -- What an expansion may take from a table that passes: the room holds its grammar.
+use Rattle.std.specs.Prelude.{Ok}
 use Prim.Native.Nat.{ℕ}
 use mathlib.Core.Path.{◌≡◌, refl}
 use mathlib.Core.List.{List}
 use native.Mathlib.Omega.{arith}
 use lib.ListN.{length, drop}
 use Rattle.answers.specs.Checked.{Checked, ok, bad, ◌>>◌}
-use Rattle.answers.specs.declared.Verdict.{Verdict}
-use Rattle.answers.specs.declared.Verdict.TheVariants.{Passed}
+use Rattle.answers.specs.Refusals.{Verdict}
 use Rattle.grammar.specs.Fields.{fields_of}
 use Rattle.decoding.specs.Layout.{layout}
 use Rattle.decoding.specs.Decode.{table_of, decode_fields, decode}
@@ -71,7 +71,7 @@ pub record Joined (bs room : List ℕ) : Type 0 where
   pub holds : HoldsGrammar bs room
 
 -- bytes that pass, and the room that their check filled
-pub joined : {bs : List ℕ} → Bytes bs → check bs ≡ Passed → {room₀ room : List ℕ} {verdict : Verdict} → CheckedInto bs room₀ room verdict → Joined bs room
+pub joined : {bs : List ℕ} → Bytes bs → check bs ≡ Ok tt → {room₀ room : List ℕ} {verdict : Verdict} → CheckedInto bs room₀ room verdict → Joined bs room
 joined {bs} bytes h c =
     let p : Passes bs = (check_exactly bs bytes).0 h in
     record { passes = p; grammar = passed_grammar bytes p; holds = passed_holds bytes p c }

@@ -1,4 +1,5 @@
 -- A table passes if and only if it meets the rules: what is proved of the check of a table, for every list of bytes and every table.
+use Rattle.std.specs.Prelude.{Ok, Err}
 use Prim.Native.Nat.{ℕ, ◌<◌}
 use mathlib.Core.Path.{◌≡◌}
 use mathlib.Core.Logic.{◌↔◌}
@@ -6,9 +7,7 @@ use mathlib.Core.Bool.{true}
 use mathlib.Core.List.{List}
 use lib.ListN.{get_or}
 use Rattle.answers.specs.declared.Refusal.{Refusal}
-use Rattle.answers.specs.declared.Verdict.{Verdict}
-use Rattle.answers.specs.declared.Verdict.TheVariants.{Passed, Refused}
-use Rattle.answers.specs.Refusals.{refusal}
+use Rattle.answers.specs.Refusals.{Verdict, refusal}
 use Rattle.answers.specs.Checked.{ok, bad}
 use Rattle.kinds.specs.Kinds.{has_kind}
 use Rattle.grammar.specs.Table.{Table}
@@ -86,32 +85,32 @@ module _ (g : List Production) where
 
 module _ (bs : List ℕ) where
   -- The check accepts exactly the bytes that pass: encodings of tables within the bounds that meet the rules.
-  pub check_exactly : ((place : ℕ) → get_or bs place 0 < 256) → (check bs ≡ Passed) ↔ Passes bs
+  pub check_exactly : ((place : ℕ) → get_or bs place 0 < 256) → (check bs ≡ Ok tt) ↔ Passes bs
   check_exactly = passing.check_exactly bs
 
   -- Otherwise it gives one refusal, the first in document 01's order: the layout's, else the sorts', else that of 12 and 13.
-  pub refused_by_layout : (cause : Refusal) → decode bs ≡ bad cause → check bs ≡ Refused cause
+  pub refused_by_layout : (cause : Refusal) → decode bs ≡ bad cause → check bs ≡ Err cause
   refused_by_layout = passing.refused_by_layout bs
 
   -- A table that decodes has the refusal of its sorts, if they give one.
-  pub refused_by_sorts : (table : Written) (cause : Refusal) → decode bs ≡ ok table → check_sorts table ≡ bad cause → check bs ≡ Refused cause
+  pub refused_by_sorts : (table : Written) (cause : Refusal) → decode bs ≡ ok table → check_sorts table ≡ bad cause → check bs ≡ Err cause
   refused_by_sorts = passing.refused_by_sorts bs
 
   -- A well sorted table has the refusal of its first sets, 12 or 13, if they give one.
   pub refused_by_firsts : (table : Written) (made : Table) (cause : Refusal) → decode bs ≡ ok table → check_sorts table ≡ ok made
-      → check_firsts (grammar_of made) ≡ bad cause → check bs ≡ Refused cause
+      → check_firsts (grammar_of made) ≡ bad cause → check bs ≡ Err cause
   refused_by_firsts = passing.refused_by_firsts bs
 
   -- 12 is given, with `nonterminal`, exactly if the bytes are a well sorted table and `nonterminal` is the lowest nonterminal that reaches itself by
   -- left calls.
   pub refused_12 : ((place : ℕ) → get_or bs place 0 < 256) → (nonterminal : ℕ)
-      → (check bs ≡ Refused (refusal 12 nonterminal 0 0)) ↔ ((laid : Laid bs) × Lowest (LeftRecursive (grammar_of laid.table)) nonterminal)
+      → (check bs ≡ Err (refusal 12 nonterminal 0 0)) ↔ ((laid : Laid bs) × Lowest (LeftRecursive (grammar_of laid.table)) nonterminal)
   refused_12 = passing.refused_12 bs
 
   -- 13 is given, with `nonterminal` and `kind`, exactly if they are one where none does, `nonterminal` is the lowest nonterminal of which two
   -- alternatives clash, and `kind` what 13 names for it.
   pub refused_13 : ((place : ℕ) → get_or bs place 0 < 256) → (nonterminal kind : ℕ)
-      → (check bs ≡ Refused (refusal 13 nonterminal kind 0))
+      → (check bs ≡ Err (refusal 13 nonterminal kind 0))
       ↔ ((laid : Laid bs) × Never (LeftRecursive (grammar_of laid.table)) × Lowest (Clashes (grammar_of laid.table)) nonterminal
       × Names (grammar_of laid.table) nonterminal kind)
   refused_13 = passing.refused_13 bs
@@ -119,5 +118,5 @@ module _ (bs : List ℕ) where
   -- ------------------------------------------------------------------ 5. the call
 
   -- A verdict as `check_table` promises it accepts exactly the bytes that pass; this is the call's third promise.
-  pub call_exactly : ((place : ℕ) → get_or bs place 0 < 256) → {verdict : Verdict} → verdict ≡ check bs → (verdict ≡ Passed) ↔ Passes bs
+  pub call_exactly : ((place : ℕ) → get_or bs place 0 < 256) → {verdict : Verdict} → verdict ≡ check bs → (verdict ≡ Ok tt) ↔ Passes bs
   call_exactly = passing.verdict_exactly bs

@@ -1,7 +1,7 @@
 -- The check of a table, refusals 1 to 13 in document 01's order: "Checks".
 use Rattle.std.specs.Prelude.{ℕ, List}
 use Rattle.answers.specs.Checked.{Checked, ok, ◌>>=◌, ◌>>◌, verdict}
-use Rattle.answers.specs.declared.Verdict.{Verdict}
+use Rattle.answers.specs.Refusals.{Verdict}
 use Rattle.decoding.specs.Decode.{decode}
 use Rattle.elaboration.specs.CheckSequence.{check_sorts}
 use Rattle.productions.specs.Normal.{normalized}

@@ -1,7 +1,6 @@
 -- What the check of a table answers and leaves in the room that is lent. The room mirrors code: nobody needs it to believe `expand`.
-use Rattle.std.specs.Prelude.{ℕ, ◌≡◌, List}
-use Rattle.answers.specs.declared.Verdict.{Verdict}
-use Rattle.answers.specs.declared.Verdict.TheVariants.{Passed}
+use Rattle.std.specs.Prelude.{ℕ, ◌≡◌, List, Ok}
+use Rattle.answers.specs.Refusals.{Verdict}
 use Rattle.answers.specs.Checked.{Checked, ok, bad, ◌>>=◌}
 use Rattle.decoding.specs.Decode.{decode}
 use Rattle.decoding.specs.Within.{Each}
@@ -23,4 +22,4 @@ room_after bs room = room_if_passed (decode bs >>= λ t. check_sorts t) bs room
 pub record CheckedInto (bs room₀ room : List ℕ) (r : Verdict) : Type 0 where
   pub answer : r ≡ check bs
   pub held : room ≡ room_after bs room₀
-  pub whole : r ≡ Passed → Each (Whole bs) (places_of bs)
+  pub whole : r ≡ Ok tt → Each (Whole bs) (places_of bs)

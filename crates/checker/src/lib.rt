@@ -2,7 +2,6 @@
 #![tactic(auto)]
 
 ghost use Rattle.std.specs.Prelude.{◌≡◌, ◌↔◌};
-ghost use Rattle.answers.specs.declared.Verdict.TheVariants.{Passed};
 ghost use Rattle.answers.specs.Refusals.{numbered_verdict};
 ghost use Rattle.checker.specs.Check.{check};
 ghost use Rattle.checker.specs.CheckedInto.{CheckedInto};
@@ -21,15 +20,9 @@ use sorts::check_sorts;
 pub fn check_into(table: &[u8], room: &mut [u64; ROOM]) -> Verdict
     ensures { CheckedInto table.now room.old room.new result }
 {
-    let laid = check_layout(table);
-    if let Verdict::Refused(_) = laid {
-        return laid;
-    }
+    check_layout(table)?;
     // The layout passes no text, so that the check of sorts meets none.
-    let sorted = check_sorts(table).unwrap();
-    if let Verdict::Refused(_) = sorted {
-        return sorted;
-    }
+    check_sorts(table).unwrap()?;
     let mut owners = [0u8; EACH_ALTERNATIVE];
     let mut starts = [0u16; EACH_ALTERNATIVE];
     let m = build_index(table, &mut owners, &mut starts);
@@ -41,7 +34,7 @@ pub fn check_into(table: &[u8], room: &mut [u64; ROOM]) -> Verdict
 pub fn check_table(table: &[u8]) -> Verdict
     ensures value { result ≡ check table.now }
     ensures result_value { numbered_verdict result ≡ numbered_verdict (check table.now) }
-    ensures variant { (result ≡ Passed) ↔ Passes table.now }
+    ensures variant { (result ≡ Ok tt) ↔ Passes table.now }
 {
     let mut room = [0u64; ROOM];
     check_into(table, &mut room)

@@ -1,4 +1,5 @@
 -- Laws of the check of first sets: what the room holds, and the verdicts of 12 and 13.
+use Rattle.std.specs.Prelude.{Ok, Err}
 use Prim.Native.Nat.{ℕ, zero, suc, ◌+◌, ◌<◌, ◌≤◌}
 use mathlib.Core.Path.{◌≡◌, refl, sym, ap, ◌∙◌}
 use mathlib.Core.Bool.{Bool, true, false}
@@ -13,8 +14,7 @@ use borrow.Author.Tests.{lt-ltb, le-ltb, ne_eqb}
 use Rattle.answers.specs.Refusals.{refusal}
 use Rattle.answers.specs.Checked.{Checked, ok, bad, ◌>>◌, verdict}
 use Rattle.answers.specs.declared.Refusal.{Refusal}
-use Rattle.answers.specs.declared.Verdict.{Verdict}
-use Rattle.answers.specs.declared.Verdict.TheVariants.{Passed, Refused}
+use Rattle.answers.specs.Refusals.{Verdict}
 use Rattle.productions.specs.Normal.{Production}
 use Rattle.grammar.specs.Lookup.{fields_at}
 use Rattle.decoding.specs.Within.{Each, each_none, each_more}
@@ -205,9 +205,9 @@ module _ {bs : List ℕ} {below many : ℕ} {owners starts : List ℕ} (bound_in
     check_tests number e test f = rw (← f, e) refl
 
     -- a nonterminal that reaches itself is refused
-    pub check_recursive : found.recursive < below → {cause : Refusal} → cause ≡ refusal 12 found.recursive 0 0 → Refused cause ≡ verdict (check_firsts g)
+    pub check_recursive : found.recursive < below → {cause : Refusal} → cause ≡ refusal 12 found.recursive 0 0 → Err cause ≡ verdict (check_firsts g)
     check_recursive h er =
-        ap Refused er
+        ap Err er
         ∙ check_tests found.recursive (lowest_within bound_index.owned.small none_reached given_prepared.recursive h) true
         (lt-ltb found.recursive 64 (omega (arith, bound_index.owned.small)))
 
@@ -265,11 +265,11 @@ module _ {room : List ℕ} {below nonterminal : ℕ} (places_are : PlacesBelow b
 
   -- a nonterminal with a clash is refused
   pub clash_refused : nonterminal < below → {shared kind : ℕ} → shared ≡ all_shared_in room nonterminal → kind ≡ count_trailing_zeros 64 shared → {cause : Refusal}
-      → cause ≡ refusal 13 nonterminal kind 0 → Refused cause ≡ verdict (no_clash_in room)
+      → cause ≡ refusal 13 nonterminal kind 0 → Err cause ≡ verdict (no_clash_in room)
   clash_refused h es ek er =
       rw (er, ek, es)
       (clash_tests nonterminal (lowest_within places_are.small none_clashes equal h) true (lt-ltb nonterminal 64 (omega (arith, places_are.small))))
 
   -- without one the table passes
-  pub clash_passed : below ≤ nonterminal → Passed ≡ verdict (no_clash_in room)
+  pub clash_passed : below ≤ nonterminal → Ok tt ≡ verdict (no_clash_in room)
   clash_passed h = clash_tests 64 (lowest_beyond places_are.small none_clashes equal h) false (le-ltb 64 64 (omega arith))

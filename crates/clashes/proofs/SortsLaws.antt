@@ -1,4 +1,5 @@
 -- Laws of refusal 13 where pattern places open productions (document 02, C-14), and of when none does.
+use Rattle.std.specs.Prelude.{Ok, Err}
 use Prim.Native.Nat.{ℕ, min, ◌+◌, ◌<◌, ◌≤◌}
 use mathlib.Core.Path.{◌≡◌, refl, sym, ◌∙◌}
 use mathlib.Core.Bool.{Bool, true, false, false≢true}
@@ -13,7 +14,6 @@ use Rattle.spellings.proofs.BytesLaws.{by_test}
 use Rattle.answers.specs.Refusals.{refusal}
 use Rattle.answers.specs.Checked.{Checked, ok, bad, verdict}
 use Rattle.answers.specs.declared.Refusal.{Refusal}
-use Rattle.answers.specs.declared.Verdict.TheVariants.{Passed, Refused}
 use Rattle.kinds.specs.Kinds.{has_kind}
 use Rattle.kinds.proofs.KindsLaws.{has_none, has_own}
 use Rattle.grammar.specs.Table.{Item}
@@ -156,10 +156,10 @@ module _ {room sorts : List ℕ} {below : ℕ} (places_are : PlacesBelowBoth bel
 
   -- A nonterminal with a clash is refused,
   pub both_refused : nonterminal < below → {kinds shared name : ℕ} → kinds ≡ all_shared_in room nonterminal → shared ≡ all_shared_in sorts nonterminal
-      → name ≡ lowest_of kinds shared → {cause : Refusal} → cause ≡ refusal 13 nonterminal name 0 → Refused cause ≡ verdict (no_clash_with room sorts)
+      → name ≡ lowest_of kinds shared → {cause : Refusal} → cause ≡ refusal 13 nonterminal name 0 → Err cause ≡ verdict (no_clash_with room sorts)
   both_refused h ek es en er =
       rw (er, en, ek, es) (tests nonterminal (lower_within h) true (lt-ltb nonterminal 64 (omega (arith, small))))
 
   -- and without one the table passes.
-  pub both_passed : below ≤ nonterminal → Passed ≡ verdict (no_clash_with room sorts)
+  pub both_passed : below ≤ nonterminal → Ok tt ≡ verdict (no_clash_with room sorts)
   both_passed h = tests 64 (lower_beyond h) false (le-ltb 64 64 (omega arith))

@@ -1,7 +1,7 @@
 -- What the functions of the check ask and promise: the room written, and the verdict. These mirror code: nobody needs them to believe `expand`.
 use Rattle.std.specs.Prelude.{ℕ, ◌/◌, ◌^◌, ◌<◌, ◌≤◌, ◌≡◌, false, List, map, get_or, replicate}
 use Rattle.answers.specs.Checked.{verdict}
-use Rattle.answers.specs.declared.Verdict.{Verdict}
+use Rattle.answers.specs.Refusals.{Verdict}
 use Rattle.grammar.specs.Lookup.{fields_at}
 use Rattle.decoding.specs.Within.{Each}
 use Rattle.productions.specs.Normal.{Production}

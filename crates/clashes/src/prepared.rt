@@ -10,8 +10,8 @@ ghost use Rattle.clashes.specs.CheckCalls.{Filled, FillRoom, OwnersSmall, BoundI
 use super::clash::{clashing, left_recursive, shared};
 use super::sorts::check_sorts;
 use crate::Preparation;
-use answers::causes::{AMBIGUOUS, LEFT_RECURSION};
-use answers::{Verdict, refuse};
+use answers::Verdict;
+use answers::causes::Cause;
 use firsts::nullable::nullables;
 use firsts::sets::sets_of;
 use grammar::limits::{EACH_ALTERNATIVE, EACH_NONTERMINAL};
@@ -96,9 +96,9 @@ fn check_clash(room: &[u64; ROOM], many: u8) -> Verdict
     let n = clashing(room, many);
     if n < many {
         let kinds = shared(room, n);
-        Verdict::Refused(refuse(AMBIGUOUS, n as u64, lowest(kinds) as u64, 0))
+        Err(Cause::Ambiguous.refuse(n as u64, lowest(kinds) as u64, 0))
     } else {
-        Verdict::Passed
+        Ok(())
     }
 }
 
@@ -118,7 +118,7 @@ pub fn check_firsts(
     let many = bound(owners, m);
     let found = prepare(table, owners, starts, m, many, room);
     if found.recursive < many {
-        Verdict::Refused(refuse(LEFT_RECURSION, found.recursive as u64, 0, 0))
+        Err(Cause::LeftRecursion.refuse(found.recursive as u64, 0, 0))
     } else if found.places == 0 {
         check_clash(room, many)
     } else {

@@ -8,8 +8,8 @@ ghost use Rattle.clashes.specs.Pairs.{no_clash_with};
 ghost use Rattle.clashes.specs.CheckCalls.{FillRoom, sorts_filled, PlacesBelowBoth, SortsAsked, sorts_room};
 
 use super::clash::{clashing, shared};
-use answers::causes::AMBIGUOUS;
-use answers::{Verdict, refuse};
+use answers::Verdict;
+use answers::causes::Cause;
 use grammar::limits::{EACH_ALTERNATIVE, EACH_NONTERMINAL};
 use kinds::{NO_KIND, VARIABLE_KIND, lowest};
 use patterns::{gather, pattern_sets};
@@ -63,9 +63,9 @@ fn check_both(room: &[u64; ROOM], sorts: &[u64; ROOM], many: u8) -> Verdict
     let n = clashing(room, many).min(clashing(sorts, many));
     if n < many {
         let name = name_of(shared(room, n), shared(sorts, n));
-        Verdict::Refused(refuse(AMBIGUOUS, n as u64, name, 0))
+        Err(Cause::Ambiguous.refuse(n as u64, name, 0))
     } else {
-        Verdict::Passed
+        Ok(())
     }
 }
 

@@ -1,4 +1,5 @@
 -- Laws of templates held as rows: the values in their columns, and the loop over the arguments of a row.
+use Rattle.std.specs.Prelude.{Some, None}
 use Prim.Native.Nat.{ℕ, zero, suc, ◌+◌, ◌-◌, ◌*◌, ◌/◌, ◌%◌, ◌<◌, ◌≤◌}
 use mathlib.Core.Path.{◌≡◌, refl, sym, ap, ◌∙◌}
 use mathlib.Core.Bool.{Bool, true, false, ◌||◌, not, true≢false, and-eq-true_iff}
@@ -27,7 +28,6 @@ use Rattle.copying.specs.RowTemplates.{is_variable_name, is_row_sort, value_temp
 use Rattle.copying.proofs.ValueLaws.{at_variable, at_row, at_name, at_unit, at_plain}
 use Rattle.copying.specs.Hanging.{is_row_at, argument_at, IsPart, VariableBelow, Hangs, hangs, HangsAt}
 use Rattle.copying.specs.Copies.{HasValue, row_made, CopiesRow, CopiesText}
-use Rattle.copying.specs.declared.Copied.TheVariants.{Made, Full}
 
 -- ------------------------------------------------------------------ rows that hang together
 
@@ -353,14 +353,14 @@ module _ {text : List ℕ} {sort x : ℕ} {env : List ℕ} {made : ℕ} {cells :
         ∙ ap (λ t. build t I M (with_made s made) cells) (sym (rows_at sort x (λ q. row_template depth text q) (sym told ∙ true_is)))
 
     -- It gives its row.
-    pub text_row : (r ≡ 0 → ⊥) → CopiesText text sort x env made cells (Made (r - 1) r) cells'
+    pub text_row : (r ≡ 0 → ⊥) → CopiesText text sort x env made cells (Some (r - 1, r)) cells'
     text_row some =
         record {
           evaluates = λ I s M count depth e holds hang l. sym (row_made_lem s r cells' some) ∙ text_gives I s M count depth e holds hang l;
         }
 
     -- No row is left for it.
-    pub text_full : r ≡ 0 → CopiesText text sort x env made cells Full cells'
+    pub text_full : r ≡ 0 → CopiesText text sort x env made cells None cells'
     text_full none_left =
         record {
           evaluates =
@@ -368,7 +368,7 @@ module _ {text : List ℕ} {sort x : ℕ} {env : List ℕ} {made : ℕ} {cells :
         }
 
   -- Any other gives a value, and makes no cell.
-  pub text_value : below ≡ false → {v : ℕ} → HasValue sort x env v → CopiesText text sort x env made cells (Made v made) cells
+  pub text_value : below ≡ false → {v : ℕ} → HasValue sort x env v → CopiesText text sort x env made cells (Some (v, made)) cells
   text_value false-is has =
       record {
         evaluates =

@@ -140,7 +140,8 @@ module _ (text : List ℕ) (bound x left : ℕ) {variable : Bool} (told : variab
 -- ------------------------------------------------------------------ a pass over the rows
 
 -- a number that is a variable is past every row
-variable_past : (text sizes : List ℕ) (depth x : ℕ) → length sizes ≤ most_cells → is_variable_name x ≡ true → get_or sizes x 0 ≡ min size_cap (part_size depth text x)
+variable_past : (text sizes : List ℕ) (depth x : ℕ) → length sizes ≤ most_cells → is_variable_name x ≡ true
+    → get_or sizes x 0 ≡ min size_cap (part_size depth text x)
 variable_past text sizes depth x few e =
     let large : x / name_base ≡ 4 = eqb-true (x / name_base) 4 e in
     get_d_past sizes x 0 (omega arith) ∙ rw (e, part_size) refl

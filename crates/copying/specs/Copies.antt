@@ -1,5 +1,5 @@
 -- What the code that evaluates a text's rows answers. These definitions mirror code: nobody needs them to believe `expand`.
-use Rattle.std.specs.Prelude.{ℕ, zero, suc, ◌<◌, ◌≤◌, ◌≡◌, true, false, List, length}
+use Rattle.std.specs.Prelude.{ℕ, zero, suc, ◌<◌, ◌≤◌, ◌≡◌, true, false, List, length, Some, None}
 use Rattle.answers.specs.Refusals.{refusal}
 use Rattle.grammar.specs.Table.{Template}
 use Rattle.terms.specs.Cells.{rows_lent}
@@ -9,8 +9,7 @@ use Rattle.expansion.specs.Expansion.{Input, build}
 use Rattle.templates.specs.Built.{Holds, with_made}
 use Rattle.copying.specs.RowTemplates.{value_template, row_template, text_template}
 use Rattle.copying.specs.Hanging.{is_row_at, VariableBelow, Hangs, HangsAt}
-use Rattle.copying.specs.declared.Copied.{Copied}
-use Rattle.copying.specs.declared.Copied.TheVariants.{Made, Full}
+use Rattle.copying.specs.Copied.{Copied}
 
 -- a number that is no row has a value, and makes no cell
 pub record HasValue (sort x : ℕ) (env : List ℕ) (v : ℕ) : Type 0 where
@@ -39,8 +38,8 @@ pub record CopiesRow (text : List ℕ) (row : ℕ) (env : List ℕ) (made : ℕ)
 
 -- an answer: the value and the cells then made, or no row is left
 abbrev pub copied : State → Copied → List ℕ → Result ℕ
-copied s (Made v made) cells = done v (with_made s made) cells
-copied s Full cells = no_row s cells
+copied s (Some (v, made)) cells = done v (with_made s made) cells
+copied s None cells = no_row s cells
 
 -- it is what the template of a text gives that reads x at a sort, to any depth that reaches a row
 pub record CopiesText (text : List ℕ) (sort x : ℕ) (env : List ℕ) (made : ℕ) (cells : List ℕ) (r : Copied) (cells' : List ℕ) : Type 0 where

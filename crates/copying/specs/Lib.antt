@@ -1,3 +1,4 @@
+pub mod Copied
 pub mod RowTemplates
 pub mod Hanging
 pub mod Copies

@@ -20,11 +20,7 @@ pub mod sizes;
 const VARIABLE_CLASS: u32 = 4;
 
 // What a text gives: its value and the cells then made; or no row is left for a cell.
-#[derive(Drop)]
-pub enum Copied {
-    Made(u32, usize),
-    Full,
-}
+pub type Copied = Option<(u32, usize)>;
 
 // Whether a number at a place of a sort is a row.
 fn is_row(sort: u8, x: u32) -> bool
@@ -110,9 +106,9 @@ pub fn copy_text(
     if below {
         let more = copy_row(&text, x, env, made, cells);
         if more == 0 {
-            return Copied::Full;
+            return None;
         }
-        return Copied::Made((more - 1) as u32, more);
+        return Some(((more - 1) as u32, more));
     }
-    Copied::Made(value_of(sort, x, env), made)
+    Some((value_of(sort, x, env), made))
 }

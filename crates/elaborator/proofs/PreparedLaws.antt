@@ -1,12 +1,12 @@
 -- Laws of what is prepared of the blocks before a text's own.
+use Rattle.std.specs.Prelude.{Ok}
 use Prim.Native.Nat.{ℕ, ◌≤◌}
 use mathlib.Core.Path.{◌≡◌, refl, sym, ap, ◌∙◌}
 use mathlib.Core.List.{List}
 use native.Mathlib.Omega.{arith}
 use lib.ListN.{length, take, drop}
 use lib.Seq.{length-take-le}
-use Rattle.answers.specs.declared.Verdict.{Verdict}
-use Rattle.answers.specs.declared.Verdict.TheVariants.{Passed}
+use Rattle.answers.specs.Refusals.{Verdict}
 use Rattle.grammar.specs.Limits.{most}
 use Rattle.decoding.proofs.Spelled.{each_map}
 use Rattle.productions.specs.Normal.{Production}
@@ -81,5 +81,5 @@ module _ {bs : List ℕ} {block prepared : ℕ} {room : List ℕ} (once : Prepar
   once_indexable = once.indexable
 
   -- and a room that is prepared for it is kept.
-  pub once_kept : prepared ≡ block → PreparedText (take block bs) room Passed
+  pub once_kept : prepared ≡ block → PreparedText (take block bs) room (Ok tt)
   once_kept = once.kept

@@ -1,4 +1,5 @@
 -- The check of one field with a text from what the code finds: the tests of its head, the verdict of 12 and 13, and the reading.
+use Rattle.std.specs.Prelude.{Ok}
 use Prim.Native.Nat.{ℕ, ◌*◌}
 use mathlib.Core.Path.{◌≡◌, refl, sym, ap, ◌∙◌}
 use mathlib.Core.Bool.{◌&&◌}
@@ -6,13 +7,11 @@ use mathlib.Core.List.{List}
 use lib.Dec.{leb, ltb}
 use lib.ListN.{length, replicate}
 use Rattle.answers.specs.Checked.{Checked, ok, bad, ◌>>◌, verdict}
-use Rattle.answers.specs.declared.Verdict.{Verdict}
-use Rattle.answers.specs.declared.Verdict.TheVariants.{Passed}
+use Rattle.answers.specs.Refusals.{Verdict}
 use Rattle.spellings.proofs.BytesLaws.{by_test}
 use Rattle.terms.specs.Cells.{columns}
 use Rattle.tokens.specs.Variables.{dollars_below}
-use Rattle.bodies.specs.declared.ItemSort.{ItemSort}
-use Rattle.bodies.specs.declared.ItemSort.TheVariants.{As}
+use Rattle.bodies.specs.Faults.{ItemSort}
 use Rattle.bodies.specs.HeadBytes.{signature_at}
 use Rattle.firsts.specs.Room.{productions_in}
 use Rattle.clashes.specs.CheckFirsts.{check_firsts}
@@ -55,13 +54,13 @@ module _ (f : TextField) where
   pub step_head : {tested : ItemSort} → tested ≡ text_head_at f → text_step_at f ≡ behind_head tested f.at rest
   step_head e = by_head ∙ ap (λ (t : ItemSort). behind_head t f.at rest) (sym e)
 
-  module _ {sort : ℕ} (sorted : As sort ≡ text_head_at f) {judged : Verdict} (found : judged ≡ verdict (check_firsts (productions_in (bytes_before f)))) where
+  module _ {sort : ℕ} (sorted : Ok sort ≡ text_head_at f) {judged : Verdict} (found : judged ≡ verdict (check_firsts (productions_in (bytes_before f)))) where
     -- Behind a head that has a sort, the verdict of 12 and 13 does.
     pub step_firsts : text_step_at f ≡ behind_verdict judged (reading_at f sort)
     step_firsts = step_head sorted ∙ firsts_first sort ∙ ap (λ (v : Verdict). behind_verdict v (reading_at f sort)) (sym found)
 
     -- Behind one that passed, the reading answers.
-    pub step_reading : judged ≡ Passed → {cells cells' : List ℕ} {r : TextAnswer}
+    pub step_reading : judged ≡ Ok tt → {cells cells' : List ℕ} {r : TextAnswer}
         → ReadsUnder (bytes_before f) f.texts f.sorts f.text f.nonterminal sort f.asked cells r cells'
         → cells ≡ replicate (rows_left (context_at f) * columns) 0 → text_step_at f ≡ answered f.used sort f.at cells' r
     step_reading passed reads zero =

@@ -1,8 +1,7 @@
 -- What the functions ask and promise that prepare a room for the texts of a block. These mirror code: nobody needs them to believe `expand`.
-use Rattle.std.specs.Prelude.{ℕ, ◌≤◌, ◌≡◌, List, length, take}
+use Rattle.std.specs.Prelude.{ℕ, ◌≤◌, ◌≡◌, List, length, take, Ok}
 use Rattle.answers.specs.Checked.{verdict}
-use Rattle.answers.specs.declared.Verdict.{Verdict}
-use Rattle.answers.specs.declared.Verdict.TheVariants.{Passed}
+use Rattle.answers.specs.Refusals.{Verdict}
 use Rattle.decoding.specs.Within.{Each}
 use Rattle.productions.specs.Index.{Whole, places_of}
 use Rattle.productions.specs.IndexCalls.{FitsIndex}
@@ -24,4 +23,4 @@ pub record PreparedText (bs room : List ℕ) (r : Verdict) : Type 0 where
 pub record PreparableOnce (bs : List ℕ) (block prepared : ℕ) (room : List ℕ) : Type 0 where
   pub inside : block ≤ length bs
   pub indexable : Indexable (take block bs)
-  pub kept : prepared ≡ block → PreparedText (take block bs) room Passed
+  pub kept : prepared ≡ block → PreparedText (take block bs) room (Ok tt)

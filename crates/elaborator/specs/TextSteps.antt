@@ -1,15 +1,11 @@
 -- The check of one field with a text, by the bytes of its table: as `check_text` of the elaboration has it, with the bytes up to the text's block for the
 -- blocks before. These mirror code: nobody needs them to believe `expand`.
-use Rattle.std.specs.Prelude.{ℕ, ◌&&◌, List, leb, ltb, length, get_or, take}
-use Rattle.answers.specs.Refusals.{refusal}
+use Rattle.std.specs.Prelude.{ℕ, ◌&&◌, List, leb, ltb, length, get_or, take, Ok, Err}
+use Rattle.answers.specs.Refusals.{Verdict, refusal}
 use Rattle.answers.specs.Checked.{Checked, bad, ◌>>◌, need}
-use Rattle.answers.specs.declared.Verdict.{Verdict}
-use Rattle.answers.specs.declared.Verdict.TheVariants.{Passed, Refused}
 use Rattle.grammar.specs.Lookup.{lexicon_of}
 use Rattle.tokens.specs.Variables.{dollars_below}
-use Rattle.bodies.specs.declared.ItemSort.{ItemSort}
-use Rattle.bodies.specs.declared.ItemSort.TheVariants.{As, Unsorted}
-use Rattle.bodies.specs.Faults.{cause_of}
+use Rattle.bodies.specs.Faults.{ItemSort, cause_of}
 use Rattle.bodies.specs.HeadBytes.{signature_at, head_before}
 use Rattle.clashes.specs.CheckFirsts.{check_firsts}
 use Rattle.steps.specs.Source.{productions_from}
@@ -72,10 +68,10 @@ text_head_at f = text_head f.bytes f.heads f.block f.nonterminal (length f.sorts
 
 -- what follows the tests of the head of a field at an offset
 abbrev pub behind_head : {A : Type 0} → ItemSort → ℕ → (ℕ → Checked A) → Checked A
-behind_head (As sort) at more = more sort
-behind_head (Unsorted fault) at more = bad (refusal (cause_of fault) at 0 0)
+behind_head (Ok sort) at more = more sort
+behind_head (Err fault) at more = bad (refusal (cause_of fault) at 0 0)
 
 -- what follows a verdict
 abbrev pub behind_verdict : {A : Type 0} → Verdict → Checked A → Checked A
-behind_verdict Passed more = more
-behind_verdict (Refused r) more = bad r
+behind_verdict (Ok tt) more = more
+behind_verdict (Err r) more = bad r

@@ -23,15 +23,15 @@ pub fn text_head(
 {
     let h = head_before(table, heads, block, n);
     if h == 0 {
-        return ItemSort::Unsorted(Fault::Undefined);
+        return Err(Fault::Undefined);
     }
     let named = dollars_below(text, variables);
     if !named {
-        return ItemSort::Unsorted(Fault::Undefined);
+        return Err(Fault::Undefined);
     }
     let signature = signature_at(table, h);
     if 1 < signature.len() {
-        return ItemSort::Unsorted(Fault::WrongSort);
+        return Err(Fault::WrongSort);
     }
-    ItemSort::As(byte(signature, 0))
+    Ok(byte(signature, 0))
 }

@@ -64,7 +64,7 @@ pub fn prepare_once(table: &[u8], block: usize, prepared: usize, room: &mut [u64
     ensures { PreparedText (take block table.now) room.new result }
 {
     if prepared == block {
-        return Verdict::Passed;
+        return Ok(());
     }
     prepare(&table[..block], room)
 }

@@ -10,11 +10,7 @@ use lib.Seq.{length-take-le, get_or-take}
 use borrow.Author.Tests.{le-leb, lt-leb, ltb-true, ltb-false}
 use Rattle.std.specs.Prelude.{⊤, Result, Ok, Err}
 use Rattle.answers.specs.declared.Refusal.{Refusal}
-use Rattle.answers.specs.declared.Answer.{Answer}
-use Rattle.answers.specs.declared.Answer.TheVariants.{Accepted, Refusing}
-use Rattle.answers.specs.declared.Verdict.{Verdict}
-use Rattle.answers.specs.declared.Verdict.TheVariants.{Passed, Refused}
-use Rattle.answers.specs.Refusals.{refusal}
+use Rattle.answers.specs.Refusals.{Answer, accepted, Verdict, refusal}
 use Rattle.answers.specs.Checked.{Checked, ok, bad, verdict}
 use Rattle.spellings.specs.Buffers.{written_into}
 use Rattle.spellings.proofs.BytesLaws.{by_test}
@@ -42,7 +38,7 @@ use Rattle.emitter.specs.Emittable.{term_of, Emittable, Sized, Markable, JudgedA
 
 -- ------------------------------------------------------------------ what is judged
 
-never : {A : Type 0} {cause : Refusal} → Refused cause ≡ Passed → A
+never : {A : Type 0} {cause : Refusal} → ◌≡◌ {A = Verdict} (Err cause) (Ok tt) → A
 never e = let z : ◌≡◌ {A = ℕ} 0 1 = cc in absurd (omega arith)
 
 module _ (cells : List ℕ) (root : ℕ) where
@@ -51,7 +47,7 @@ module _ (cells : List ℕ) (root : ℕ) where
 
   -- 22
   pub judge_large : {marks : List ℕ} {constructors : ℕ} {cause : Refusal} → Sized cells root constructors → largest_term < constructors
-      → cause ≡ refusal 22 (rows_held cells) 0 0 → Judged cells root marks marks (Refused cause)
+      → cause ≡ refusal 22 (rows_held cells) 0 0 → Judged cells root marks marks (Err cause)
   judge_large s h e =
       record {
         long = refl;
@@ -69,7 +65,7 @@ module _ (cells : List ℕ) (root : ℕ) where
     where
       -- 23
       pub judge_loose : {place : ℕ} {cause : Refusal} → resolution ≡ Err place → cause ≡ refusal 23 place 0 0
-          → Judged cells root marks marks' (Refused cause)
+          → Judged cells root marks marks' (Err cause)
       judge_loose {place} en e =
           record {
             long = resolved.1;
@@ -84,7 +80,7 @@ module _ (cells : List ℕ) (root : ℕ) where
           }
 
       -- else the term passes, and its new names are numbered
-      pub judge_passes : resolution ≡ Ok tt → Judged cells root marks marks' Passed
+      pub judge_passes : resolution ≡ Ok tt → Judged cells root marks marks' (Ok tt)
       judge_passes en =
           record {
             long = resolved.1;
@@ -115,12 +111,12 @@ resolvable lent few =
 
 module _ (made constructors needed room : ℕ) where
   -- a text longer than its buffer is refused with 24 and its length
-  pub answer_long : room < needed → Refusing (refusal 24 needed 0 0) ≡ answer_by made constructors needed room
+  pub answer_long : room < needed → Err (refusal 24 needed 0 0) ≡ answer_by made constructors needed room
   unfolding answer_by
   answer_long h = sym (rw (lt-leb needed room h, answer_by))
 
   -- one that fits is accepted with its length
-  pub answer_whole : needed ≤ room → Accepted made constructors needed ≡ answer_by made constructors needed room
+  pub answer_whole : needed ≤ room → accepted made constructors needed ≡ answer_by made constructors needed room
   unfolding answer_by
   answer_whole h = sym (rw (le-leb needed room h, answer_by))
 
@@ -157,11 +153,11 @@ listed made constructors {out} {list} l e = fitted_walk made constructors out li
 
 -- ------------------------------------------------------------------ judged, then written
 
-verdict_bad : (checked : Checked (Unit {0})) {cause : Refusal} → Refused cause ≡ verdict checked → checked ≡ bad cause
-verdict_bad (ok u) e = never (sym (sym e))
+verdict_bad : (checked : Checked (Unit {0})) {cause : Refusal} → Err cause ≡ verdict checked → checked ≡ bad cause
+verdict_bad (ok u) e = never e
 verdict_bad (bad r) e = cc
 
-verdict_ok : (checked : Checked (Unit {0})) → Passed ≡ verdict checked → checked ≡ ok tt
+verdict_ok : (checked : Checked (Unit {0})) → Ok tt ≡ verdict checked → checked ≡ ok tt
 verdict_ok (ok u) e = refl
 verdict_ok (bad r) e = never (sym e)
 
@@ -178,8 +174,8 @@ module _ {table formula words : List ℕ} {count : ℕ} {cells : List ℕ} {root
     judges_as = judges.each spell given.distinct given.well_named
 
     -- what is judged refuses the term
-    pub emit_refused : (writing : Writing) (text list : List ℕ) {cause : Refusal} → given_verdict ≡ Refused cause
-        → Emits writing (rows_held cells) T text list (Refusing cause) text list
+    pub emit_refused : (writing : Writing) (text list : List ℕ) {cause : Refusal} → given_verdict ≡ Err cause
+        → Emits writing (rows_held cells) T text list (Err cause) text list
     emit_refused writing text list e =
         record {
           wrote =
@@ -189,13 +185,13 @@ module _ {table formula words : List ℕ} {count : ℕ} {cells : List ℕ} {root
         }
 
     -- a term that passes has a number for each of its constructors,
-    counted : given_verdict ≡ Passed → length marks' ≡ size_at cells (rows_held cells) root
+    counted : given_verdict ≡ Ok tt → length marks' ≡ size_at cells (rows_held cells) root
     counted e =
         let small = judges.small e in
         judges.long ∙ lent.marked (omega (arith, lent.sized)) ∙ omega (arith, lent.sized)
 
     -- can be printed,
-    pub emit_printable : given_verdict ≡ Passed → Printable table formula words count cells (rows_held cells) root marks'
+    pub emit_printable : given_verdict ≡ Ok tt → Printable table formula words count cells (rows_held cells) root marks'
     emit_printable e =
         record {
           few = given.few;
@@ -206,11 +202,11 @@ module _ {table formula words : List ℕ} {count : ℕ} {cells : List ℕ} {root
           small = omega (arith, counted e, judges.small e);
         }
 
-    passed_is : given_verdict ≡ Passed → judged (rows_held cells) T ≡ ok tt
+    passed_is : given_verdict ≡ Ok tt → judged (rows_held cells) T ≡ ok tt
     passed_is e = verdict_ok (judged (rows_held cells) T) (sym e ∙ judges_as.answer)
 
     -- and its text is written
-    pub emit_text : (text list : List ℕ) {text' : List ℕ} {answer : Answer} → given_verdict ≡ Passed → {writing : Writing} → writing ≡ Text
+    pub emit_text : (text list : List ℕ) {text' : List ℕ} {answer : Answer} → given_verdict ≡ Ok tt → {writing : Writing} → writing ≡ Text
         → fitted (rows_held cells) (length marks') (text_by spell cells marks' (rows_held cells) root) text ≡ leaves answer text'
         → Emits writing (rows_held cells) T text list answer text' list
     unfolding text_by
@@ -224,12 +220,12 @@ module _ {table formula words : List ℕ} {count : ℕ} {cells : List ℕ} {root
         })
 
     -- Its portions can be listed,
-    pub emit_portionable : given_verdict ≡ Passed → {writing : Writing} → Writable writing → (written wanted : ℕ) → writing ≡ Portions written wanted
+    pub emit_portionable : given_verdict ≡ Ok tt → {writing : Writing} → Writable writing → (written wanted : ℕ) → writing ≡ Portions written wanted
         → Portionable written wanted cells root
     emit_portionable e may written wanted is = record { counts = may.counts written wanted is; small = judges.small e }
 
     -- and are written
-    pub emit_portions : (text list : List ℕ) {list' : List ℕ} {answer : Answer} → given_verdict ≡ Passed → {writing : Writing} (written wanted : ℕ)
+    pub emit_portions : (text list : List ℕ) {list' : List ℕ} {answer : Answer} → given_verdict ≡ Ok tt → {writing : Writing} (written wanted : ℕ)
         → writing ≡ Portions written wanted
         → fitted (rows_held cells) size (entries_at written wanted cells (rows_held cells) root) list ≡ leaves answer list'
         → Emits writing (rows_held cells) T text list answer text list'

@@ -1,10 +1,6 @@
 -- What the last step of an expansion asks of what it is lent, what it judges of a term, and the answer by counts alone. Nobody needs this to believe `expand`.
-use Rattle.std.specs.Prelude.{ℕ, ◌*◌, ◌<◌, ◌≤◌, ◌≡◌, true, false, List, leb, length, get_or}
-use Rattle.answers.specs.declared.Answer.{Answer}
-use Rattle.answers.specs.declared.Answer.TheVariants.{Accepted, Refusing}
-use Rattle.answers.specs.declared.Verdict.{Verdict}
-use Rattle.answers.specs.declared.Verdict.TheVariants.{Passed}
-use Rattle.answers.specs.Refusals.{refusal}
+use Rattle.std.specs.Prelude.{ℕ, ◌*◌, ◌<◌, ◌≤◌, ◌≡◌, true, false, List, leb, length, get_or, Ok, Err}
+use Rattle.answers.specs.Refusals.{Answer, accepted, Verdict, refusal}
 use Rattle.answers.specs.Checked.{verdict}
 use Rattle.grammar.specs.Lookup.{lexicon_of}
 use Rattle.tokens.specs.Tokens.{most_tokens}
@@ -48,12 +44,12 @@ pub record Markable (cells : List ℕ) (root size : ℕ) (marks : List ℕ) : Ty
 -- The answer is that of the tests; where a term passes, the room has the number of each new name at its place.
 pub record JudgedAs (made : ℕ) (t : Term Name) (room : List ℕ) (r : Verdict) : Type 0 where
   pub answer : r ≡ verdict (judged made t)
-  pub named : r ≡ Passed → labelled room 0 t ≡ rename t
+  pub named : r ≡ Ok tt → labelled room 0 t ≡ rename t
 
 -- this of the term at a row, under any spellings that give it proper names
 pub record Judged (cells : List ℕ) (root : ℕ) (marks marks' : List ℕ) (r : Verdict) : Type 0 where
   pub long : length marks' ≡ length marks
-  pub small : r ≡ Passed → size_at cells (rows_held cells) root ≤ largest_term
+  pub small : r ≡ Ok tt → size_at cells (rows_held cells) root ≤ largest_term
   pub each : (spell : ℕ → List ℕ) → Distinct spell → WellNamed spell (term_at (rows_held cells) spell cells root)
       → JudgedAs (rows_held cells) (term_at (rows_held cells) spell cells root) marks' r
 
@@ -62,4 +58,4 @@ pub record Judged (cells : List ℕ) (root : ℕ) (marks marks' : List ℕ) (r :
 -- the answer where so many bytes are to go into a room
 unfoldable pub answer_by : ℕ → ℕ → ℕ → ℕ → Answer
 answer_by made constructors needed room =
-    elim (leb needed room) [ true ↦ Accepted made constructors needed | false ↦ Refusing (refusal 24 needed 0 0) ]
+    elim (leb needed room) [ true ↦ accepted made constructors needed | false ↦ Err (refusal 24 needed 0 0) ]

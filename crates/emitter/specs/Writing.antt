@@ -1,6 +1,6 @@
 -- What is written of a term, and the buffer that it goes into. Nobody needs this to believe `expand` or `portions`.
 use Rattle.std.specs.Prelude.{ℕ, ◌≡◌, List}
-use Rattle.answers.specs.declared.Answer.{Answer}
+use Rattle.answers.specs.Refusals.{Answer}
 use Rattle.terms.specs.Term.{Name, Term}
 use Rattle.terms.specs.Emit.{text_of, emitted}
 use Rattle.portions.specs.Portions.{portions_of}

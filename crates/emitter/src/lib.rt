@@ -12,8 +12,8 @@ ghost use Rattle.portions.specs.Lists.{entries_at, Portionable};
 ghost use Rattle.emitter.specs.Emittable.{term_of, Emittable, Sized, Markable, Judged, answer_by};
 ghost use Rattle.emitter.specs.Writing.{Writable, Emits};
 
-use answers::causes::{LOOSE_FRESH_VARIABLE, TERM_TOO_LARGE, TEXT_TOO_LONG};
-use answers::{Answer, Verdict, refuse};
+use answers::causes::Cause;
+use answers::{Accepted, Answer, Verdict};
 use portions::list_portions;
 use printer::print_text;
 use resolver::resolve;
@@ -46,11 +46,11 @@ fn judge(cells: &[u32], root: u32, size: usize, marks: &mut &mut [u16]) -> Verdi
 {
     let made = cells.len() / COLUMNS;
     if LARGEST_TERM < size {
-        return Verdict::Refused(refuse(TERM_TOO_LARGE, made as u64, 0, 0));
+        return Err(Cause::TermTooLarge.refuse(made as u64, 0, 0));
     }
     match resolve(cells, made, root, marks) {
-        Ok(()) => Verdict::Passed,
-        Err(p) => Verdict::Refused(refuse(LOOSE_FRESH_VARIABLE, p as u64, 0, 0)),
+        Ok(()) => Ok(()),
+        Err(p) => Err(Cause::LooseFreshVariable.refuse(p as u64, 0, 0)),
     }
 }
 
@@ -59,9 +59,13 @@ fn answered(made: usize, size: usize, needed: usize, room: usize) -> Answer
     ensures { result ≡ answer_by made size needed room }
 {
     if room < needed {
-        return Answer::Refusing(refuse(TEXT_TOO_LONG, needed as u64, 0, 0));
+        return Err(Cause::TextTooLong.refuse(needed as u64, 0, 0));
     }
-    Answer::Accepted(made, size, needed)
+    Ok(Accepted {
+        cells: made,
+        constructors: size,
+        length: needed,
+    })
 }
 
 // What is written of the term at a row, with the number of each new name at its place: its text, if it fits.
@@ -128,23 +132,21 @@ fn emit_in(
 {
     let root = whole.root;
     let size = whole.size;
-    match judge(cells, root, size, marks) {
-        Verdict::Refused(r) => Answer::Refusing(r),
-        Verdict::Passed => match writing {
-            Writing::Text => write_text(
-                table,
-                formula,
-                words,
-                whole.count,
-                cells,
-                root,
-                *marks,
-                text,
-            ),
-            Writing::Portions(written, wanted) => write_portions(
-                cells, root, size, written, wanted, list,
-            ),
-        },
+    judge(cells, root, size, marks)?;
+    match writing {
+        Writing::Text => write_text(
+            table,
+            formula,
+            words,
+            whole.count,
+            cells,
+            root,
+            *marks,
+            text,
+        ),
+        Writing::Portions(written, wanted) => write_portions(
+            cells, root, size, written, wanted, list,
+        ),
     }
 }
 

@@ -1,4 +1,5 @@
 -- Laws of the root's call and of the whole formula.
+use Rattle.std.specs.Prelude.{Ok, Err}
 use Prim.Native.Nat.{ℕ, ◌-◌, ◌*◌, ◌<◌, ◌≤◌}
 use mathlib.Core.Path.{◌≡◌, refl, sym, ap, ◌∙◌, subst}
 use mathlib.Core.Bool.{Bool, true, false}
@@ -10,8 +11,7 @@ use borrow.Author.Tests.{lt-ltb, le-ltb}
 use Rattle.answers.specs.declared.Refusal.{Refusal}
 use Rattle.answers.specs.Refusals.{refusal}
 use Rattle.expansion.specs.declared.State.{State}
-use Rattle.expansion.specs.declared.Outcome.{Outcome}
-use Rattle.expansion.specs.declared.Outcome.TheVariants.{Value, Halted}
+use Rattle.expansion.specs.Outcome.{Outcome}
 use Rattle.expansion.specs.Run.{Result, done, halt, after}
 use Rattle.expansion.specs.Outcomes.{ran}
 use Rattle.expansion.specs.Expansion.{Input, run_call, initial_state, ended, run}
@@ -21,8 +21,7 @@ use Rattle.steps.specs.declared.Activation.{Activation}
 use Rattle.steps.specs.Steps.{body}
 use Rattle.frames.specs.Frames.{frame_size, all_frames, LevelFits, Saved, with_front, resume, owed, stacked_none, Standing}
 use Rattle.frames.proofs.FrameLaws.{waits_saved, standing_same}
-use Rattle.turns.specs.declared.begins.Begun.{Begun}
-use Rattle.turns.specs.declared.begins.Begun.TheVariants.{Entered}
+use Rattle.turns.specs.Begun.{Begun}
 use Rattle.turns.specs.declared.Resumption.{Resumption}
 use Rattle.turns.specs.declared.Advance.{Advance}
 use Rattle.turns.specs.declared.Advance.TheVariants.{Ended, Paused}
@@ -160,15 +159,15 @@ module _ {input : Input} {S : Source} {depth nonterminal given : ℕ} {state : S
   begins_as e = subst (Begins input S depth nonterminal state) e starts.begins
 
   -- Where it is entered.
-  pub entry_of : {call : Activation} {next : State} → begun ≡ Entered call next → CallBegunAt S depth state call next
+  pub entry_of : {call : Activation} {next : State} → begun ≡ Ok (call, next) → CallBegunAt S depth state call next
   entry_of e = subst (CallEntered S depth state) e starts.enters
 
   -- It is the production that is chosen.
-  pub chosen_of : {call : Activation} {next : State} → begun ≡ Entered call next → call ≡ chosen_call input S nonterminal given state
+  pub chosen_of : {call : Activation} {next : State} → begun ≡ Ok (call, next) → call ≡ chosen_call input S nonterminal given state
   chosen_of e = subst (EntersChosen input S nonterminal given state) e starts.entered_chosen
 
   -- What it gives there it gives.
-  pub call_of : {call : Activation} {next : State} → begun ≡ Entered call next → (cells : List ℕ) {result : Result ℕ}
+  pub call_of : {call : Activation} {next : State} → begun ≡ Ok (call, next) → (cells : List ℕ) {result : Result ℕ}
       → result ≡ body (run_call (depth - 1) input) S call.next input [] next cells
       → result ≡ run_call depth input nonterminal [] state cells
   call_of e cells same = same ∙ begins_as e [] cells
@@ -177,10 +176,10 @@ module _ {input : Input} {S : Source} {depth nonterminal given : ℕ} {state : S
 
 module _ (input : Input) (cells : List ℕ) (many : ℕ) (count : length input.tokens ≡ many) (outcome : Outcome) where
   -- A refusal stays one.
-  pub ended_halted : {cause : Refusal} → outcome ≡ Halted cause → halt cause cells ≡ after (ran outcome cells) (ended input)
+  pub ended_halted : {cause : Refusal} → outcome ≡ Err cause → halt cause cells ≡ after (ran outcome cells) (ended input)
   ended_halted e = rw e
 
-  ended_by : {row : ℕ} {state : State} → outcome ≡ Value row state → (test : Bool) → ltb state.at many ≡ test
+  ended_by : {row : ℕ} {state : State} → outcome ≡ Ok (row, state) → (test : Bool) → ltb state.at many ≡ test
       → (elim test [ true ↦ halt (refusal 18 state.at 0 0) cells | false ↦ done row state cells ]) ≡ after (ran outcome cells) (ended input)
   ended_by {row} {state} e test f =
       ap (λ (x : Bool). elim x [ true ↦ halt (refusal 18 state.at 0 0) cells | false ↦ done row state cells ])
@@ -188,12 +187,12 @@ module _ (input : Input) (cells : List ℕ) (many : ℕ) (count : length input.t
       ∙ ap (λ (x : Outcome). after (ran x cells) (ended input)) (sym e)
 
   -- A token is left over: refusal 18.
-  pub ended_left : {row : ℕ} {state : State} → outcome ≡ Value row state → state.at < many → {cause : Refusal} → cause ≡ refusal 18 state.at 0 0
+  pub ended_left : {row : ℕ} {state : State} → outcome ≡ Ok (row, state) → state.at < many → {cause : Refusal} → cause ≡ refusal 18 state.at 0 0
       → halt cause cells ≡ after (ran outcome cells) (ended input)
   ended_left {row} {state} e h er = rw er (ended_by e true (lt-ltb state.at many h))
 
   -- None is left over.
-  pub ended_done : {row : ℕ} {state : State} → outcome ≡ Value row state → many ≤ state.at → done row state cells ≡ after (ran outcome cells) (ended input)
+  pub ended_done : {row : ℕ} {state : State} → outcome ≡ Ok (row, state) → many ≤ state.at → done row state cells ≡ after (ran outcome cells) (ended input)
   ended_done {row} {state} e h = ended_by e false (le-ltb state.at many h)
 
 -- A run is a call of the root that leaves no token over.
@@ -204,8 +203,8 @@ run_is input root cells e = rw e
 
 -- The number and values of an outcome are those of what it stands for.
 pub numbered_ran : (outcome : Outcome) (cells : List ℕ) → numbered_outcome outcome ≡ numbered_run (ran outcome cells)
-numbered_ran (Value row state) cells = refl
-numbered_ran (Halted cause) cells = refl
+numbered_ran (Ok (row, state)) cells = refl
+numbered_ran (Err cause) cells = refl
 
 -- So the run is answered with its number and values.
 pub expands : {S : Source} {tokens : List ℕ} {root : ℕ} (cells : List ℕ) {outcome : Outcome} {cells' : List ℕ}

@@ -1,10 +1,9 @@
 -- What the code that runs the root's call asks. These definitions mirror code: nobody needs them to believe `expand`.
-use Rattle.std.specs.Prelude.{ℕ, ◌+◌, ◌<◌, ◌≤◌, ◌≡◌, List, [], length}
+use Rattle.std.specs.Prelude.{ℕ, ◌+◌, ◌<◌, ◌≤◌, ◌≡◌, List, [], length, Ok, Err}
 use Rattle.answers.specs.declared.Refusal.{Refusal}
 use Rattle.answers.specs.Refusals.{refusal}
 use Rattle.expansion.specs.declared.State.{State}
-use Rattle.expansion.specs.declared.Outcome.{Outcome}
-use Rattle.expansion.specs.declared.Outcome.TheVariants.{Value, Halted}
+use Rattle.expansion.specs.Outcome.{Outcome}
 use Rattle.expansion.specs.Run.{Result, done, halt}
 use Rattle.expansion.specs.Outcomes.{ran}
 use Rattle.expansion.specs.Expansion.{Input, run_call, run}
@@ -45,8 +44,8 @@ pub record Ends (S : Source) (tokens cells frames : List ℕ) (from : Resumption
 
 -- document 01's number and values of an outcome and of a result: those of its refusal, else none
 abbrev pub numbered_outcome : Outcome → Refusal
-numbered_outcome (Value v s) = refusal 0 0 0 0
-numbered_outcome (Halted r) = r
+numbered_outcome (Ok (v, s)) = refusal 0 0 0 0
+numbered_outcome (Err r) = r
 
 abbrev pub numbered_run : Result ℕ → Refusal
 numbered_run (done v s cells) = refusal 0 0 0 0

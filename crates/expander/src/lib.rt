@@ -10,8 +10,7 @@ ghost use Rattle.calls.specs.Lent.{reading, Lent};
 ghost use Rattle.calls.specs.Calls.{MayGo};
 ghost use Rattle.expander.specs.Roots.{root_items, MayBeginRoot, MayGoOn, Ends, Expands};
 
-use answers::causes::TOKEN_LEFT_OVER;
-use answers::refuse;
+use answers::causes::Cause;
 use calls::items;
 use choices::MEMORY;
 use expansion::{Outcome, State};
@@ -20,7 +19,7 @@ use grammar::limits::MOST_VARIABLES;
 use productions::room::ROOM;
 use scanner::room::TOKEN;
 use steps::Activation;
-use turns::begins::{Begun, begin_root};
+use turns::begins::begin_root;
 use turns::{Advance, Resumption};
 
 // A formula of fewer tokens than these whose calls do not fit a shorter room most often has them all fit a middle room, or a long one.
@@ -43,8 +42,8 @@ fn longer_items(
     from: Resumption,
 ) -> Outcome
     requires { SomeLent table.now texts.now (λ S. MayGoOn S room.now memory.old tokens.now cells.old stack.old short.now from) }
-    ensures { EachLent table.now texts.now (λ S. MayGoOn S room.now memory.old tokens.now cells.old stack.old short.now from) (λ S. Ends S tokens.now cells.old short.now from result
-        cells.new) }
+    ensures { EachLent table.now texts.now (λ S. MayGoOn S room.now memory.old tokens.now cells.old stack.old short.now from) (λ S.
+        Ends S tokens.now cells.old short.now from result cells.new) }
 {
     let few = tokens.len() < FEW_TOKENS;
     if few && short.len() < MIDDLE_FRAMES {
@@ -82,8 +81,8 @@ fn longest_items(
     from: Resumption,
 ) -> Outcome
     requires { SomeLent table.now texts.now (λ S. MayGoOn S room.now memory.old tokens.now cells.old stack.old short.now from) }
-    ensures { EachLent table.now texts.now (λ S. MayGoOn S room.now memory.old tokens.now cells.old stack.old short.now from) (λ S. Ends S tokens.now cells.old short.now from result
-        cells.new) }
+    ensures { EachLent table.now texts.now (λ S. MayGoOn S room.now memory.old tokens.now cells.old stack.old short.now from) (λ S.
+        Ends S tokens.now cells.old short.now from result cells.new) }
 {
     let not_many = tokens.len() < MANY_TOKENS;
     if not_many && short.len() < LONG_FRAMES {
@@ -130,8 +129,8 @@ fn items_in(
     from: Resumption,
 ) -> Outcome
     requires { SomeLent table.now texts.now (λ S. MayGo S room.now memory.old tokens.now cells.old stack.old frames.old from) }
-    ensures { EachLent table.now texts.now (λ S. MayGo S room.now memory.old tokens.now cells.old stack.old frames.old from) (λ S. Ends S tokens.now cells.old frames.old from
-        result cells.new) }
+    ensures { EachLent table.now texts.now (λ S. MayGo S room.now memory.old tokens.now cells.old stack.old frames.old from) (λ S.
+        Ends S tokens.now cells.old frames.old from result cells.new) }
 {
     let progress = items(
         cells, stack, frames, memory, table, texts, room, tokens, from,
@@ -187,16 +186,12 @@ fn root_items(
 fn ended(n: usize, outcome: Outcome) -> Outcome
     ensures { (I : Input) (cells : List ℕ) → length I.tokens ≡ n → ran result cells ≡ after (ran outcome cells) (ended I) }
 {
-    match outcome {
-        Outcome::Halted(r) => Outcome::Halted(r),
-        Outcome::Value(v, s) => {
-            let at = s.at;
-            if at < n {
-                return Outcome::Halted(refuse(TOKEN_LEFT_OVER, at as u64, 0, 0));
-            }
-            Outcome::Value(v, s)
-        }
+    let (v, s) = outcome?;
+    let at = s.at;
+    if at < n {
+        return Err(Cause::TokenLeftOver.refuse(at as u64, 0, 0));
     }
+    Ok((v, s))
 }
 
 // The expansion of a formula's tokens, or of a text's: a call of the root that leaves no token over. It works from the table's bytes, from `texts`, which
@@ -218,23 +213,18 @@ pub fn run(
         Expands S tokens.now root cells.old result cells.new) }
 {
     let mut memory = [0u8; MEMORY];
-    let begun = begin_root(&mut memory, room, tokens, root);
-    match begun {
-        Begun::Refused(r) => Outcome::Halted(r),
-        Begun::Entered(call, t) => {
-            let n = tokens.len() / TOKEN;
-            let outcome = root_items(
-                cells,
-                stack,
-                &mut memory,
-                table,
-                texts,
-                room,
-                tokens,
-                call,
-                t,
-            );
-            ended(n, outcome)
-        }
-    }
+    let (call, t) = begin_root(&mut memory, room, tokens, root)?;
+    let n = tokens.len() / TOKEN;
+    let outcome = root_items(
+        cells,
+        stack,
+        &mut memory,
+        table,
+        texts,
+        room,
+        tokens,
+        call,
+        t,
+    );
+    ended(n, outcome)
 }

@@ -1,3 +1,4 @@
+pub mod Outcome
 pub mod Run
 pub mod TextTokens
 pub mod Expansion

@@ -1,4 +1,5 @@
 -- Laws of the tests on one field: values, counts, and the first test that fails.
+use Rattle.std.specs.Prelude.{Ok, Err}
 use Prim.Native.Nat.{ℕ, ◌+◌, ◌-◌, ◌<◌}
 use mathlib.Core.Path.{◌≡◌, refl, sym, ap, ◌∙◌}
 use mathlib.Core.Bool.{Bool, true, false, not, ◌&&◌, ◌||◌, and-true, or-false}
@@ -12,7 +13,6 @@ use lib.Seq.{take_all}
 use borrow.Author.Tests.{eq-eqb, ne_eqb, ltb-true}
 use Rattle.answers.specs.Refusals.{refusal}
 use Rattle.answers.specs.Checked.{Checked, ok, bad, need, verdict, ◌>>◌}
-use Rattle.answers.specs.declared.Verdict.TheVariants.{Passed, Refused}
 use Rattle.std.specs.List.{list_all}
 use Rattle.spellings.specs.Bytes.{every, is_word, is_keyword, one_if}
 use Rattle.grammar.specs.Limits.{most}
@@ -255,9 +255,9 @@ module _ (before : List Field) (at tag : ℕ) (value : List ℕ) (progress : Pro
 -- ------------------------------------------------------------------ the end
 
 -- the root is last
-pub end_root : (last at : ℕ) → last ≡ 8 → verdict (need (eqb last 8) 4 at) ≡ Passed
+pub end_root : (last at : ℕ) → last ≡ 8 → verdict (need (eqb last 8) 4 at) ≡ Ok tt
 end_root last at e = cc (eq-eqb last 8 e)
 
 -- it is missing
-pub end_other : (last at : ℕ) → (last ≡ 8 → ⊥) → verdict (need (eqb last 8) 4 at) ≡ Refused (refusal 4 at 0 0)
+pub end_other : (last at : ℕ) → (last ≡ 8 → ⊥) → verdict (need (eqb last 8) 4 at) ≡ Err (refusal 4 at 0 0)
 end_other last at h = cc (ne_eqb last 8 h)

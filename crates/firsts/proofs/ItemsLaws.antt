@@ -1,5 +1,6 @@
 -- Laws of the loop over the items of an alternative: what is found with an item, and what is found with all.
-use Prim.Native.Nat.{ℕ, ◌-◌, ◌<◌, ◌≤◌}
+use Rattle.std.specs.Prelude.{None, Some}
+use Prim.Native.Nat.{ℕ, ◌-◌, ◌<◌}
 use mathlib.Core.Path.{◌≡◌, refl, ap, ◌∙◌}
 use mathlib.Core.Bool.{Bool, true, false}
 use mathlib.Core.List.{List, [], ◌∷◌}
@@ -12,9 +13,8 @@ use Rattle.productions.specs.Index.{items_of}
 use Rattle.productions.specs.declared.Terminal.{Terminal}
 use Rattle.productions.specs.declared.Symbol.{Symbol}
 use Rattle.productions.specs.declared.Symbol.TheVariants.{Read, Local, Call}
-use Rattle.productions.specs.declared.SymbolStep.TheVariants.{Done, Past}
 use Rattle.productions.specs.Symbols.{terminal_in, symbol_of, with_symbol, symbol_step}
-use Rattle.productions.proofs.SymbolLaws.{stepped, step_less, items_end}
+use Rattle.productions.proofs.SymbolLaws.{stepped, step_less}
 use Rattle.firsts.specs.declared.Gathered.{Gathered}
 use Rattle.firsts.specs.SetCalls.{with_item, gathered}
 use Rattle.firsts.specs.FirstSets.{is_nullable, all_nullable, opening_of, call_of, gather}
@@ -105,14 +105,10 @@ module _ {bs : List ℕ} {nulls : ℕ} {kinds calls : List ℕ} {start : ℕ} {f
   walk_none e = rw e at walking.rest
 
   -- no item is left
-  pub walk_done : Done ≡ symbol_step bs (field_at bs at) → found ≡ gathered nulls kinds calls (items_of (fields_at bs start))
+  pub walk_done : None ≡ symbol_step bs (field_at bs at) → found ≡ gathered nulls kinds calls (items_of (fields_at bs start))
   walk_done e = walk_none (stepped bs at e)
 
-  -- nor at the end
-  pub walk_end : length bs ≤ at → found ≡ gathered nulls kinds calls (items_of (fields_at bs start))
-  walk_end h = walk_none (items_end bs at h)
-
-  module _ {symbol : Symbol} {after : ℕ} (equal : Past symbol after ≡ symbol_step bs (field_at bs at)) where
+  module _ {symbol : Symbol} {after : ℕ} (equal : Some (symbol, after) ≡ symbol_step bs (field_at bs at)) where
     -- behind an item less is left
     pub walk_less : length bs - after < length bs - at
     walk_less = step_less bs at equal

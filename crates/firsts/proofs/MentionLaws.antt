@@ -1,4 +1,5 @@
 -- Laws of the loops that note what productions mention: over the items of an alternative, and over the productions.
+use Rattle.std.specs.Prelude.{None, Some}
 use Prim.Native.Nat.{ℕ, ◌+◌, ◌-◌, ◌<◌, ◌≤◌}
 use mathlib.Core.Path.{◌≡◌, refl, sym, ap, ◌∙◌}
 use mathlib.Core.Bool.{Bool, false, ◌&&◌, and-true, and-false, and_assoc}
@@ -12,9 +13,8 @@ use Rattle.productions.specs.Index.{items_of, production_at, productions_by}
 use Rattle.productions.specs.declared.Terminal.{Terminal}
 use Rattle.productions.specs.declared.Symbol.{Symbol}
 use Rattle.productions.specs.declared.Symbol.TheVariants.{Read, Local, Call}
-use Rattle.productions.specs.declared.SymbolStep.TheVariants.{Done, Past}
 use Rattle.productions.specs.Symbols.{terminal_in, symbol_of, with_symbol, symbol_step}
-use Rattle.productions.proofs.SymbolLaws.{stepped, step_less, items_end}
+use Rattle.productions.proofs.SymbolLaws.{stepped, step_less}
 use Rattle.firsts.specs.declared.Gathered.{Gathered}
 use Rattle.firsts.specs.FirstSets.{is_nullable, all_nullable, opening_of, call_of}
 use Rattle.firsts.specs.Mentions.{mentioned, noted, notes}
@@ -80,14 +80,10 @@ module _ {bs : List ℕ} {start : ℕ} {found : Gathered} {at : ℕ} (mentioning
   mention_none e = sym (rw (e, and-true found.nullable) refl) ∙ mentioning.rest
 
   -- no item is left
-  pub mention_done : Done ≡ symbol_step bs (field_at bs at) → found ≡ mentioned_all (items_of (fields_at bs start))
+  pub mention_done : None ≡ symbol_step bs (field_at bs at) → found ≡ mentioned_all (items_of (fields_at bs start))
   mention_done e = mention_none (stepped bs at e)
 
-  -- nor at the end
-  pub mention_end : length bs ≤ at → found ≡ mentioned_all (items_of (fields_at bs start))
-  mention_end h = mention_none (items_end bs at h)
-
-  module _ {symbol : Symbol} {after : ℕ} (equal : Past symbol after ≡ symbol_step bs (field_at bs at)) where
+  module _ {symbol : Symbol} {after : ℕ} (equal : Some (symbol, after) ≡ symbol_step bs (field_at bs at)) where
     -- behind an item less is left
     pub mention_less : length bs - after < length bs - at
     mention_less = step_less bs at equal

@@ -1,4 +1,5 @@
 -- Lines of an input one after the other, and what is laid for them in a room.
+use Rattle.std.specs.Prelude.{Ok, Err}
 use Prim.Native.Nat.{ℕ, suc, ◌+◌, ◌-◌, ◌≤◌, ◌<◌, min}
 use mathlib.Core.Path.{◌≡◌, refl, sym, ap, ◌∙◌}
 use mathlib.Core.Bool.{true, false}
@@ -8,8 +9,7 @@ use native.Mathlib.Omega.{arith}
 use lib.ListN.{length, get_or, take, drop, length-append, length-take, length-drop, length-replicate, take-append-drop, drop_of_length-le}
 use lib.Seq.{take_all, take_at, drop_at, drop-drop, length-take-le}
 use borrow.Author.Tests.{lt-ltb, le-ltb}
-use Rattle.answers.specs.declared.Answer.{Answer}
-use Rattle.answers.specs.declared.Answer.TheVariants.{Accepted, Refusing}
+use Rattle.answers.specs.Refusals.{Answer}
 use Rattle.spellings.specs.Bytes.{longest_run}
 use Rattle.spellings.proofs.BytesLaws.{by_test, run_taken, run_left, run_prefix}
 use Rattle.terms.specs.Emit.{text_of}
@@ -29,10 +29,10 @@ unfolding text_line
 told_alike x y alike = go x.answer refl
   where
     go : (answer : Answer) → x.answer ≡ answer → told x ≡ told y
-    go (Refusing r) e = rw (e, sym alike.answers ∙ e) refl
-    go (Accepted cells constructors size) e =
-        let f : y.answer ≡ Accepted cells constructors size = sym alike.answers ∙ e in
-        let same : take size x.text ≡ take size y.text = rw (e, f) at alike.texts in
+    go (Err r) e = rw (e, sym alike.answers ∙ e) refl
+    go (Ok made) e =
+        let f : y.answer ≡ Ok made = sym alike.answers ∙ e in
+        let same : take made.length x.text ≡ take made.length y.text = rw (e, f) at alike.texts in
         rw (e, f, same) refl
 
 -- what is told of a line's expansion is what `phrase` writes for it, whatever the cells and the text held before

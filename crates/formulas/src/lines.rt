@@ -25,26 +25,11 @@ pub struct Laid {
     pub size: usize,
 }
 
-fn is_line_byte(b: u8) -> bool
-    ensures { result ≡ is_line_byte b }
-{
-    b != b'\n'
-}
-
 // How many bytes stand before the first line end, or in all.
 fn line_run(s: &[u8]) -> usize
     ensures { result ≡ length (longest_run is_line_byte s.now) }
 {
-    let mut i: usize = 0;
-    while i < s.len() {
-        let goes = is_line_byte(s[i]);
-        if goes {
-            i += 1;
-        } else {
-            return i;
-        }
-    }
-    i
+    s.iter().position(|b| *b == b'\n').unwrap_or(s.len())
 }
 
 // Where the line ends that begins at an offset.
@@ -52,19 +37,14 @@ fn line_end(input: &[u8], at: usize) -> usize
     requires { at ≤ length input.now }
     ensures { (result ≡ at + length (longest_run is_line_byte (drop at input.now))) × (result ≤ length input.now) }
 {
-    let rest = &input[at..];
-    at + line_run(rest)
+    at + line_run(&input[at..])
 }
 
 // Where the next line begins behind one that ends at an offset.
 fn next_line(input: &[u8], end: usize) -> usize
     ensures { result ≡ min (end + 1) (length input.now) }
 {
-    if end < input.len() {
-        end + 1
-    } else {
-        input.len()
-    }
+    end.saturating_add(1).min(input.len())
 }
 
 // Expands a line as a formula after the check of a table, and lays behind the first `at` bytes of a room what `phrase` writes for it. What cells and text held

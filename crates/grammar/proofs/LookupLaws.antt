@@ -1,4 +1,5 @@
 -- Laws of a table's fields from an offset on, and of a spelling found in a list.
+use Rattle.std.specs.Prelude.{Some, None, Option}
 use Prim.Native.Nat.{ℕ, zero, suc, ◌+◌, ◌-◌, ◌*◌, ◌<◌, ◌≤◌}
 use mathlib.Core.Path.{◌≡◌, refl, sym, ap, ◌∙◌, subst}
 use mathlib.Core.Bool.{Bool, true, false}
@@ -14,8 +15,6 @@ use Rattle.spellings.proofs.BytesLaws.{index_found}
 use Rattle.grammar.specs.declared.Front.{Front}
 use Rattle.grammar.specs.declared.Front.TheVariants.{Nothing, Short, Field}
 use Rattle.grammar.specs.declared.FieldSpan.{FieldSpan}
-use Rattle.grammar.specs.declared.Found.{Found}
-use Rattle.grammar.specs.declared.Found.TheVariants.{At, Absent}
 use Rattle.grammar.specs.Fields.{RawFields, end, cut, next, size_of, fields_from, fields_of}
 use Rattle.grammar.specs.Limits.{most}
 use Rattle.grammar.specs.Lookup.{leading, after_leading, lexicon_of, front_of, span_by, field_at, value_in, fields_at}
@@ -236,32 +235,32 @@ module _ {A : Type 0} {walk : RawFields → A} {last : A} (given_walk : Walk wal
 -- ------------------------------------------------------------------ the search for a spelling
 
 -- a place in a list that follows i spellings
-abbrev pub shifted : ℕ → Found → Found
-shifted i (At k) = At (i + k)
-shifted i Absent = Absent
+abbrev pub shifted : ℕ → Option ℕ → Option ℕ
+shifted i (Some k) = Some (i + k)
+shifted i None = None
 
 found_tests : (sought : List ℕ) (vs : List (List ℕ)) (inside : Bool) → ltb (index_of sought vs) (length vs) ≡ inside
-    → found_in sought vs ≡ elim inside [ true ↦ At (index_of sought vs) | false ↦ Absent ]
+    → found_in sought vs ≡ elim inside [ true ↦ Some (index_of sought vs) | false ↦ None ]
 unfolding found_in
 found_tests sought vs inside e = rw (e, found_in) refl
 
 -- nothing is found among no spellings
-pub found_nil : (sought : List ℕ) → found_in sought [] ≡ Absent
+pub found_nil : (sought : List ℕ) → found_in sought [] ≡ None
 unfolding found_in index_of
 found_nil sought = refl
 
 -- the first spelling is found at 0
-pub found_here : (sought value : List ℕ) (vs : List (List ℕ)) → same value sought ≡ true → found_in sought (value ∷ vs) ≡ At 0
+pub found_here : (sought value : List ℕ) (vs : List (List ℕ)) → same value sought ≡ true → found_in sought (value ∷ vs) ≡ Some 0
 unfolding index_of
 found_here sought value vs e =
     let z : index_of sought (value ∷ vs) ≡ 0 = rw (e, index_of) refl in
-    found_tests sought (value ∷ vs) true (rw z (lt-ltb 0 (suc (length vs)) (omega arith))) ∙ ap At z
+    found_tests sought (value ∷ vs) true (rw z (lt-ltb 0 (suc (length vs)) (omega arith))) ∙ ap Some z
 
 found_later_by : (sought value : List ℕ) (vs : List (List ℕ)) (inside : Bool) → index_of sought (value ∷ vs) ≡ suc (index_of sought vs)
     → ltb (index_of sought vs) (length vs) ≡ inside
     → found_in sought (value ∷ vs) ≡ shifted 1 (found_in sought vs)
 found_later_by sought value vs true z e =
-    found_tests sought (value ∷ vs) true (rw (z, leb-suc-suc) e) ∙ ap At (z ∙ omega arith) ∙ sym (ap (shifted 1) (found_tests sought vs true e))
+    found_tests sought (value ∷ vs) true (rw (z, leb-suc-suc) e) ∙ ap Some (z ∙ omega arith) ∙ sym (ap (shifted 1) (found_tests sought vs true e))
 found_later_by sought value vs false z e =
     found_tests sought (value ∷ vs) false (rw (z, leb-suc-suc) e) ∙ sym (ap (shifted 1) (found_tests sought vs false e))
 
@@ -362,9 +361,9 @@ unfolding lexicon_of
 few_outsides table = omega (arith, length-take most.outsides (leading 2 (after_leading 1 (fields_of table))))
 
 -- a place that is found lies in the list
-abbrev pub Within : List (List ℕ) → Found → Type 0
-Within vs (At k) = k < length vs
-Within vs Absent = Unit {0}
+abbrev pub Within : List (List ℕ) → Option ℕ → Type 0
+Within vs (Some k) = k < length vs
+Within vs None = Unit {0}
 
 found_within_by : (sought : List ℕ) (vs : List (List ℕ)) (inside : Bool) → ltb (index_of sought vs) (length vs) ≡ inside → Within vs (found_in sought vs)
 found_within_by sought vs true e =
@@ -372,13 +371,13 @@ found_within_by sought vs true e =
 found_within_by sought vs false e = rw (found_tests sought vs false e) tt
 
 -- what is found is an index of the list
-pub found_within : (sought : List ℕ) (vs : List (List ℕ)) {found : Found} → found ≡ found_in sought vs → Within vs found
+pub found_within : (sought : List ℕ) (vs : List (List ℕ)) {found : Option ℕ} → found ≡ found_in sought vs → Within vs found
 found_within sought vs e = rw e (found_within_by sought vs _ refl)
 
 -- what stands at a place that is found
-abbrev Spells : List ℕ → List (List ℕ) → Found → Type 0
-Spells s vs (At k) = get_or vs k [] ≡ s
-Spells s vs Absent = Unit {0}
+abbrev Spells : List ℕ → List (List ℕ) → Option ℕ → Type 0
+Spells s vs (Some k) = get_or vs k [] ≡ s
+Spells s vs None = Unit {0}
 
 found_spells_by : (sought : List ℕ) (vs : List (List ℕ)) (inside : Bool) → ltb (index_of sought vs) (length vs) ≡ inside → Spells sought vs (found_in sought vs)
 found_spells_by sought vs true e =
@@ -386,5 +385,5 @@ found_spells_by sought vs true e =
 found_spells_by sought vs false e = subst (Spells sought vs) (sym (found_tests sought vs false e)) tt
 
 -- at the index that is found the spelling stands
-pub found_spells : (sought : List ℕ) (vs : List (List ℕ)) {index : ℕ} → At index ≡ found_in sought vs → get_or vs index [] ≡ sought
+pub found_spells : (sought : List ℕ) (vs : List (List ℕ)) {index : ℕ} → Some index ≡ found_in sought vs → get_or vs index [] ≡ sought
 found_spells sought vs e = subst (Spells sought vs) (sym e) (found_spells_by sought vs _ refl)

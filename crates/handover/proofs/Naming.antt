@@ -1,4 +1,5 @@
 -- What the last step of an expansion asks of names, from the scan of a formula under a passed table.
+use Rattle.std.specs.Prelude.{Ok}
 use Prim.Native.Nat.{ℕ, zero, suc, ◌+◌, ◌<◌, ◌≤◌}
 use mathlib.Core.Path.{◌≡◌, refl, sym, ap, ◌∙◌}
 use mathlib.Core.Bool.{true}
@@ -13,7 +14,6 @@ use Rattle.decoding.proofs.Split.{Bytes}
 use Rattle.tokens.specs.Scan.{scan}
 use Rattle.scanner.specs.Rooms.{words_from, words_in}
 use Rattle.tokens.specs.Tokens.{spelled}
-use Rattle.tokens.specs.declared.Scanned.TheVariants.{Tokens}
 use Rattle.tokens.proofs.WordsOfScan.{scan_plain}
 use Rattle.tokens.proofs.ScannerTheorems.{tokens_counted}
 use Rattle.writer.specs.Pool.{spelling_room}
@@ -108,7 +108,7 @@ module _ (bs : List ℕ) (bytes : Bytes bs) (passes : Passes bs) where
   outsides_fit_lem number =
       rw (outsides_passed bytes passes) (short_words passes.table.outsides (λ i l. each_at names.outsides i [] l) number)
 
-  module _ (formula words : List ℕ) {many count : ℕ} (answered : (scan (syntax_of passes.table).lexicon formula).answer ≡ Tokens many count)
+  module _ (formula words : List ℕ) {many count : ℕ} (answered : (scan (syntax_of passes.table).lexicon formula).answer ≡ Ok (many, count))
       (words_are : words_in formula words count ≡ (scan (syntax_of passes.table).lexicon formula).words) where
     words_list : Words formula words count (scan (syntax_of passes.table).lexicon formula).words
     words_list =

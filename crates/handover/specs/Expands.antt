@@ -1,6 +1,6 @@
 -- What an expansion under a passed table promises, whatever is written of its term. Nobody needs this to believe `expand` or `portions`.
 use Rattle.std.specs.Prelude.{◌≡◌, List, ℕ}
-use Rattle.answers.specs.declared.Answer.{Answer}
+use Rattle.answers.specs.Refusals.{Answer}
 use Rattle.emitter.specs.declared.Writing.{Writing}
 use Rattle.emitter.specs.Writing.{writes, lent_for, spare}
 use Rattle.meaning.specs.Expand.{expanded, expand_by}

@@ -1,4 +1,5 @@
 -- Laws of a table's fields one after the other: those before an offset, and the turns of the check.
+use Rattle.std.specs.Prelude.{Err}
 use Prim.Native.Nat.{ℕ, ◌+◌, ◌-◌, ◌<◌, ◌≤◌}
 use mathlib.Core.Path.{◌≡◌, refl, sym, ap, ◌∙◌}
 use mathlib.Core.Bool.{Bool, true, false}
@@ -8,7 +9,6 @@ use lib.Dec.{eqb, ltb}
 use lib.ListN.{length, take, drop}
 use borrow.Author.Tests.{le-leb, lt-leb, le-ltb, lt-ltb}
 use Rattle.answers.specs.declared.Refusal.{Refusal}
-use Rattle.answers.specs.declared.Verdict.TheVariants.{Refused}
 use Rattle.answers.specs.Refusals.{refusal}
 use Rattle.answers.specs.Checked.{Checked, ok, bad, need, verdict, ◌>>=◌}
 use Rattle.grammar.specs.declared.Front.{Front}
@@ -71,7 +71,7 @@ lent_is table from size =
 -- ------------------------------------------------------------------ the turns of the check
 
 -- refusal 1
-pub layout_long : (table : List ℕ) → most.bytes < length table → Refused (refusal 1 0 0 0) ≡ verdict (layout table)
+pub layout_long : (table : List ℕ) → most.bytes < length table → Err (refusal 1 0 0 0) ≡ verdict (layout table)
 unfolding layout
 layout_long table h = rw (lt-leb (length table) most.bytes h, layout) refl
 
@@ -132,7 +132,7 @@ module _ {table : List ℕ} {at : ℕ} {progress : Progress} (turn : Turn table 
       answer (need (eqb progress.last 8) 4 at) (rw (fields_at_lem table at e) (fields_end at (fields_before table at) progress))
 
   -- at a field that runs past it
-  pub turn_cut : Short ≡ front_of (drop at table) → Refused (refusal 2 at 0 0) ≡ verdict (layout table)
+  pub turn_cut : Short ≡ front_of (drop at table) → Err (refusal 2 at 0 0) ≡ verdict (layout table)
   turn_cut e =
       answer (bad (refusal 2 at 0 0)) (rw (fields_at_lem table at e) (fields_cut at (fields_before table at) progress))
 
@@ -154,7 +154,7 @@ module _ {table : List ℕ} {at : ℕ} {progress : Progress} (turn : Turn table 
   pub turn_stopped : length table ≤ most.bytes → {cause : Refusal}
       → Err cause
       ≡ checking (check_field (fields_before table at) at tag (take (at + 3 + size - (at + 3)) (drop (at + 3) table)) progress)
-      → Refused cause ≡ verdict (layout table)
+      → Err cause ≡ verdict (layout table)
   turn_stopped h {cause} f = ap verdict (field_is (bad cause) (checked_bad _ cause f) ∙ sym (layout_short table h))
 
   -- the fields before the next one

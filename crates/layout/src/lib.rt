@@ -5,6 +5,7 @@ mod index;
 
 ghost use Rattle.std.specs.Prelude.{◌≡◌, true, List, ◌-◌, eqb};
 ghost use Rattle.grammar.specs.Values.{Field};
+ghost use Rattle.answers.specs.Causes.{cause_number};
 ghost use Rattle.answers.specs.Refusals.{refusal};
 ghost use Rattle.answers.specs.Checked.{need, verdict};
 ghost use Rattle.decoding.specs.Layout.{is_spelled, check_field};
@@ -12,11 +13,8 @@ ghost use Rattle.decoding.specs.Layout.{layout};
 ghost use Rattle.layout.specs.Before.{fields_before, checking};
 ghost use Rattle.layout.specs.Index.{spellings_under, Indexed, SpellingLent, FieldLent, EnterableUnder, EnteredUnder};
 
-use answers::causes::{
-    BAD_SPELLING, BAD_TEMPLATE, FIELD_OUT_OF_ORDER, FIELD_PAST_END, TABLE_TOO_LONG, TOO_MANY,
-    UNKNOWN_FIELD,
-};
-use answers::{Refusal, Verdict, refuse, refused};
+use answers::causes::Cause;
+use answers::{Refusal, Verdict};
 use decoding::Progress;
 use fields::{further, has_room, is_known, is_whole, may_follow};
 use grammar::codes::{HEADER, KEYWORD_TAG, OUTSIDE_TAG, ROOT_TAG};
@@ -49,10 +47,10 @@ fn is_spelled(
 
 // ---------------------------------------------------------------- field by field
 
-fn stopped(number: u8, at: usize) -> Result<Progress, Refusal>
-    ensures { result ≡ Err (refusal number at 0 0) }
+fn stopped(cause: Cause, at: usize) -> Result<Progress, Refusal>
+    ensures { result ≡ Err (refusal (cause_number cause) at 0 0) }
 {
-    Err(refuse(number, at as u64, 0, 0))
+    Err(cause.refuse(at as u64, 0, 0))
 }
 
 // One field of a table at an offset, after those that begin before it, whose spellings the rooms have: what has then been read, or the
@@ -71,19 +69,19 @@ fn check_field(
     ensures { result ≡ checking (check_field (fields_before table.now at) at tag v.now s) }
 {
     if !is_known(tag, v) {
-        return stopped(UNKNOWN_FIELD, at);
+        return stopped(Cause::UnknownField, at);
     }
     if !may_follow(tag, s.last) {
-        return stopped(FIELD_OUT_OF_ORDER, at);
+        return stopped(Cause::FieldOutOfOrder, at);
     }
     if !is_spelled(keywords, outsides, table, tag, v, h) {
-        return stopped(BAD_SPELLING, at);
+        return stopped(Cause::BadSpelling, at);
     }
     if !has_room(tag, s) {
-        return stopped(TOO_MANY, at);
+        return stopped(Cause::TooMany, at);
     }
     if !is_whole(tag, v) {
-        return stopped(BAD_TEMPLATE, at);
+        return stopped(Cause::BadTemplate, at);
     }
     Ok(further(tag, s))
 }
@@ -93,9 +91,9 @@ fn check_end(at: usize, s: Progress) -> Verdict
     ensures { result ≡ verdict (need (eqb s.last 8) 4 at) }
 {
     if s.last == ROOT_TAG {
-        return Verdict::Passed;
+        return Ok(());
     }
-    refused(FIELD_OUT_OF_ORDER, at)
+    Cause::FieldOutOfOrder.refused(at)
 }
 
 // Enters the spelling of a field in the room of its tag, if it is a keyword or an outside name; s is what was read before it.
@@ -134,7 +132,7 @@ pub fn check_layout(table: &[u8]) -> Verdict
     ensures { result ≡ verdict (layout table.now) }
 {
     if LONGEST_TABLE < table.len() {
-        return refused(TABLE_TOO_LONG, 0);
+        return Cause::TableTooLong.refused(0);
     }
     let mut keywords = [0u32; ROOM];
     let mut outsides = [0u32; ROOM];
@@ -147,24 +145,17 @@ pub fn check_layout(table: &[u8]) -> Verdict
                 return check_end(at, s);
             }
             Front::Short => {
-                return refused(FIELD_PAST_END, at);
+                return Cause::FieldPastEnd.refused(at);
             }
             Front::Field(tag, size) => {
                 let from = at + HEADER;
                 let to = from + size;
                 let v = &table[from..to];
                 let h = spelling_hash(tag, v);
-                let checked = check_field(&keywords, &outsides, table, at, tag, v, h, s);
-                match checked {
-                    Err(r) => {
-                        return Verdict::Refused(r);
-                    }
-                    Ok(t) => {
-                        remember(&mut keywords, &mut outsides, tag, s, from, v, h);
-                        s = t;
-                        at = to;
-                    }
-                }
+                let checked = check_field(&keywords, &outsides, table, at, tag, v, h, s)?;
+                remember(&mut keywords, &mut outsides, tag, s, from, v, h);
+                s = checked;
+                at = to;
             }
         }
     }

@@ -1,4 +1,5 @@
 -- Laws of entering a table's keywords and outside names.
+use Rattle.std.specs.Prelude.{Some, None, Option}
 use Prim.Native.Nat.{ℕ, suc, ◌+◌, ◌-◌, ◌*◌, ◌^◌, ◌<◌, ◌≤◌}
 use mathlib.Core.Path.{◌≡◌, refl, sym, ap, ap₂, ◌∙◌}
 use mathlib.Core.List.{List, [], ◌∷◌, ◌++◌, append_assoc, append-nil}
@@ -13,8 +14,6 @@ use Rattle.grammar.specs.declared.Front.{Front}
 use Rattle.grammar.specs.declared.Front.TheVariants.{Nothing, Short, Field}
 use Rattle.grammar.specs.Table.{Lexicon}
 use Rattle.grammar.specs.Lookup.{leading, after_leading, lexicon_of, front_of, fields_at}
-use Rattle.grammar.specs.declared.Found.{Found}
-use Rattle.grammar.specs.declared.Found.TheVariants.{At, Absent}
 use Rattle.grammar.specs.Found.{found_in}
 use Rattle.kinds.specs.Kinds.{keyword_kind, no_kind}
 use mathlib.Core.Bool.{Bool, true, false}
@@ -207,11 +206,11 @@ module _ (number : ℕ) (word : List ℕ) (vs : List (List ℕ)) (spelling : Lis
   unfolding kind_from
   kind_later d = by_found (found_in spelling vs) refl
     where
-      by_found : (found : Found) → found_in spelling vs ≡ found → kind_from number (word ∷ vs) spelling ≡ kind_from (number + 1) vs spelling
-      by_found (At j) e =
+      by_found : (found : Option ℕ) → found_in spelling vs ≡ found → kind_from number (word ∷ vs) spelling ≡ kind_from (number + 1) vs spelling
+      by_found (Some j) e =
           let z : number + (1 + j) + 2 ≡ number + 1 + j + 2 = omega arith in
           rw (found_later spelling word vs (differ_same word spelling d), e, kind_from) z
-      by_found Absent e = rw (found_later spelling word vs (differ_same word spelling d), e, kind_from) refl
+      by_found None e = rw (found_later spelling word vs (differ_same word spelling d), e, kind_from) refl
 
 -- the symbols are marked by the spellings from spelling `number` on
 pub record Marking (table room₀ : List ℕ) (count : ℕ) (room : List ℕ) (number : ℕ) : Type 0 where

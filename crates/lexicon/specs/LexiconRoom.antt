@@ -1,7 +1,6 @@
 -- The rooms that hold a table's keywords and outside names during a scan. Nobody needs these definitions to believe `scan`: its contract
 -- does not cite them.
-use Rattle.std.specs.Prelude.{ℕ, ◌+◌, ◌*◌, ◌^◌, ◌<◌, ◌≤◌, ◌≡◌, List, [], ◌∷◌, ◌++◌, length, get_or, take, drop}
-use Rattle.grammar.specs.declared.Found.TheVariants.{At, Absent}
+use Rattle.std.specs.Prelude.{ℕ, ◌+◌, ◌*◌, ◌^◌, ◌<◌, ◌≤◌, ◌≡◌, List, [], ◌∷◌, ◌++◌, length, get_or, take, drop, Some, None}
 use Rattle.grammar.specs.Limits.{most}
 use Rattle.grammar.specs.Variables.{most_variables}
 use Rattle.grammar.specs.Table.{Lexicon}
@@ -72,7 +71,7 @@ pub record SpellingsEntered (table room room' links' : List ℕ) (count : ℕ) (
 
 -- the kind of a symbol by the keywords from keyword k on
 unfoldable pub kind_from : ℕ → List (List ℕ) → List ℕ → ℕ
-kind_from k spellings s = elim (found_in s spellings) [ At j ↦ keyword_kind (k + j) | Absent ↦ no_kind ]
+kind_from k spellings s = elim (found_in s spellings) [ Some j ↦ keyword_kind (k + j) | None ↦ no_kind ]
 
 -- the symbol that is spelled s has the kind of keyword k, and the others stay
 pub record Marked (room room' s : List ℕ) (k : ℕ) : Type 0 where

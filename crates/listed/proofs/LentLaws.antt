@@ -8,7 +8,7 @@ use native.Mathlib.Omega.{arith}
 use lib.ListN.{length, get_or, take, drop, replicate, length-append, length-replicate}
 use lib.Seq.{take_at}
 use Rattle.spellings.specs.Bytes.{one_if, bytes}
-use Rattle.answers.specs.declared.Answer.{Answer}
+use Rattle.answers.specs.Refusals.{Answer}
 use Rattle.meaning.specs.Expand.{Expanded, expanded, expand}
 use Rattle.rooms.specs.Laying.{laid_end, laid, Lays}
 use Rattle.rooms.proofs.LayingLaws.{lays_then, lays_whole}

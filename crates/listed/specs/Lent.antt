@@ -1,7 +1,7 @@
 -- What the program `listed` writes: for each line of document 01 at a limit whether the answer is as listed, by the bytes of the files of the tables.
 use Rattle.std.specs.Prelude.{ℕ, zero, suc, ◌+◌, ◌≡◌, Bool, true, false, List, [], ◌++◌, replicate}
 use Rattle.spellings.specs.Bytes.{one_if}
-use Rattle.answers.specs.declared.Answer.{Answer}
+use Rattle.answers.specs.Refusals.{Answer}
 use Rattle.meaning.specs.Expand.{expand}
 use Rattle.rooms.specs.Laying.{Lays}
 use Rattle.reports.specs.Lines.{total}

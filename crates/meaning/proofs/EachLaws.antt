@@ -1,4 +1,5 @@
 -- What an expansion leaves of the text, and expansions one after the other: they are told apart at any place.
+use Rattle.std.specs.Prelude.{Err, Ok}
 use Prim.Native.Nat.{ℕ, zero, suc, ◌+◌, ◌*◌, ◌≤◌, ◌<◌}
 use mathlib.Core.Path.{◌≡◌, refl, ap, ◌∙◌}
 use mathlib.Core.List.{List, [], ◌∷◌, ◌++◌, append_assoc, append-nil}
@@ -7,10 +8,8 @@ use native.Mathlib.Omega.{arith}
 use lib.ListN.{length, get_or, take, drop, length-append, length-drop}
 use lib.Seq.{drop-append_seam, length-take-le, drop-drop, take-suc, split_at}
 use Rattle.answers.specs.declared.Refusal.{Refusal}
-use Rattle.answers.specs.declared.Verdict.TheVariants.{Refused}
 use Rattle.answers.specs.Checked.{Checked, ok, bad}
-use Rattle.tokens.specs.declared.Scanned.{Scanned}
-use Rattle.tokens.specs.declared.Scanned.TheVariants.{Tokens, Unscanned}
+use Rattle.tokens.specs.Scanned.{Scanned}
 use Rattle.tokens.specs.Scan.{Lexed, scan}
 use Rattle.tokens.specs.Tokens.{spelled}
 use Rattle.checker.specs.Syntax.{Syntax}
@@ -57,8 +56,8 @@ module _ (cells text : List ℕ) where
         finish_keeps left.2.as_many (finishes write s.made (term_at s.made spelling cells' v) cells' text)
 
     scan_keeps : (syntax : Syntax) (l : Lexed) (answer : Scanned) → Keeps cells text (scanned write syntax l answer cells text)
-    scan_keeps syntax l (Unscanned r) = refused_keeps refl refl refl
-    scan_keeps syntax l (Tokens n m) =
+    scan_keeps syntax l (Err r) = refused_keeps refl refl refl
+    scan_keeps syntax l (Ok (n, m)) =
         let input = input_of syntax.productions l.tokens cells in
         run_keeps input.rows (spelled syntax.lexicon l.words) (run input syntax.root cells)
         (run_leaves input.rows input refl syntax.root cells)
@@ -163,7 +162,7 @@ module _ (table formulas : List ℕ) where
       (alone_keeps (expand_keeps cells text text_of table (formula_in formulas from end))) (all_keeps end ends (alone x).cells (alone x).rest)
 
   -- Under a table that the check refuses, nothing that was lent changes.
-  pub all_refused : {cause : Refusal} → check table ≡ Refused cause → (from : ℕ) (ends cells text : List ℕ)
+  pub all_refused : {cause : Refusal} → check table ≡ Err cause → (from : ℕ) (ends cells text : List ℕ)
       → Untouched cells text (expand_all table formulas from ends cells text)
   unfolding expand_all
   all_refused e from [] cells text = record { same_cells = refl; no_texts = refl; same_rest = refl }

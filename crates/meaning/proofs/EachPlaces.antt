@@ -1,4 +1,5 @@
 -- What the call for many formulas answers and leaves, place by place.
+use Rattle.std.specs.Prelude.{Err}
 use Prim.Native.Nat.{ℕ, suc, ◌*◌, ◌/◌, ◌≤◌, ◌<◌, min}
 use mathlib.Core.Path.{◌≡◌, refl, ap, ◌∙◌}
 use mathlib.Core.List.{List, ◌∷◌, append_assoc}
@@ -6,8 +7,6 @@ use native.Mathlib.Omega.{arith}
 use lib.ListN.{length, get_or, take, drop, length-take}
 use lib.Seq.{take_at, drop_at, take-take, get_or-take, length-take-le}
 use Rattle.answers.specs.declared.Refusal.{Refusal}
-use Rattle.answers.specs.declared.Answer.TheVariants.{Refusing}
-use Rattle.answers.specs.declared.Verdict.TheVariants.{Refused}
 use Rattle.checker.specs.Check.{check}
 use Rattle.terms.specs.Emit.{text_of}
 use Rattle.meaning.specs.Expand.{Expanded, expand}
@@ -76,9 +75,9 @@ module _ (table formulas ends answers cells text : List ℕ) where
         lent_alike text_of (formula_at formulas ends i) b.cells cells b.rest (drop (length b.texts) text) keeps.as_many_cells
         (ap length keeps.rest-is) table bytes
 
-  module _ {cause : Refusal} (refuses : check table ≡ Refused cause) where
+  module _ {cause : Refusal} (refuses : check table ≡ Err cause) where
     -- A table that the check refuses gives its refusal at each place,
-    pub refused_at : (i : ℕ) → i < E.count → take numbers_each (drop (i * numbers_each) E.answers) ≡ numbers_of (Refusing cause)
+    pub refused_at : (i : ℕ) → i < E.count → take numbers_each (drop (i * numbers_each) E.answers) ≡ numbers_of (Err cause)
     refused_at i h =
         numbers_at i h ∙ ap (λ (y : Expanded). numbers_of y.answer) (expand_refused text_of table refuses _ _ _)
 

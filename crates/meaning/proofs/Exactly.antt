@@ -1,4 +1,5 @@
 -- When an expansion of a passed table is accepted, when it gives each refusal, and what it leaves as it was.
+use Rattle.std.specs.Prelude.{Err}
 use Prim.Native.Nat.{ℕ, ◌*◌, ◌≤◌, ◌<◌}
 use mathlib.Core.Path.{◌≡◌, refl, sym, ap, subst, ◌∙◌}
 use mathlib.Core.Logic.{◌↔◌}
@@ -6,9 +7,7 @@ use mathlib.Core.List.{List, ◌++◌}
 use native.Mathlib.Omega.{arith}
 use lib.ListN.{length, get_or, take, drop}
 use Rattle.answers.specs.declared.Refusal.{Refusal}
-use Rattle.answers.specs.declared.Answer.TheVariants.{Accepted, Refusing}
-use Rattle.answers.specs.declared.Verdict.TheVariants.{Refused}
-use Rattle.answers.specs.Refusals.{refusal}
+use Rattle.answers.specs.Refusals.{Answer, accepted, refusal, numbered}
 use Rattle.answers.specs.Checked.{Checked, ok, bad, verdict}
 use Rattle.grammar.specs.Table.{Table}
 use Rattle.tokens.specs.Unscanned.{Unscans}
@@ -35,36 +34,42 @@ use Rattle.meaning.proofs.Stages.{unscanned_ends, stopped_ends, meant_ends, mean
 
 -- ------------------------------------------------------------------ answers
 
-same_refusal : {cause other : Refusal} → Refusing cause ≡ Refusing other → cause ≡ other
+same_refusal : {cause other : Refusal} → ◌≡◌ {A = Answer} (Err cause) (Err other) → cause ≡ other
 same_refusal e = cc
 
-never : {A : Type 0} {made constructors text_size : ℕ} {cause : Refusal} → Accepted made constructors text_size ≡ Refusing cause → A
+never : {A : Type 0} {made constructors text_size : ℕ} {cause : Refusal} → accepted made constructors text_size ≡ Err cause → A
 never e = let z : ◌≡◌ {A = ℕ} 0 1 = cc in absurd (omega arith)
+
+-- an acceptance has one count of each
+same_counts : {made constructors size made' constructors' size' : ℕ} → accepted made constructors size ≡ accepted made' constructors' size'
+    → (made' ≡ made) × (constructors' ≡ constructors) × (size' ≡ size)
+same_counts e =
+    (ap (λ (a : Answer). (numbered a).a) (sym e), ap (λ (a : Answer). (numbered a).b) (sym e), ap (λ (a : Answer). (numbered a).c) (sym e))
 
 -- ------------------------------------------------------------------ the last step
 
 module _ {write : Term Name → List ℕ} {made : ℕ} {meant : Term Name} {cells text : List ℕ} where
   judged_answer : {expanded : Expanded} {cause : Refusal} → Finish write made meant cells text expanded → Judges made meant cause
-      → expanded.answer ≡ Refusing cause
-  judged_answer (is_refused j) k = ap Refusing (judges_one made meant j k)
+      → expanded.answer ≡ Err cause
+  judged_answer (is_refused j) k = ap Err (judges_one made meant j k)
   judged_answer (too_long p b) k = judges_not made meant k p
   judged_answer (prints p b) k = judges_not made meant k p
 
   long_answer : {expanded : Expanded} → Finish write made meant cells text expanded → PassesTests meant → length text < length (write meant)
-      → expanded.answer ≡ Refusing (refusal 24 (length (write meant)) 0 0)
+      → expanded.answer ≡ Err (refusal 24 (length (write meant)) 0 0)
   long_answer (is_refused j) p l = judges_not made meant j p
   long_answer (too_long q b) p l = refl
   long_answer (prints q b) p l = absurd (omega arith)
 
   text_printed : {expanded : Expanded} {cells_made constructors text_size : ℕ} → Finish write made meant cells text expanded
-      → expanded.answer ≡ Accepted cells_made constructors text_size
+      → expanded.answer ≡ accepted cells_made constructors text_size
       → expanded.text ≡ write meant ++ drop (length (write meant)) text
   text_printed (is_refused j) e = never (sym e)
   text_printed (too_long p b) e = never (sym e)
   text_printed (prints p b) e = refl
 
   prints_answer : {expanded : Expanded} → Finish write made meant cells text expanded → PassesTests meant → length (write meant) ≤ length text
-      → expanded.answer ≡ Accepted made (size meant) (length (write meant))
+      → expanded.answer ≡ accepted made (size meant) (length (write meant))
   prints_answer (is_refused j) p l = judges_not made meant j p
   prints_answer (too_long q b) p l = absurd (omega arith)
   prints_answer (prints q b) p l = refl
@@ -73,12 +78,12 @@ module _ {write : Term Name → List ℕ} {made : ℕ} {meant : Term Name} {cell
 
 module _ (write : Term Name → List ℕ) (table : List ℕ) (bytes : (place : ℕ) → get_or table place 0 < 256) (formula cells text : List ℕ) where
   -- A table that does not pass gets the refusal of its check, and nothing that was lent changes.
-  pub not_passed : (Passes table → ⊥) → (cause : Refusal) × (check table ≡ Refused cause) × (expand_by write table formula cells text ≡ refused cause cells text)
+  pub not_passed : (Passes table → ⊥) → (cause : Refusal) × (check table ≡ Err cause) × (expand_by write table formula cells text ≡ refused cause cells text)
   unfolding check expand_by
   not_passed n = go (passed_table table) refl
     where
       go : (checked : Checked Syntax) → passed_table table ≡ checked
-          → (cause : Refusal) × (check table ≡ Refused cause) × (checked_first write (passed_table table) formula cells text ≡ refused cause cells text)
+          → (cause : Refusal) × (check table ≡ Err cause) × (checked_first write (passed_table table) formula cells text ≡ refused cause cells text)
       go (ok t) e = absurd (n ((check_exactly table bytes).0 (ap verdict e)))
       go (bad r) e = (r, ap verdict e, rw e)
 
@@ -95,44 +100,45 @@ module _ (write : Term Name → List ℕ) (table : Table) (passing : Passing tab
 
   cause_last : {meant : Term Name} {cells' : List ℕ} (means_within : MeansWithin syntax formula cells meant) {expanded : Expanded}
       → Finish write (cells_of means_within) meant cells' text expanded → (cause : Refusal)
-      → expanded.answer ≡ Refusing cause → Cause write syntax formula cells text cause
+      → expanded.answer ≡ Err cause → Cause write syntax formula cells text cause
   cause_last means_within (is_refused j) cause e = subst (Cause write syntax formula cells text) (same_refusal e) (is_judged means_within j)
   cause_last means_within (too_long p b) cause e = subst (Cause write syntax formula cells text) (same_refusal e) (text_too_long means_within p (omega arith))
   cause_last means_within (prints p b) cause e = never e
 
-  cause_of : {expanded : Expanded} → Stage table passing formula cells write text expanded → (cause : Refusal) → expanded.answer ≡ Refusing cause
+  cause_of : {expanded : Expanded} → Stage table passing formula cells write text expanded → (cause : Refusal) → expanded.answer ≡ Err cause
       → Cause write syntax formula cells text cause
   cause_of (in_scan u) cause a = subst (Cause write syntax formula cells text) (same_refusal a) (unscanned u)
   cause_of (in_parse S e h) cause a = subst (Cause write syntax formula cells text) (same_refusal a) (stopped S h)
   cause_of (at_last E R f) cause a = cause_last E f cause a
 
-  answer_of : {cause : Refusal} → Cause write syntax formula cells text cause → X.answer ≡ Refusing cause
+  answer_of : {cause : Refusal} → Cause write syntax formula cells text cause → X.answer ≡ Err cause
   answer_of (unscanned u) = rw (unscanned_ends table passing formula cells write text u)
   answer_of (stopped S h) = rw (stopped_ends table passing formula cells write text S h).1
   answer_of (is_judged E j) = judged_answer (meant_ends table passing formula cells write text E).1 j
   answer_of (text_too_long E p b) = long_answer (meant_ends table passing formula cells write text E).1 p b
 
   -- A refusal is given exactly in its case.
-  pub refused_exactly : (cause : Refusal) → (X.answer ≡ Refusing cause) ↔ Cause write syntax formula cells text cause
+  pub refused_exactly : (cause : Refusal) → (X.answer ≡ Err cause) ↔ Cause write syntax formula cells text cause
   refused_exactly cause = (cause_of (stages table passing formula cells write text) cause, answer_of)
 
   accepts_last : {meant : Term Name} {cells' : List ℕ} (means_within : MeansWithin syntax formula cells meant) {expanded : Expanded}
       {made constructors text_size : ℕ} → Finish write (cells_of means_within) meant cells' text expanded
-      → expanded.answer ≡ Accepted made constructors text_size → Accepts write syntax formula cells text meant made constructors text_size
+      → expanded.answer ≡ accepted made constructors text_size → Accepts write syntax formula cells text meant made constructors text_size
   accepts_last means_within (is_refused j) e = never (sym e)
   accepts_last means_within (too_long p b) e = never (sym e)
   accepts_last means_within (prints p b) e =
-      record { means = means_within; passes = p; fits = b; cells_are = (cc); size_is = (cc); length_is = (cc) }
+      let (cells_are, size_is, length_is) = same_counts e in
+      record { means = means_within; passes = p; fits = b; cells_are = cells_are; size_is = size_is; length_is = length_is }
 
   accepts_of : {expanded : Expanded} {made constructors text_size : ℕ} → Stage table passing formula cells write text expanded
-      → expanded.answer ≡ Accepted made constructors text_size
+      → expanded.answer ≡ accepted made constructors text_size
       → (meant : Term Name) × Accepts write syntax formula cells text meant made constructors text_size
   accepts_of (in_scan u) e = never (sym e)
   accepts_of (in_parse S h k) e = never (sym e)
   accepts_of (at_last {core_term = u} E R f) e = (u, accepts_last E f e)
 
   -- A formula is accepted exactly if a term of it is, with these values.
-  pub accepted_exactly : (made constructors text_size : ℕ) → (X.answer ≡ Accepted made constructors text_size)
+  pub accepted_exactly : (made constructors text_size : ℕ) → (X.answer ≡ accepted made constructors text_size)
       ↔ ((meant : Term Name) × Accepts write syntax formula cells text meant made constructors text_size)
   accepted_exactly made constructors text_size = (
     accepts_of (stages table passing formula cells write text),
@@ -145,14 +151,14 @@ module _ (write : Term Name → List ℕ) (table : Table) (passing : Passing tab
   -- ------------------------------------------------------------------ what is handed back
 
   text_of : {expanded : Expanded} {made constructors text_size : ℕ} → Stage table passing formula cells write text expanded
-      → expanded.answer ≡ Accepted made constructors text_size → {meant : Term Name} → Means syntax formula meant
+      → expanded.answer ≡ accepted made constructors text_size → {meant : Term Name} → Means syntax formula meant
       → expanded.text ≡ write meant ++ drop (length (write meant)) text
   text_of (in_scan u) e M = never (sym e)
   text_of (in_parse S h k) e M = never (sym e)
   text_of (at_last E R f) e M = rw (means_one table passing formula M E.means) (text_printed f e)
 
   -- What is written of the term stands in the text of an acceptance, and what was lent behind it.
-  pub accepted_text : (made constructors text_size : ℕ) → X.answer ≡ Accepted made constructors text_size → {meant : Term Name} → Means syntax formula meant
+  pub accepted_text : (made constructors text_size : ℕ) → X.answer ≡ accepted made constructors text_size → {meant : Term Name} → Means syntax formula meant
       → X.text ≡ write meant ++ drop (length (write meant)) text
   accepted_text made constructors text_size = text_of (stages table passing formula cells write text)
 
@@ -163,14 +169,14 @@ module _ (write : Term Name → List ℕ) (table : Table) (passing : Passing tab
   finish_cells (prints p b) = refl
 
   finish_count : {made : ℕ} {meant : Term Name} {cells' : List ℕ} {expanded : Expanded} → Finish write made meant cells' text expanded
-      → (cells_made constructors text_size : ℕ) → expanded.answer ≡ Accepted cells_made constructors text_size → cells_made ≡ made
+      → (cells_made constructors text_size : ℕ) → expanded.answer ≡ accepted cells_made constructors text_size → cells_made ≡ made
   finish_count (is_refused j) cells_made constructors text_size e = never (sym e)
   finish_count (too_long p b) cells_made constructors text_size e = never (sym e)
-  finish_count (prints p b) cells_made constructors text_size e = cc
+  finish_count (prints p b) cells_made constructors text_size e = (same_counts e).0
 
   -- the cells of an acceptance show its term
   cells_of_lem : {expanded : Expanded} → Stage table passing formula cells write text expanded → (cells_made constructors text_size : ℕ)
-      → expanded.answer ≡ Accepted cells_made constructors text_size → {meant : Term Name} (means : Means syntax formula meant)
+      → expanded.answer ≡ accepted cells_made constructors text_size → {meant : Term Name} (means : Means syntax formula meant)
       → ((row : ℕ) × (row < cells_made) × (term_at cells_made (spell_of syntax means.words) (take (cells_made * columns) expanded.cells) row ≡ meant))
       × ((other : ℕ) → other < cells_made → IsCode (column expanded.cells other 0))
   cells_of_lem (in_scan u) cells_made constructors text_size q means = never (sym q)
@@ -181,7 +187,7 @@ module _ (write : Term Name → List ℕ) (table : Table) (passing : Passing tab
       rw (words, made, finish_cells f) ((v, R.below, R.shown_by_made ∙ means_one table passing formula E.means means), R.coded)
 
   -- A row of the cells made by an acceptance shows the term, and each of them has the code of a constructor.
-  pub accepted_cells : (made constructors text_size : ℕ) → X.answer ≡ Accepted made constructors text_size
+  pub accepted_cells : (made constructors text_size : ℕ) → X.answer ≡ accepted made constructors text_size
       → {meant : Term Name} (means : Means syntax formula meant)
       → ((row : ℕ) × (row < made) × (term_at made (spell_of syntax means.words) (take (made * columns) X.cells) row ≡ meant))
       × ((other : ℕ) → other < made → IsCode (column X.cells other 0))
@@ -190,19 +196,19 @@ module _ (write : Term Name → List ℕ) (table : Table) (passing : Passing tab
   -- ------------------------------------------------------------------ what is left as it was
 
   text_last : {made : ℕ} {meant : Term Name} {cells' : List ℕ} {expanded : Expanded} → Finish write made meant cells' text expanded
-      → (cause : Refusal) → expanded.answer ≡ Refusing cause → expanded.text ≡ text
+      → (cause : Refusal) → expanded.answer ≡ Err cause → expanded.text ≡ text
   text_last (is_refused j) cause a = refl
   text_last (too_long p b) cause a = refl
   text_last (prints p b) cause a = never a
 
-  text_left : {expanded : Expanded} → Stage table passing formula cells write text expanded → (cause : Refusal) → expanded.answer ≡ Refusing cause
+  text_left : {expanded : Expanded} → Stage table passing formula cells write text expanded → (cause : Refusal) → expanded.answer ≡ Err cause
       → expanded.text ≡ text
   text_left (in_scan u) cause a = refl
   text_left (in_parse S e h) cause a = refl
   text_left (at_last E R f) cause a = text_last f cause a
 
   -- A refusal leaves the text as it was.
-  pub text_kept : (cause : Refusal) → X.answer ≡ Refusing cause → X.text ≡ text
+  pub text_kept : (cause : Refusal) → X.answer ≡ Err cause → X.text ≡ text
   text_kept = text_left (stages table passing formula cells write text)
 
   -- 14, 15 and 16 leave the cells as they were.

@@ -4,8 +4,7 @@ use mathlib.Core.Path.{◌≡◌, refl, subst}
 use mathlib.Core.List.{List, [], ◌++◌}
 use native.Mathlib.Omega.{arith}
 use lib.ListN.{length, drop}
-use Rattle.answers.specs.declared.Answer.{Answer}
-use Rattle.answers.specs.declared.Answer.TheVariants.{Accepted}
+use Rattle.answers.specs.Refusals.{Answer, accepted}
 use Rattle.grammar.specs.Table.{Table}
 use Rattle.checker.specs.Syntax.{Syntax, syntax_of}
 use Rattle.soundness.specs.Passing.{Passing, passing_of}
@@ -92,7 +91,7 @@ call_meets_demand_3 {table} {formula} {cells} {text} e = rw (← e) at (demand_3
 
 -- The text of an acceptance is the term that the formula means with the names that the rules of specs/Naming give.
 pub accepted_names : {syntax : Syntax} {formula cells text text' : List ℕ} {answer : Answer} → Ends syntax formula cells text answer text'
-    → {made size bytes : ℕ} → answer ≡ Accepted made size bytes → {meant : Term Name} → Means syntax formula meant
+    → {made size bytes : ℕ} → answer ≡ accepted made size bytes → {meant : Term Name} → Means syntax formula meant
     → (shown : Term (List ℕ)) × (next : ℕ) × Named [] 1 meant shown next × (text' ≡ print shown ++ drop (length (print shown)) text)
 accepted_names (refuses c) e M = let z : ◌≡◌ {A = ℕ} 0 1 = cc in absurd (omega arith)
 accepted_names {text = text} (Hygiene.prints {u} {out} accepts h) e {meant} M =

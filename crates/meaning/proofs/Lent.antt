@@ -1,4 +1,5 @@
 -- What an expansion answers and writes depends on how much it is lent, and not on what that held before.
+use Rattle.std.specs.Prelude.{Ok, Err}
 use Prim.Native.Nat.{ℕ, ◌<◌}
 use mathlib.Core.Path.{◌≡◌, refl, sym, ◌∙◌}
 use mathlib.Core.List.{List}
@@ -6,10 +7,7 @@ use native.Mathlib.Omega.{arith}
 use lib.ListN.{length, get_or, take}
 use lib.Seq.{take_at}
 use Rattle.answers.specs.declared.Refusal.{Refusal}
-use Rattle.answers.specs.declared.Answer.{Answer}
-use Rattle.answers.specs.declared.Answer.TheVariants.{Accepted, Refusing}
-use Rattle.answers.specs.declared.Verdict.{Verdict}
-use Rattle.answers.specs.declared.Verdict.TheVariants.{Passed, Refused}
+use Rattle.answers.specs.Refusals.{Answer, Verdict}
 use Rattle.grammar.specs.Table.{Table}
 use Rattle.terms.specs.Term.{Name, Term}
 use Rattle.checker.specs.Syntax.{Syntax, syntax_of}
@@ -63,14 +61,17 @@ module _ (write : Term Name → List ℕ) (formula cells cells' text text' : Lis
     X' = expand_table write (syntax_of table) formula cells' text'
 
     by_answer : (answer : Answer) → X.answer ≡ answer → Alike X X'
-    by_answer (Refusing r) e =
-        let e' : X'.answer ≡ Refusing r =
+    by_answer (Err r) e =
+        let e' : X'.answer ≡ Err r =
         (refused_exactly write table passing formula cells' text' r).1
         (cause_lent (syntax_of table) ((refused_exactly write table passing formula cells text r).0 e)) in
         record { answers = e ∙ sym e'; texts = rw (e, e') refl }
-    by_answer (Accepted made size bytes) e =
+    by_answer (Ok got) e =
+        let made = got.cells in
+        let size = got.constructors in
+        let bytes = got.length in
         let (meant, A) = (accepted_exactly write table passing formula cells text made size bytes).0 e in
-        let e' : X'.answer ≡ Accepted made size bytes =
+        let e' : X'.answer ≡ Ok got =
         (accepted_exactly write table passing formula cells' text' made size bytes).1 (meant, accepts_lent (syntax_of table) A) in
         let means = A.means.means in
         let t : take bytes X.text ≡ write meant =
@@ -85,9 +86,9 @@ module _ (write : Term Name → List ℕ) (formula cells cells' text text' : Lis
   lent_alike table bytes = go (check table) refl
     where
       go : (given : Verdict) → check table ≡ given → Alike (expand_by write table formula cells text) (expand_by write table formula cells' text')
-      go (Refused r) e =
+      go (Err r) e =
           rw (expand_refused write table e formula cells text, expand_refused write table e formula cells' text') (record { answers = refl; texts = refl })
-      go Passed e =
+      go (Ok tt) e =
           let passes : Passes table = (check_exactly table bytes).0 e in
           rw (expand_passed write table passes formula cells text, expand_passed write table passes formula cells' text')
           (by_answer passes.table (passing_of passes) _ refl)

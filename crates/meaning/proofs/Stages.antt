@@ -1,4 +1,5 @@
 -- Where an expansion of a passed table ends: in the scan, in the parse, or in the last step.
+use Rattle.std.specs.Prelude.{Ok, Err}
 use Prim.Native.Nat.{ℕ, zero, suc, ◌*◌, ◌≤◌, ◌<◌}
 use mathlib.Core.Path.{◌≡◌, refl, sym, ap, ap₂, ◌∙◌}
 use mathlib.Core.Bool.{true}
@@ -9,18 +10,15 @@ use native.Mathlib.Decide.{dec_le}
 use lib.ListN.{length, get_or, take, drop}
 use borrow.Author.Tests.{lt-ltb}
 use Rattle.answers.specs.declared.Refusal.{Refusal}
-use Rattle.answers.specs.declared.Answer.TheVariants.{Accepted}
-use Rattle.answers.specs.declared.Verdict.TheVariants.{Refused}
+use Rattle.answers.specs.Refusals.{accepted, refusal}
 use Rattle.answers.specs.Checked.{Checked, ok, bad, verdict}
-use Rattle.answers.specs.Refusals.{refusal}
 use Rattle.spellings.specs.Bytes.{is_word}
 use Rattle.kinds.specs.Kinds.{word_kind}
 use Rattle.grammar.specs.Table.{Table, Lexicon}
 use Rattle.terms.specs.Cells.{columns, column, rows_lent}
 use Rattle.decoding.specs.Within.{Each, each_none, each_more, Among, among_first, among_later}
 use Rattle.tokens.specs.declared.Token.{Token}
-use Rattle.tokens.specs.declared.Scanned.{Scanned}
-use Rattle.tokens.specs.declared.Scanned.TheVariants.{Tokens, Unscanned}
+use Rattle.tokens.specs.Scanned.{Scanned}
 use Rattle.tokens.specs.Scan.{Lexed, scan}
 use Rattle.tokens.specs.Tokens.{spelled}
 use Rattle.tokens.specs.Tiling.{bytes_of}
@@ -54,12 +52,12 @@ use Rattle.meaning.proofs.Judging.{Judgement, refuses, passes, judgement, judges
 -- ------------------------------------------------------------------ the table
 
 -- Under a table that the check refuses every expansion is that refusal, and nothing that was lent changes.
-pub expand_refused : (write : Term Name → List ℕ) (bs : List ℕ) {cause : Refusal} → check bs ≡ Refused cause → (formula cells text : List ℕ)
+pub expand_refused : (write : Term Name → List ℕ) (bs : List ℕ) {cause : Refusal} → check bs ≡ Err cause → (formula cells text : List ℕ)
     → expand_by write bs formula cells text ≡ refused cause cells text
 unfolding check expand_by
 expand_refused write bs {cause} e formula cells text = go (passed_table bs) e
   where
-    go : (checked : Checked Syntax) → verdict checked ≡ Refused cause → checked_first write checked formula cells text ≡ refused cause cells text
+    go : (checked : Checked Syntax) → verdict checked ≡ Err cause → checked_first write checked formula cells text ≡ refused cause cells text
     go (bad r) h = let same : r ≡ cause = cc in rw same
     go (ok syntax) h = let z : ◌≡◌ {A = ℕ} 0 1 = cc in absurd (omega arith)
 
@@ -79,7 +77,7 @@ pub data Finish (write : Term Name → List ℕ) (made : ℕ) (core_term : Term 
   prints : PassesTests core_term → length (write core_term) ≤ length text
       → Finish write made core_term cells text
       (record {
-        answer = Accepted made (size core_term) (length (write core_term));
+        answer = accepted made (size core_term) (length (write core_term));
         cells = cells;
         text = write core_term ++ drop (length (write core_term)) text;
       })
@@ -129,7 +127,7 @@ module _ (table : Table) (passing : Passing table) (formula : List ℕ) where
   few = (names_within passing.within passing.meets).outside_count
 
   abbrev Lexing : List Token → List (List ℕ) → Lexed
-  Lexing ts ws = record { answer = Tokens (length ts) (length ws); tokens = ts; words = ws }
+  Lexing ts ws = record { answer = Ok (length ts, length ws); tokens = ts; words = ws }
 
   -- Tokens and words by the rules are those of the scan,
   pub scanned_as : {ts : List Token} {ws : List (List ℕ)} → Scans syntax formula ts ws → scan lex formula ≡ Lexing ts ws
@@ -148,19 +146,19 @@ module _ (table : Table) (passing : Passing table) (formula : List ℕ) where
     same_words = ap (λ (l : Lexed). l.words) same_scan
 
   -- and those of a scan that is not refused are so by the rules.
-  pub scans_of : {many word_count : ℕ} → (scan lex formula).answer ≡ Tokens many word_count
+  pub scans_of : {many word_count : ℕ} → (scan lex formula).answer ≡ Ok (many, word_count)
       → Scans syntax formula (scan lex formula).tokens (scan lex formula).words
   scans_of {many} {word_count} e =
       let c = scanner.tokens_counted lex few formula e in
       let ts = (scan lex formula).tokens in
       let ws = (scan lex formula).words in
-      let same : scan lex formula ≡ Lexing ts ws = ap (λ (a : Scanned). record { answer = a; tokens = ts; words = ws }) (e ∙ ap₂ Tokens c.0 c.1) in
+      let same : scan lex formula ≡ Lexing ts ws = ap (λ (a : Scanned). record { answer = a; tokens = ts; words = ws }) (e ∙ ap₂ (λ n m. Ok (n, m)) c.0 c.1) in
       let q = (scanner.accepted_exactly lex few formula ts ws).0 same in
       record { short = q.0; tiled = q.1; few = q.2 }
 
   -- A scan is refused exactly by the rules for 14, 15 and 16.
   pub unscans_exactly : (cause : Refusal)
-      → ((scan lex formula).answer ≡ Unscanned cause → Unscans lex formula cause) × (Unscans lex formula cause → (scan lex formula).answer ≡ Unscanned cause)
+      → ((scan lex formula).answer ≡ Err cause → Unscans lex formula cause) × (Unscans lex formula cause → (scan lex formula).answer ≡ Err cause)
   unscans_exactly cause = scanner.refused_exactly lex few formula cause
 
   module _ {ts : List Token} {ws : List (List ℕ)} (scans : Scans syntax formula ts ws) where
@@ -299,8 +297,8 @@ module _ (table : Table) (passing : Passing table) (formula : List ℕ) where
           (rw (← m.1.made_is) (finishes write s.made u cells' text))
 
       by_scan : (given_scanned : Scanned) → (scan lex formula).answer ≡ given_scanned → Stage (scanned write syntax (scan lex formula) given_scanned cells text)
-      by_scan (Unscanned r) e = in_scan ((unscans_exactly r).0 e)
-      by_scan (Tokens n m) e = by_run (scans_of e) (run (input_of (grammar_of table) (scan lex formula).tokens cells) table.root cells) refl
+      by_scan (Err r) e = in_scan ((unscans_exactly r).0 e)
+      by_scan (Ok (n, m)) e = by_run (scans_of e) (run (input_of (grammar_of table) (scan lex formula).tokens cells) table.root cells) refl
 
       -- Every expansion of a passed table ends in one of them.
       pub stages : Stage (expand_table write syntax formula cells text)

@@ -1,8 +1,6 @@
 -- Many formulas under one table, as the call `expand_each` has them: `expand` for one after the other. Its check is of the table alone: one serves all.
-use Rattle.std.specs.Prelude.{ℕ, ◌-◌, ◌*◌, ◌/◌, min, List, [], ◌∷◌, ◌++◌, length, take, drop}
-use Rattle.answers.specs.declared.Answer.{Answer}
-use Rattle.answers.specs.declared.Answer.TheVariants.{Accepted, Refusing}
-use Rattle.answers.specs.Refusals.{numbered}
+use Rattle.std.specs.Prelude.{ℕ, ◌-◌, ◌*◌, ◌/◌, min, List, [], ◌∷◌, ◌++◌, length, take, drop, Ok, Err}
+use Rattle.answers.specs.Refusals.{Answer, numbered}
 use Rattle.meaning.specs.Expand.{Expanded, expand}
 
 -- Formulas lie one behind the other. One has the bytes from the end of the one before to its own end, as far as there are any; none if it ends no further.
@@ -18,8 +16,8 @@ numbers_each = 4
 
 -- the bytes of text that an expansion has written; a refusal writes none
 abbrev pub written : Answer → ℕ
-written (Accepted cells constructors size) = size
-written (Refusing r) = 0
+written (Ok made) = made.length
+written (Err r) = 0
 
 -- what expansions leave: the numbers of their answers and their texts, each in order; the cells, and the text behind their texts
 pub record Series : Type 0 where

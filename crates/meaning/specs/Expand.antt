@@ -1,13 +1,11 @@
 -- The whole expansion: from the bytes of a table and a formula, the cells and the text as lent, to the answer, the cells and the
 -- text at exit. Document 01, "Causes, by number": "Every expansion checks the table again". What is written of a term is a parameter: its text, or what
 -- document 02 puts in place of it.
-use Rattle.std.specs.Prelude.{ℕ, List}
+use Rattle.std.specs.Prelude.{ℕ, List, Err, Ok}
 use Rattle.answers.specs.declared.Refusal.{Refusal}
-use Rattle.answers.specs.declared.Answer.{Answer}
-use Rattle.answers.specs.declared.Answer.TheVariants.{Refusing}
+use Rattle.answers.specs.Refusals.{Answer}
 use Rattle.answers.specs.Checked.{Checked, ok, bad}
-use Rattle.tokens.specs.declared.Scanned.{Scanned}
-use Rattle.tokens.specs.declared.Scanned.TheVariants.{Tokens, Unscanned}
+use Rattle.tokens.specs.Scanned.{Scanned}
 use Rattle.tokens.specs.Scan.{Lexed, scan}
 use Rattle.tokens.specs.Tokens.{spelled}
 use Rattle.checker.specs.Syntax.{Syntax}
@@ -30,7 +28,7 @@ expanded answer cells text = record { answer = answer; cells = cells; text = tex
 
 -- a refusal leaves the text as it was
 abbrev pub refused : Refusal → List ℕ → List ℕ → Expanded
-refused r cells text = record { answer = Refusing r; cells = cells; text = text }
+refused r cells text = record { answer = Err r; cells = cells; text = text }
 
 -- the last step of an expansion, beside the cells
 abbrev pub with_cells : List ℕ → Emitted → Expanded
@@ -44,8 +42,8 @@ finished write spelling text (halt r cells) = refused r cells text
 finished write spelling text (done v s cells) = with_cells cells (emitted write s.made (term_at s.made spelling cells v) text)
 
 abbrev pub scanned : (Term Name → List ℕ) → Syntax → Lexed → Scanned → List ℕ → List ℕ → Expanded
-scanned write syntax l (Unscanned r) cells text = refused r cells text
-scanned write syntax l (Tokens n m) cells text =
+scanned write syntax l (Err r) cells text = refused r cells text
+scanned write syntax l (Ok (n, m)) cells text =
     finished write (spelled syntax.lexicon l.words) text (run (input_of syntax.productions l.tokens cells) syntax.root cells)
 
 unfoldable pub expand_table : (Term Name → List ℕ) → Syntax → List ℕ → List ℕ → List ℕ → Expanded

@@ -1,7 +1,7 @@
 -- What demand 3 asks of an expansion, from the bytes of a table and a formula to the text at exit. Document 01, "Whose name is whose".
-use Rattle.std.specs.Prelude.{ℕ, ◌<◌, ◌≡◌, List, [], ◌++◌, map, length, get_or, drop}
+use Rattle.std.specs.Prelude.{ℕ, ◌<◌, ◌≡◌, List, [], ◌++◌, map, length, get_or, drop, Err}
 use Rattle.answers.specs.declared.Refusal.{Refusal}
-use Rattle.answers.specs.declared.Answer.{Answer, TheVariants.Accepted, TheVariants.Refusing}
+use Rattle.answers.specs.Refusals.{Answer, accepted}
 use Rattle.kinds.specs.Kinds.{word_kind}
 use Rattle.decoding.specs.Within.{Each, Among}
 use Rattle.tokens.specs.declared.Token.{Token}
@@ -44,11 +44,11 @@ pub record Hygienic (syntax : Syntax) (formula : List ℕ) (u : Term Name) (out 
 -- Under the syntax of a passed table: an answer, with the text at exit, is a refusal 14 to 24 in its case and the text as lent, or an acceptance of the term
 -- and a hygienic text of it in front of what was lent.
 pub data Ends (syntax : Syntax) (formula cells text : List ℕ) : Answer → List ℕ → Type 0 where
-  refuses : {r : Refusal} → Cause in_text syntax formula cells text r → Ends syntax formula cells text (Refusing r) text
+  refuses : {r : Refusal} → Cause in_text syntax formula cells text r → Ends syntax formula cells text (Err r) text
   prints : {a b : ℕ} {u : Term Name} {out : List ℕ}
       → Accepts in_text syntax formula cells text u a b (length out)
       → Hygienic syntax formula u out
-      → Ends syntax formula cells text (Accepted a b (length out)) (out ++ drop (length out) text)
+      → Ends syntax formula cells text (accepted a b (length out)) (out ++ drop (length out) text)
 
 -- demand 3, of the bytes of any table
 abbrev pub Demand3 : List ℕ → List ℕ → List ℕ → List ℕ → Answer → List ℕ → Type 0

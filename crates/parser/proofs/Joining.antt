@@ -1,4 +1,5 @@
 -- What the promises of check, scan and run come to, joined.
+use Rattle.std.specs.Prelude.{Ok, Err}
 use Prim.Native.Nat.{ℕ, ◌*◌, ◌-◌, ◌≤◌}
 use mathlib.Core.Path.{◌≡◌, refl, sym, ap, ◌∙◌}
 use mathlib.Core.List.{List, []}
@@ -6,8 +7,7 @@ use native.Mathlib.Omega.{arith}
 use lib.ListN.{length, get_or, take}
 use Rattle.grammar.specs.Limits.{most}
 use Rattle.answers.specs.declared.Refusal.{Refusal}
-use Rattle.answers.specs.declared.Verdict.{Verdict}
-use Rattle.answers.specs.declared.Verdict.TheVariants.{Passed}
+use Rattle.answers.specs.Refusals.{Verdict}
 use Rattle.grammar.specs.Table.{Lexicon}
 use Rattle.grammar.specs.Lookup.{lexicon_of}
 use Rattle.decoding.proofs.Split.{Bytes}
@@ -20,8 +20,7 @@ use Rattle.productions.specs.Index.{Place, places_of, root_in}
 use Rattle.productions.specs.Room.{room_of, kinds_in}
 use Rattle.firsts.specs.Reach.{kinds_reached}
 use Rattle.firsts.specs.Room.{productions_in, table_room_for, HoldsGrammar}
-use Rattle.tokens.specs.declared.Scanned.{Scanned}
-use Rattle.tokens.specs.declared.Scanned.TheVariants.{Tokens, Unscanned}
+use Rattle.tokens.specs.Scanned.{Scanned}
 use Rattle.scanner.specs.Rooms.{Filled, filled, scan_into, RoomFor, TokensFit}
 use Rattle.scanner.proofs.AfterScan.{Holds, scan_holds}
 use Rattle.checker.specs.Syntax.{Syntax, syntax_of}
@@ -30,10 +29,9 @@ use Rattle.checker.specs.Passes.{Passes}
 use Rattle.checker.proofs.TableTheorems.{check_exactly}
 use Rattle.checker.proofs.PassedNames.{names_within}
 use Rattle.checker.proofs.Joined.{passed_grammar, passed_holds, passed_places}
-use Rattle.expansion.specs.declared.Outcome.{Outcome}
+use Rattle.expansion.specs.Outcome.{Outcome}
 use Rattle.expansion.specs.Outcomes.{ran}
-use Rattle.parser.specs.declared.Parsed.{Parsed}
-use Rattle.parser.specs.Parse.{HoldsPassed, CheckedRoom, Parseable, halted_parse, parsed_into, parse_into, run_in}
+use Rattle.parser.specs.Parse.{HoldsPassed, CheckedRoom, Parseable, parsed_into, parsed_as, parse_into, run_in}
 use Rattle.steps.specs.Source.{source, GoesOn}
 use Rattle.steps.proofs.SourceLaws.{productions_from_lem}
 use Rattle.parser.proofs.Parsing as parsing
@@ -51,7 +49,7 @@ module _ {bs : List ℕ} (bytes : Bytes bs) where
       complete_places bs (decoded_layout bs P.written decoded).0 (passed_places bytes P)
 
   -- a table that the check passes, and its room
-  checked_passes : {room₀ room : List ℕ} {verdict : Verdict} → CheckedInto bs room₀ room verdict → verdict ≡ Passed → HoldsPassed bs room
+  checked_passes : {room₀ room : List ℕ} {verdict : Verdict} → CheckedInto bs room₀ room verdict → verdict ≡ Ok tt → HoldsPassed bs room
   checked_passes c e =
       let P : Passes bs = (check_exactly bs bytes).0 (sym c.answer ∙ e) in
       record { passes = P; ready = record { held = record { grammar = passed_holds bytes P c; places = passed_places bytes P }; begun = begun P } }
@@ -104,11 +102,11 @@ module _ {bs : List ℕ} (bytes : Bytes bs) where
       module _ {scanned : Scanned} {tokens' words' : List ℕ} (fills : filled scanned tokens' words' ≡ scan_into (lexicon_by kinds [] bs) formula tokens words)
         where
           -- A scan that refuses is the end of the parse.
-          pub stops_whole : (cells : List ℕ) {refusal : Refusal} {parsed : Parsed} → scanned ≡ Unscanned refusal → parsed ≡ halted_parse refusal
-              → parsed_into parsed tokens' words' cells ≡ parse_into syntax formula tokens words cells
+          pub stops_whole : (cells : List ℕ) {refusal : Refusal} → scanned ≡ Err refusal
+              → parsed_into (Err refusal) tokens' words' cells ≡ parse_into syntax formula tokens words cells
           stops_whole cells h = parsing.into_unscanned syntax formula tokens words cells (rw h at (in_lexicon fills))
 
-          module _ {many count : ℕ} (rooms : RoomFor formula tokens words) (accepts : scanned ≡ Tokens many count) where
+          module _ {many count : ℕ} (rooms : RoomFor formula tokens words) (accepts : scanned ≡ Ok (many, count)) where
             -- One that does not leaves its tokens and words in the rooms.
             pub scan_fills : Holds lex formula tokens' words' many count
             scan_fills = scan_holds lex few (omega arith) formula rooms (rw accepts at (in_lexicon fills))
@@ -116,12 +114,13 @@ module _ {bs : List ℕ} (bytes : Bytes bs) where
             -- ------------------------------------------------------------------ the run
 
             -- The run of the tokens, cut behind the last, ends the parse.
-            pub runs_whole : (cells : List ℕ) {outcome : Outcome} {cells' : List ℕ}
-                → ran outcome cells' ≡ run_in bs (take (many * 4) tokens') cells
-                → parsed_into (record { outcome = outcome; words = count }) tokens' words' cells' ≡ parse_into syntax formula tokens words cells
-            runs_whole cells {outcome} e =
-                parsing.into_run syntax formula tokens words cells outcome (rw accepts at (in_lexicon fills))
+            pub runs_whole : (cells : List ℕ) {outcome ended : Outcome} {cells' : List ℕ}
+                → ran outcome cells' ≡ run_in bs (take (many * 4) tokens') cells → outcome ≡ ended
+                → parsed_into (parsed_as count ended) tokens' words' cells' ≡ parse_into syntax formula tokens words cells
+            runs_whole cells {ended = ended} e ends =
+                parsing.into_run syntax formula tokens words cells ended (rw accepts at (in_lexicon fills))
                 (rw (
+                  ends,
                   productions_from_lem (begun passes) ∙ passed_grammar bytes passes,
                   cut_tokens scan_fills.tokens_fit ∙ scan_fills.tokens_are,
                   root_passed,
@@ -132,6 +131,6 @@ module _ {bs : List ℕ} (bytes : Bytes bs) where
 -- The tokens of a formula that is scanned fit their room.
 pub parsed_fit : {bs room formula tokens words : List ℕ} → Bytes bs → Parseable bs room formula tokens words → {kinds : ℕ} → kinds ≡ kinds_in room
     → {scanned : Scanned} {tokens' words' : List ℕ} → filled scanned tokens' words' ≡ scan_into (lexicon_by kinds [] bs) formula tokens words
-    → {many count : ℕ} → scanned ≡ Tokens many count → TokensFit tokens' many
+    → {many count : ℕ} → scanned ≡ Ok (many, count) → TokensFit tokens' many
 parsed_fit {formula = formula} {tokens} {words} bytes asked reached fills accepts =
     (scan_fills bytes asked.checked.passes asked.checked.ready.held.grammar reached formula tokens words fills asked.rooms accepts).tokens_fit

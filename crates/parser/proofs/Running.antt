@@ -4,7 +4,7 @@ use mathlib.Core.Path.{◌≡◌, ap, ◌∙◌}
 use mathlib.Core.List.{List, []}
 use lib.ListN.{length}
 use Rattle.productions.specs.Index.{root_in}
-use Rattle.expansion.specs.declared.Outcome.{Outcome}
+use Rattle.expansion.specs.Outcome.{Outcome}
 use Rattle.expansion.specs.Outcomes.{ran}
 use Rattle.expansion.specs.Expansion.{run}
 use Rattle.steps.specs.Source.{source, SomeLent, EachLent}

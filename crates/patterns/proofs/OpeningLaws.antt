@@ -1,5 +1,6 @@
 -- Laws of the loop that gathers what opens a production: what is found with an item, and what is found with all.
-use Prim.Native.Nat.{ℕ, ◌-◌, ◌<◌, ◌≤◌}
+use Rattle.std.specs.Prelude.{None, Some}
+use Prim.Native.Nat.{ℕ, ◌-◌, ◌<◌}
 use mathlib.Core.Path.{◌≡◌, refl, ap, ◌∙◌}
 use mathlib.Core.Bool.{Bool, true, false}
 use mathlib.Core.List.{List, [], ◌∷◌}
@@ -14,9 +15,8 @@ use Rattle.productions.specs.declared.Terminal.{Terminal}
 use Rattle.productions.specs.declared.Terminal.TheVariants.{Place}
 use Rattle.productions.specs.declared.Symbol.{Symbol}
 use Rattle.productions.specs.declared.Symbol.TheVariants.{Read, Local, Call}
-use Rattle.productions.specs.declared.SymbolStep.TheVariants.{Done, Past}
 use Rattle.productions.specs.Symbols.{terminal_in, symbol_of, with_symbol, symbol_step}
-use Rattle.productions.proofs.SymbolLaws.{stepped, step_less, items_end}
+use Rattle.productions.proofs.SymbolLaws.{stepped, step_less}
 use Rattle.firsts.specs.FirstSets.{is_nullable, all_nullable, opening_of, gather}
 use Rattle.firsts.specs.Patterns.{only_if, place_bit}
 use Rattle.patterns.specs.declared.Opening.{Opening}
@@ -121,14 +121,10 @@ module _ {bs : List ℕ} {nulls : ℕ} {sets : List ℕ} {start : ℕ} {found : 
   walk_none e = rw e at walking.rest
 
   -- no item is left
-  pub walk_done : Done ≡ symbol_step bs (field_at bs at) → found ≡ opening_by nulls sets (items_of (fields_at bs start))
+  pub walk_done : None ≡ symbol_step bs (field_at bs at) → found ≡ opening_by nulls sets (items_of (fields_at bs start))
   walk_done e = walk_none (stepped bs at e)
 
-  -- nor at the end
-  pub walk_end : length bs ≤ at → found ≡ opening_by nulls sets (items_of (fields_at bs start))
-  walk_end h = walk_none (items_end bs at h)
-
-  module _ {symbol : Symbol} {after : ℕ} (equal : Past symbol after ≡ symbol_step bs (field_at bs at)) where
+  module _ {symbol : Symbol} {after : ℕ} (equal : Some (symbol, after) ≡ symbol_step bs (field_at bs at)) where
     -- behind an item less is left
     pub walk_less : length bs - after < length bs - at
     walk_less = step_less bs at equal

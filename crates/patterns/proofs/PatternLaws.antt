@@ -1,4 +1,5 @@
 -- Laws of gathering what reads a variable first: one item, the loop over the items of an alternative, the round over productions, and all rounds.
+use Rattle.std.specs.Prelude.{None, Some}
 use Prim.Native.Nat.{ℕ, zero, suc, ◌+◌, ◌-◌, ◌<◌, ◌≤◌}
 use mathlib.Core.Path.{◌≡◌, refl, sym, ap, ◌∙◌}
 use mathlib.Core.Bool.{Bool, true, false, not, ◌||◌, true≢false}
@@ -18,9 +19,8 @@ use Rattle.productions.specs.declared.Terminal.{Terminal}
 use Rattle.productions.specs.declared.Terminal.TheVariants.{Keyword, Ide, Number, Place}
 use Rattle.productions.specs.declared.Symbol.{Symbol}
 use Rattle.productions.specs.declared.Symbol.TheVariants.{Read, Local, Call}
-use Rattle.productions.specs.declared.SymbolStep.TheVariants.{Done, Past}
 use Rattle.productions.specs.Symbols.{terminal_in, symbol_of, with_symbol, symbol_step}
-use Rattle.productions.proofs.SymbolLaws.{stepped, step_less, items_end}
+use Rattle.productions.proofs.SymbolLaws.{stepped, step_less}
 use Rattle.firsts.specs.FirstSets.{rounds, over_all, is_nullable, joined, gather, first_step, sets_of}
 use Rattle.firsts.specs.Patterns.{only_if, place_bit, pattern_of, pattern_sets}
 use Rattle.firsts.proofs.StepLaws.{Over, over_start, over_next, over_end, join_past}
@@ -126,15 +126,11 @@ module _ {bs : List ℕ} {nulls : ℕ} {sets : List ℕ} {start found at : ℕ} 
   unfolding gather
   walk_none e = rw e at walking.rest
 
-  -- No item is left,
-  pub walk_done : Done ≡ symbol_step bs (field_at bs at) → found ≡ gather pattern_of nulls sets (items_of (fields_at bs start)) 0
+  -- No item is left.
+  pub walk_done : None ≡ symbol_step bs (field_at bs at) → found ≡ gather pattern_of nulls sets (items_of (fields_at bs start)) 0
   walk_done e = walk_none (stepped bs at e)
 
-  -- nor at the end.
-  pub walk_end : length bs ≤ at → found ≡ gather pattern_of nulls sets (items_of (fields_at bs start)) 0
-  walk_end h = walk_none (items_end bs at h)
-
-  module _ {symbol : Symbol} {after : ℕ} (equal : Past symbol after ≡ symbol_step bs (field_at bs at)) where
+  module _ {symbol : Symbol} {after : ℕ} (equal : Some (symbol, after) ≡ symbol_step bs (field_at bs at)) where
     -- Behind an item less is left.
     pub walk_less : length bs - after < length bs - at
     walk_less = step_less bs at equal

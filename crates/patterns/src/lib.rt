@@ -23,7 +23,7 @@ use grammar::sorts::Sort;
 use kinds::{has, join, only};
 use productions::index::offset;
 use productions::items::item_at;
-use productions::{Symbol, SymbolStep, Terminal};
+use productions::{Symbol, Terminal};
 
 // What opens a production: its kinds, the pattern places that stand first in it, and whether it is nullable.
 #[derive(Drop)]
@@ -91,21 +91,13 @@ pub fn gather(table: &[u8], start: usize, nulls: u64, sets: &[u64]) -> u64
 {
     let mut found: u64 = 0;
     let mut at = start;
-    while at < table.len() {
-        let step = item_at(table, at);
-        match step {
-            SymbolStep::Done => {
-                return found;
-            }
-            SymbolStep::Past(s, next) => {
-                found = with_item(s, sets, found);
-                let goes = is_nullable(s, nulls);
-                if goes {
-                    at = next;
-                } else {
-                    return found;
-                }
-            }
+    while let Some((s, next)) = item_at(table, at) {
+        found = with_item(s, sets, found);
+        let goes = is_nullable(s, nulls);
+        if goes {
+            at = next;
+        } else {
+            return found;
         }
     }
     found

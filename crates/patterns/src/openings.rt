@@ -11,7 +11,7 @@ use crate::{Opening, place_bit};
 use firsts::items::set_at;
 use kinds::{has, join, set_of_kind};
 use productions::items::{item_at, kind_of};
-use productions::{Symbol, SymbolStep, Terminal};
+use productions::{Symbol, Terminal};
 
 // The place that a terminal is, if it is one.
 fn place_of(t: Terminal) -> u64
@@ -56,20 +56,12 @@ pub fn opening(table: &[u8], start: usize, nulls: u64, sets: &[u64]) -> Opening
         nullable: true,
     };
     let mut at = start;
-    while at < table.len() {
-        let step = item_at(table, at);
-        match step {
-            SymbolStep::Done => {
-                return found;
-            }
-            SymbolStep::Past(s, next) => {
-                found = with_item(s, nulls, sets, found);
-                if found.nullable {
-                    at = next;
-                } else {
-                    return found;
-                }
-            }
+    while let Some((s, next)) = item_at(table, at) {
+        found = with_item(s, nulls, sets, found);
+        if found.nullable {
+            at = next;
+        } else {
+            return found;
         }
     }
     found

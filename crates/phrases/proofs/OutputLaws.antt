@@ -1,11 +1,11 @@
 -- The lines of an expansion, laid in a room that is long enough, are all that is written.
+use Rattle.std.specs.Prelude.{Ok, Err}
 use Prim.Native.Nat.{ℕ, ◌+◌, ◌≤◌}
 use mathlib.Core.Path.{◌≡◌, ap}
 use mathlib.Core.List.{List, ◌++◌}
 use native.Mathlib.Omega.{arith}
 use lib.ListN.{length, drop, length-append, length-take}
-use Rattle.answers.specs.declared.Answer.{Answer}
-use Rattle.answers.specs.declared.Answer.TheVariants.{Accepted, Refusing}
+use Rattle.answers.specs.Refusals.{Answer}
 use Rattle.meaning.specs.Expand.{expanded, expand}
 use Rattle.reports.specs.Lines.{answer_line}
 use Rattle.rooms.specs.Laying.{Lays}
@@ -15,8 +15,8 @@ use Rattle.phrases.specs.Output.{lent_cells, lent_text, text_line, told_lines, t
 -- a text's line is a byte longer than the text at most
 text_line_short : (answer : Answer) (text : List ℕ) → length (text_line answer text) ≤ length text + 1
 unfolding text_line
-text_line_short (Accepted cells constructors size) text = simp (length-append, length-take) (omega arith)
-text_line_short (Refusing r) text = omega arith
+text_line_short (Ok made) text = simp (length-append, length-take) (omega arith)
+text_line_short (Err r) text = omega arith
 
 -- the lines of an expansion are not much longer than the text that was lent
 pub told_short : (answer : Answer) (text : List ℕ) → length (answer_line answer) ≤ 92 → length (told_lines answer text) ≤ length text + 93

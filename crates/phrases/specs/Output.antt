@@ -1,8 +1,7 @@
 -- What the program `phrase` writes, from the bytes of a table and of a formula. Document 01: "Program `phrase` reads `phrases.tab` (empty if it can't be
 -- opened) and standard input, with 4,096 rows of cells and 65,536 bytes for text."
-use Rattle.std.specs.Prelude.{ℕ, ◌*◌, List, [], ◌++◌, take, replicate}
-use Rattle.answers.specs.declared.Answer.{Answer}
-use Rattle.answers.specs.declared.Answer.TheVariants.{Accepted, Refusing}
+use Rattle.std.specs.Prelude.{ℕ, ◌*◌, List, [], ◌++◌, take, replicate, Ok, Err}
+use Rattle.answers.specs.Refusals.{Answer}
 use Rattle.terms.specs.Cells.{columns}
 use Rattle.meaning.specs.Expand.{Expanded, expand}
 use Rattle.reports.specs.Lines.{newline, answer_line}
@@ -17,8 +16,8 @@ lent_text = replicate 65536 0
 
 -- the text of an acceptance, on a line of its own; a refusal has none
 unfoldable pub text_line : Answer → List ℕ → List ℕ
-text_line (Accepted cells constructors size) text = take size text ++ newline
-text_line (Refusing r) text = []
+text_line (Ok made) text = take made.length text ++ newline
+text_line (Err r) text = []
 
 -- the lines that tell of an expansion, by its answer and the text at exit
 abbrev pub told_lines : Answer → List ℕ → List ℕ

@@ -24,11 +24,11 @@ fn lay_text(out: &mut [u8], at: usize, answer: Answer, text: &[u8; TEXT]) -> usi
     ensures { Lays out.old at (text_line answer text.now) result out.new }
 {
     match answer {
-        Answer::Accepted(_, _, length) => {
-            let n = lay(out, at, front(text, length));
+        Ok(made) => {
+            let n = lay(out, at, front(text, made.length));
             lay(out, n, b"\n")
         }
-        Answer::Refusing(_) => lay(out, at, b""),
+        Err(_) => lay(out, at, b""),
     }
 }
 

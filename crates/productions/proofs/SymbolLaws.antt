@@ -1,4 +1,5 @@
 -- Laws of the items at an offset of a table: the symbol of an item, and what stands there.
+use Rattle.std.specs.Prelude.{None, Some}
 use Prim.Native.Nat.{ℕ, zero, suc, ◌+◌, ◌-◌, ◌<◌, ◌≤◌}
 use mathlib.Core.Path.{◌≡◌, refl, sym, ◌∙◌}
 use mathlib.Core.Bool.{Bool, true, false}
@@ -17,8 +18,7 @@ use Rattle.productions.specs.declared.Terminal as Code
 use Rattle.productions.specs.declared.Terminal.TheVariants.{Keyword, Ide, Number, Place}
 use Rattle.productions.specs.declared.Symbol.{Symbol}
 use Rattle.productions.specs.declared.Symbol.TheVariants.{Read, Local, Call}
-use Rattle.productions.specs.declared.SymbolStep.{SymbolStep}
-use Rattle.productions.specs.declared.SymbolStep.TheVariants.{Done, Past}
+use Rattle.productions.specs.SymbolStep.{SymbolStep}
 use Rattle.productions.specs.Symbols.{terminal_in, symbol_of, symbol_step}
 use Rattle.productions.specs.Index.{items_of}
 
@@ -88,8 +88,8 @@ pub record ItemAt (bs : List ℕ) (at : ℕ) (kind_read : Symbol) (after : ℕ) 
 
 -- what a step says of the items at an offset
 abbrev pub Stepped : List ℕ → ℕ → SymbolStep → Type 0
-Stepped bs at Done = items_of (fields_at bs at) ≡ []
-Stepped bs at (Past s after) = ItemAt bs at s after
+Stepped bs at None = items_of (fields_at bs at) ≡ []
+Stepped bs at (Some (s, after)) = ItemAt bs at s after
 
 -- the items at the front end where no item stands
 items_walk : Walk items_of []
@@ -98,7 +98,7 @@ items_walk = record { at-end = λ at. refl; at_cut = λ at. refl; at_none = λ a
 
 module _ (bs : List ℕ) (at : ℕ) where
   stepped_by : (field : FieldSpan) → field ≡ field_at bs at → (test : Bool) → eqb field.tag 6 ≡ test
-      → Stepped bs at (elim test [ true ↦ Past (symbol_of (item_of (value_in bs field))) field.to | false ↦ Done ])
+      → Stepped bs at (elim test [ true ↦ Some (symbol_of (item_of (value_in bs field)), field.to) | false ↦ None ])
   unfolding items_of
   stepped_by field e true f =
       let lies = field_lies bs at e in
@@ -117,17 +117,17 @@ module _ (bs : List ℕ) (at : ℕ) where
   stepped e = rw e (stepped_by (field_at bs at) refl _ refl)
 
   -- behind an item less is left
-  pub step_less : {symbol : Symbol} {after : ℕ} → Past symbol after ≡ symbol_step bs (field_at bs at) → length bs - after < length bs - at
+  pub step_less : {symbol : Symbol} {after : ℕ} → Some (symbol, after) ≡ symbol_step bs (field_at bs at) → length bs - after < length bs - at
   step_less e = omega (arith, (stepped e).less, (stepped e).inside)
 
   module _ {field : FieldSpan} (equal : field ≡ field_at bs at) where
     -- the code's answers
-    pub step_done : (field.tag ≡ 6 → ⊥) → Done ≡ symbol_step bs (field_at bs at)
+    pub step_done : (field.tag ≡ 6 → ⊥) → None ≡ symbol_step bs (field_at bs at)
     step_done h = cc (ne_eqb field.tag 6 h)
 
     -- a field of tag 6 is an item
     pub step_past : field.tag ≡ 6 → {symbol : Symbol} → symbol ≡ symbol_of (item_of (value_in bs field))
-        → Past symbol field.to ≡ symbol_step bs (field_at bs at)
+        → Some (symbol, field.to) ≡ symbol_step bs (field_at bs at)
     step_past h e = cc (eq-eqb field.tag 6 h)
 
   -- nothing stands at the end

@@ -1,3 +1,4 @@
+pub mod SymbolStep
 pub mod Normal
 pub mod Index
 pub mod IndexCalls

@@ -1,5 +1,5 @@
 -- What the code reads of an item: all but the arguments of a call. These definitions mirror code: nobody needs them to believe `expand`.
-use Rattle.std.specs.Prelude.{ℕ, true, false, List, eqb}
+use Rattle.std.specs.Prelude.{ℕ, true, false, List, eqb, None, Some}
 use Rattle.grammar.specs.Table.{none, Terminal, keyword, ide, number, place, Item, terminal, local, call}
 use Rattle.grammar.specs.declared.FieldSpan.{FieldSpan}
 use Rattle.grammar.specs.Lookup.{value_in}
@@ -8,8 +8,7 @@ use Rattle.productions.specs.declared.Terminal as Code
 use Rattle.productions.specs.declared.Terminal.TheVariants.{Keyword, Ide, Number, Place}
 use Rattle.productions.specs.declared.Symbol.{Symbol}
 use Rattle.productions.specs.declared.Symbol.TheVariants.{Read, Local, Call}
-use Rattle.productions.specs.declared.SymbolStep.{SymbolStep}
-use Rattle.productions.specs.declared.SymbolStep.TheVariants.{Done, Past}
+use Rattle.productions.specs.SymbolStep.{SymbolStep}
 
 -- a terminal, as the code has it
 abbrev pub as_read : Terminal → Code.Terminal
@@ -39,4 +38,4 @@ with_symbol (Call n) = call n none
 
 -- what the code reads of a field: an item with the offset behind it, or none
 abbrev pub symbol_step : List ℕ → FieldSpan → SymbolStep
-symbol_step bs field = elim (eqb field.tag 6) [ true ↦ Past (symbol_of (item_of (value_in bs field))) field.to | false ↦ Done ]
+symbol_step bs field = elim (eqb field.tag 6) [ true ↦ Some (symbol_of (item_of (value_in bs field)), field.to) | false ↦ None ]

@@ -33,11 +33,11 @@ pub fn item_at(table: &[u8], at: usize) -> SymbolStep
 {
     let field = field_at(table, at);
     if field.tag != ITEM_TAG {
-        return SymbolStep::Done;
+        return None;
     }
     let from = field.from;
     let to = field.to;
-    SymbolStep::Past(symbol(&table[from..to]), to)
+    Some((symbol(&table[from..to]), to))
 }
 
 // The kind of token that a terminal reads.

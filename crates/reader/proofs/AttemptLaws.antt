@@ -4,12 +4,11 @@ use mathlib.Core.Path.{◌≡◌, sym, ap, ◌∙◌}
 use mathlib.Core.Bool.{Bool, true, false, not}
 use mathlib.Core.List.{List}
 use native.Mathlib.Omega.{arith}
-use Rattle.std.specs.Prelude.{Some, None, Err}
+use Rattle.std.specs.Prelude.{Some, None, Err, Ok}
 use Rattle.answers.specs.declared.Refusal.{Refusal}
 use Rattle.answers.specs.Checked.{Checked, ◌>>=◌, ◌>>◌, need}
 use Rattle.expansion.specs.declared.State.{State}
-use Rattle.expansion.specs.declared.Outcome.{Outcome}
-use Rattle.expansion.specs.declared.Outcome.TheVariants.{Value, Halted}
+use Rattle.expansion.specs.Outcome.{Outcome}
 use Rattle.expansion.specs.Run.{Result, done}
 use Rattle.expansion.specs.Outcomes.{ran}
 use Rattle.steps.specs.Source.{Source}
@@ -63,12 +62,12 @@ module _ (tokens : List ℕ) (head : TextHead) (others : ℕ) (cells : List ℕ)
           ∙ ap (λ q. check_by used at other (has_number (tokens_lent tokens)) (reading_of head.sort q)) (strict_is e)
 
       -- A run that halts reads nothing.
-      pub attempt_halted : {refusal : Refusal} → outcome ≡ Halted refusal → Attempts tokens head others cells None cells' S
+      pub attempt_halted : {refusal : Refusal} → outcome ≡ Err refusal → Attempts tokens head others cells None cells' S
       attempt_halted e =
           record { attempts = by_run e; leaves = λ x made q. let z : ◌≡◌ {A = ℕ} 0 1 = cc in absurd (omega arith) }
 
       -- What a run gives that is done is judged.
-      pub attempt_done : {x : ℕ} {s : State} → outcome ≡ Value x s → {a : TextAnswer} → Judges cells' head x s others a
+      pub attempt_done : {x : ℕ} {s : State} → outcome ≡ Ok (x, s) → {a : TextAnswer} → Judges cells' head x s others a
           → Attempts tokens head others cells (Some a) cells' S
       attempt_done {x} {s} e {a} judges =
           record {
@@ -91,10 +90,10 @@ module _ (tokens : List ℕ) (head : TextHead) (cells : List ℕ) (S : Source) {
       ∙ ap (λ c. run_tokens S head.nonterminal c (tokens_lent tokens)) cleared
 
   -- Where the second run halts too, a text is not read either way.
-  pub explained_halted : {refusal : Refusal} → outcome ≡ Halted refusal → Explains tokens head cells Unread S
+  pub explained_halted : {refusal : Refusal} → outcome ≡ Err refusal → Explains tokens head cells Unread S
   explained_halted e = record { explains = ap (λ q. unread_because (reading_of head.sort q)) (again e) }
 
   -- Where it is done, its size tells.
-  pub explained_done : {x : ℕ} {s : State} → outcome ≡ Value x s → {r : TextFault} → cause_of r ≡ because_of head.sort x s cells'
+  pub explained_done : {x : ℕ} {s : State} → outcome ≡ Ok (x, s) → {r : TextFault} → cause_of r ≡ because_of head.sort x s cells'
       → Explains tokens head cells r S
   explained_done e q = record { explains = q ∙ ap (λ q. unread_because (reading_of head.sort q)) (again e) }

@@ -1,18 +1,17 @@
 -- The reading of a text from its bytes: what scan and runs come to, under what is lent.
+use Rattle.std.specs.Prelude.{Some, None, Ok, Err}
 use Prim.Native.Nat.{ℕ, ◌*◌}
 use mathlib.Core.Path.{◌≡◌, refl, sym, ap, ap₂, ◌∙◌}
 use mathlib.Core.Bool.{true, false, not, ◌&&◌}
 use mathlib.Core.List.{List, map}
 use native.Mathlib.Omega.{arith}
 use lib.ListN.{length, take, replicate, length-replicate}
-use Rattle.std.specs.Prelude.{Some, None, Err}
 use Rattle.answers.specs.declared.Refusal.{Refusal}
 use Rattle.answers.specs.Checked.{Checked, ◌>>=◌, ◌>>◌, need}
 use Rattle.grammar.specs.Table.{Lexicon}
 use Rattle.terms.specs.Cells.{columns, rows_lent}
 use Rattle.tokens.specs.declared.Token.{Token}
-use Rattle.tokens.specs.declared.Scanned.{Scanned}
-use Rattle.tokens.specs.declared.Scanned.TheVariants.{Tokens, Unscanned}
+use Rattle.tokens.specs.Scanned.{Scanned}
 use Rattle.tokens.specs.Scan.{Lexed, scan}
 use Rattle.lexicon.specs.LexiconRoom.{lexicon_by}
 use Rattle.scanner.specs.Rooms.{filled, LentToScan, TokensFit}
@@ -104,26 +103,26 @@ module _ (S : Source) (sorts text : List ℕ) (head : TextHead) where
   module _ {room tokens words : List ℕ} (given : ReadableIn room sorts text tokens words S) {scanned : Scanned} {tokens' words' : List ℕ}
       (scans : Scans lex text tokens words scanned tokens' words') where
     -- A scan that is not refused leaves the tokens and the words of a text.
-    pub scanned_holds : {many count : ℕ} → scanned ≡ Tokens many count → Holds lex text tokens' words' many count
+    pub scanned_holds : {many count : ℕ} → scanned ≡ Ok (many, count) → Holds lex text tokens' words' many count
     scanned_holds e =
         scan_holds lex given.readable.few_outsides given.readable.few_sorts text given.rooms
         (ap (λ a. filled a tokens' words') (sym e) ∙ scans.fills)
 
     -- One that is refused answers so.
-    pub scanned_refused : {refusal : Refusal} → scanned ≡ Unscanned refusal → (scan lex text).answer ≡ Unscanned refusal
+    pub scanned_refused : {refusal : Refusal} → scanned ≡ Err refusal → (scan lex text).answer ≡ Err refusal
     scanned_refused e =
         scan_refused lex given.readable.few_outsides given.readable.few_sorts text given.rooms
         (ap (λ a. filled a tokens' words') (sym e) ∙ scans.fills)
 
   -- ---------------------------------------------------------------- the answers
 
-  module _ {refusal : Refusal} (answer : (scan lex text).answer ≡ Unscanned refusal) where
+  module _ {refusal : Refusal} (answer : (scan lex text).answer ≡ Err refusal) where
     -- A text that is not scanned is refused with 26.
     pub read_unscanned : (cells : List ℕ) → ReadsText sorts text head cells (Err Unread) cells S
     read_unscanned cells =
         record {
           answers = λ P at under.
-              let unscanned : (lexed P sorts head text).answer ≡ Unscanned refusal = ap (λ (l : Lexed). l.answer) (sym (lexed_is under)) ∙ answer in
+              let unscanned : (lexed P sorts head text).answer ≡ Err refusal = ap (λ (l : Lexed). l.answer) (sym (lexed_is under)) ∙ answer in
               ap (λ a. check_lexed P head at a (lexed P sorts head text).tokens) (sym unscanned);
           leaves = λ P under x made e. let z : ◌≡◌ {A = ℕ} 0 1 = cc in absurd (omega arith);
         }
@@ -133,7 +132,7 @@ module _ (S : Source) (sorts text : List ℕ) (head : TextHead) where
     explain_unscanned cells r =
         record {
           explains = λ P under scanned.
-              let unscanned : (lexed P sorts head text).answer ≡ Unscanned refusal = ap (λ (l : Lexed). l.answer) (sym (lexed_is under)) ∙ answer in
+              let unscanned : (lexed P sorts head text).answer ≡ Err refusal = ap (λ (l : Lexed). l.answer) (sym (lexed_is under)) ∙ answer in
               let never : false ≡ true = sym (ap is_scanned unscanned) ∙ scanned in
               let z : ◌≡◌ {A = ℕ} 0 1 = cc in
               absurd (omega arith);
@@ -144,7 +143,7 @@ module _ (S : Source) (sorts text : List ℕ) (head : TextHead) where
     tokens_are : {P : TextContext} {cells : List ℕ} → Under S P head cells → tokens_lent (take (many * 4) tokens) ≡ (lexed P sorts head text).tokens
     tokens_are under = cut_tokens holds.tokens_fit ∙ holds.tokens_are ∙ ap (λ (l : Lexed). l.tokens) (lexed_is under)
 
-    answer_is : {P : TextContext} {cells : List ℕ} → Under S P head cells → (lexed P sorts head text).answer ≡ Tokens many count
+    answer_is : {P : TextContext} {cells : List ℕ} → Under S P head cells → (lexed P sorts head text).answer ≡ Ok (many, count)
     answer_is under = ap (λ (l : Lexed). l.answer) (sym (lexed_is under)) ∙ holds.answered
 
     strict_under : {P : TextContext} {cells : List ℕ} (under : Under S P head cells)
@@ -213,13 +212,13 @@ module _ {bs texts room sorts text tokens words : List ℕ} (given : SomeLent bs
   lent = source_of bs texts given.patterns
 
   -- Tokens and words of a text that is scanned are in their rooms,
-  pub text_holds : {many count : ℕ} → scanned ≡ Tokens many count → Holds (lexicon_by head.kinds sorts bs) text tokens' words' many count
+  pub text_holds : {many count : ℕ} → scanned ≡ Ok (many, count) → Holds (lexicon_by head.kinds sorts bs) text tokens' words' many count
   text_holds = scanned_holds lent sorts text head given.holds scans
 
   -- and fit.
-  pub text_fits : {many count : ℕ} → scanned ≡ Tokens many count → TokensFit tokens' many
+  pub text_fits : {many count : ℕ} → scanned ≡ Ok (many, count) → TokensFit tokens' many
   text_fits e = (text_holds e).tokens_fit
 
   -- One that is not scanned is refused.
-  pub text_refused : {refusal : Refusal} → scanned ≡ Unscanned refusal → (scan (lexicon_by head.kinds sorts bs) text).answer ≡ Unscanned refusal
+  pub text_refused : {refusal : Refusal} → scanned ≡ Err refusal → (scan (lexicon_by head.kinds sorts bs) text).answer ≡ Err refusal
   text_refused = scanned_refused lent sorts text head given.holds scans

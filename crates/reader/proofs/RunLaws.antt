@@ -1,12 +1,12 @@
 -- What the run of a text's tokens promises, from what the expander does.
+use Rattle.std.specs.Prelude.{Ok}
 use Prim.Native.Nat.{ℕ, ◌≤◌}
 use mathlib.Core.Path.{◌≡◌, refl, sym, subst, ◌∙◌}
 use mathlib.Core.List.{List}
 use native.Mathlib.Omega.{arith}
 use lib.ListN.{length}
 use Rattle.terms.specs.Cells.{rows_lent}
-use Rattle.expansion.specs.declared.Outcome.{Outcome}
-use Rattle.expansion.specs.declared.Outcome.TheVariants.{Value}
+use Rattle.expansion.specs.Outcome.{Outcome}
 use Rattle.expansion.specs.Outcomes.{ran}
 use Rattle.expansion.specs.Expansion.{run}
 use Rattle.soundness.proofs.CellsLeft.{Leaves, run_leaves}
@@ -20,7 +20,7 @@ use Rattle.reader.specs.TextRuns.{RunnableText, FewMade, RunsText}
 few_made : (S : Source) (tokens : List ℕ) (root : ℕ) (cells : List ℕ) (r : Outcome) (cells' : List ℕ)
     → ran r cells' ≡ run (reading S tokens cells) root cells → FewMade r
 few_made S tokens root cells r cells' e v s is =
-    let ends : run (reading S tokens cells) root cells ≡ ran (Value v s) cells' = sym e ∙ cc in
+    let ends : run (reading S tokens cells) root cells ≡ ran (Ok (v, s)) cells' = sym e ∙ cc in
     let leaves = subst (Leaves (rows_lent (length cells)) 0 cells) ends (run_leaves (rows_lent (length cells)) (reading S tokens cells) refl root cells) in
     omega (arith, leaves.1)
 

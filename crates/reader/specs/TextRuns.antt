@@ -1,10 +1,9 @@
 -- The run of a text's tokens by code: what it asks and what it gives. These definitions mirror code: nobody needs them to believe `expand`.
-use Rattle.std.specs.Prelude.{ℕ, ◌≤◌, ◌≡◌, List, length}
+use Rattle.std.specs.Prelude.{ℕ, ◌≤◌, ◌≡◌, List, length, Ok}
 use Rattle.terms.specs.Cells.{most_cells, rows_lent}
 use Rattle.tokens.specs.declared.Token.{Token}
 use Rattle.expansion.specs.declared.State.{State}
-use Rattle.expansion.specs.declared.Outcome.{Outcome}
-use Rattle.expansion.specs.declared.Outcome.TheVariants.{Value}
+use Rattle.expansion.specs.Outcome.{Outcome}
 use Rattle.expansion.specs.Outcomes.{ran}
 use Rattle.expansion.specs.Run.{Result}
 use Rattle.expansion.specs.Expansion.{ready_for, run}
@@ -19,7 +18,7 @@ pub record RunnableText (room tokens : List ℕ) (S : Source) : Type 0 where
 
 -- an outcome has made no more rows than an expansion makes
 abbrev pub FewMade : Outcome → Type 0
-FewMade r = (v : ℕ) (s : State) → r ≡ Value v s → s.made ≤ most_cells
+FewMade r = (v : ℕ) (s : State) → r ≡ Ok (v, s) → s.made ≤ most_cells
 
 -- the run of tokens from a nonterminal by a source, in the rows that the cells have
 abbrev pub run_tokens : Source → ℕ → List ℕ → List Token → Result ℕ

@@ -7,7 +7,6 @@ ghost use Rattle.reader.specs.TextReadings.{Attempts, Explains};
 use crate::judging::{TextAnswer, TextFault, TextHead, because, judge};
 use crate::runs::run_text;
 use crate::words::{as_outside, clear, has_number};
-use expansion::Outcome;
 use productions::room::ROOM;
 
 // The tokens of a text are run with its words as outside names, where it has so many other words: it is answered, or not read so. What the tokens then hold
@@ -32,8 +31,8 @@ pub fn read_tokens(
     as_outside(tokens);
     let outcome = run_text(cells, table, texts, room, head.nonterminal, tokens);
     match outcome {
-        Outcome::Halted(_) => None,
-        Outcome::Value(x, s) => Some(judge(cells, head, x, s, others)),
+        Err(_) => None,
+        Ok((x, s)) => Some(judge(cells, head, x, s, others)),
     }
 }
 
@@ -53,7 +52,7 @@ pub fn explain(
     clear(cells);
     let outcome = run_text(cells, table, texts, room, head.nonterminal, tokens);
     match outcome {
-        Outcome::Halted(_) => TextFault::Unread,
-        Outcome::Value(x, s) => because(cells, head.sort, x, s),
+        Err(_) => TextFault::Unread,
+        Ok((x, s)) => because(cells, head.sort, x, s),
     }
 }

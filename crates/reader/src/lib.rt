@@ -19,7 +19,6 @@ use crate::attempts::{explain, read_tokens};
 use crate::judging::{TextAnswer, TextFault, TextHead};
 use productions::room::ROOM;
 use scanner::room::{ALL_TOKENS, ALL_WORDS, PLACE, TOKEN};
-use tokens::Scanned;
 
 // Texts up to this have the shortest rooms.
 const SHORT_TEXT: usize = 128;
@@ -51,14 +50,11 @@ fn explain_in(
     ensures { EachLent table.now texts.now (λ S. Ready S room.now)
         (ExplainsText variables.now text.now head cells.old result) }
 {
-    let scanned = scanner::scan(table, head.kinds, variables, text, tokens, words);
-    match scanned {
-        Scanned::Unscanned(_) => TextFault::Unread,
-        Scanned::Tokens(n, _) => {
-            let end = n * TOKEN;
-            explain(cells, table, texts, room, head, &tokens[..end])
-        }
-    }
+    let Ok((n, _)) = scanner::scan(table, head.kinds, variables, text, tokens, words) else {
+        return TextFault::Unread;
+    };
+    let end = n * TOKEN;
+    explain(cells, table, texts, room, head, &tokens[..end])
 }
 
 // The reading of a text with rooms that take all its tokens and words.
@@ -77,19 +73,16 @@ fn read_in(
     ensures { EachLent table.now texts.now (λ S. Ready S room.now)
         (ReadsText variables.now text.now head cells.old result cells.new) }
 {
-    let scanned = scanner::scan(table, head.kinds, variables, text, tokens, words);
-    match scanned {
-        Scanned::Unscanned(_) => Err(TextFault::Unread),
-        Scanned::Tokens(n, others) => {
-            let end = n * TOKEN;
-            let attempt = read_tokens(cells, table, texts, room, head, &mut tokens[..end], others);
-            match attempt {
-                Some(a) => a,
-                None => Err(explain_in(
-                    cells, table, texts, room, variables, text, tokens, words, head,
-                )),
-            }
-        }
+    let Ok((n, others)) = scanner::scan(table, head.kinds, variables, text, tokens, words) else {
+        return Err(TextFault::Unread);
+    };
+    let end = n * TOKEN;
+    let attempt = read_tokens(cells, table, texts, room, head, &mut tokens[..end], others);
+    match attempt {
+        Some(a) => a,
+        None => Err(explain_in(
+            cells, table, texts, room, variables, text, tokens, words, head,
+        )),
     }
 }
 

@@ -3,8 +3,7 @@
 use Rattle.std.specs.Prelude.{ℕ, Bool, true, false, ◌&&◌, List, [], ◌∷◌, ◌++◌, eqb, Option, Some, None, Result, Ok, Err}
 use Rattle.spellings.specs.Bytes.{bytes, decimal}
 use Rattle.answers.specs.declared.Refusal.{Refusal}
-use Rattle.answers.specs.declared.Answer.{Answer}
-use Rattle.answers.specs.declared.Answer.TheVariants.{Accepted, Refusing}
+use Rattle.answers.specs.Refusals.{Answer}
 use Rattle.reports.specs.declared.lines.Difference.{Difference}
 use Rattle.reports.specs.declared.lines.Difference.TheVariants.{OtherAnswer, OtherRooms}
 
@@ -31,8 +30,8 @@ numbers r = spaced r.number ++ values r.a r.b r.c
 -- the line of an answer: `ok` with cells, constructors and text length, or `refused` with number and values
 unfoldable pub answer_line : Answer → List ℕ
 unfolding bytes
-answer_line (Accepted cells constructors size) = bytes "ok" ++ values cells constructors size ++ newline
-answer_line (Refusing r) = bytes "refused" ++ numbers r ++ newline
+answer_line (Ok made) = bytes "ok" ++ values made.cells made.constructors made.length ++ newline
+answer_line (Err r) = bytes "refused" ++ numbers r ++ newline
 
 -- the rest of a line: what was expected, and what was found in its place
 unfoldable pub difference : Refusal → Refusal → List ℕ

@@ -1,4 +1,5 @@
 -- What holds after a call of `scan` that was not refused, for the calls that read its rooms.
+use Rattle.std.specs.Prelude.{Ok, Err}
 use Prim.Native.Nat.{ℕ, ◌+◌, ◌*◌, ◌^◌, ◌<◌, ◌≤◌}
 use mathlib.Core.Path.{◌≡◌, sym, ap, ◌∙◌}
 use mathlib.Core.List.{List, [], ◌∷◌}
@@ -15,7 +16,6 @@ use Rattle.grammar.specs.Table.{Lexicon}
 use Rattle.grammar.specs.Limits.{most}
 use Rattle.grammar.specs.Variables.{most_variables}
 use Rattle.tokens.specs.declared.Token.{Token}
-use Rattle.tokens.specs.declared.Scanned.TheVariants.{Tokens, Unscanned}
 use Rattle.tokens.specs.Scan.{Lexed, scan}
 use Rattle.tokens.specs.Tokens.{end_token, most_tokens}
 use Rattle.scanner.specs.Rooms.{token_rows, row_of, tokens_in, word_places, words_in, RoomFor, TokensFit, filled, scan_into}
@@ -60,7 +60,7 @@ one_more (a_variable f) = omega arith
 -- the rooms of an accepted scan hold its tokens and its words
 pub record Holds (lex : Lexicon) (formula tokens words : List ℕ) (many count : ℕ) : Type 0 where
   -- the scan accepts `many` tokens and as many words of the formula's own as counted
-  pub answered : (scan lex formula).answer ≡ Tokens many count
+  pub answered : (scan lex formula).answer ≡ Ok (many, count)
   -- the first `many` rows are its tokens
   pub tokens_are : tokens_in tokens many ≡ (scan lex formula).tokens
   -- they can be read off the room
@@ -106,7 +106,7 @@ module _ (lex : Lexicon) (few : length lex.outsides ≤ 64) (named : length lex.
   scan_sized = scan_kept lex few formula SizedFrom sized_kept (omega arith) (omega arith) (omega arith) (omega arith)
 
   module _ {tokens words : List ℕ} (room : RoomFor formula tokens words) where
-    stored : {many count : ℕ} → (scan lex formula).answer ≡ Tokens many count
+    stored : {many count : ℕ} → (scan lex formula).answer ≡ Ok (many, count)
         → Holds lex formula (sets tokens 0 (token_rows (scan lex formula).tokens)) (sets words 0 (word_places 0 (scan lex formula).tokens)) many count
     stored {many} {count} e =
         let ts : List Token = (scan lex formula).tokens in
@@ -134,18 +134,18 @@ module _ (lex : Lexicon) (few : length lex.outsides ≤ 64) (named : length lex.
 
     module _ {tokens' words' : List ℕ} where
       -- A scan that is not refused leaves rooms that hold its tokens and its words.
-      pub scan_holds : {many count : ℕ} → filled (Tokens many count) tokens' words' ≡ scan_into lex formula tokens words
+      pub scan_holds : {many count : ℕ} → filled (Ok (many, count)) tokens' words' ≡ scan_into lex formula tokens words
           → Holds lex formula tokens' words' many count
       unfolding scan_into
       scan_holds {many} {count} e =
-          let a : (scan lex formula).answer ≡ Tokens many count = cc in
+          let a : (scan lex formula).answer ≡ Ok (many, count) = cc in
           let t : tokens' ≡ sets tokens 0 (token_rows (scan lex formula).tokens) = cc in
           let w : words' ≡ sets words 0 (word_places 0 (scan lex formula).tokens) = cc in
           rw (t, w) (stored a)
 
       -- A scan that is refused answers what the definition does.
-      pub scan_refused : {refusal : Refusal} → filled (Unscanned refusal) tokens' words' ≡ scan_into lex formula tokens words
-          → (scan lex formula).answer ≡ Unscanned refusal
+      pub scan_refused : {refusal : Refusal} → filled (Err refusal) tokens' words' ≡ scan_into lex formula tokens words
+          → (scan lex formula).answer ≡ Err refusal
       unfolding scan_into
       scan_refused e = cc
 

@@ -10,7 +10,6 @@ use lib.Seq.{drop-drop, get_or-drop}
 use borrow.Author.Tests.{eq-eqb, ne_eqb, lt-ltb, leb-false}
 use Rattle.spellings.specs.Bytes.{is_digit, is_symbol, longest_run, largest, value_of, is_number}
 use Rattle.spellings.specs.Numbers.{number_of}
-use Rattle.spellings.specs.declared.Number.TheVariants.{Value, TooLarge}
 use Rattle.spellings.proofs.BytesLaws.{by_test, run_prefix, run_length}
 use Rattle.grammar.specs.Table.{Lexicon}
 use Rattle.grammar.specs.Variables.{most_variables}
@@ -72,15 +71,15 @@ module _ (count : ℕ) (rest : List ℕ) where
   plain_is e = unnamed_is (rw (← e, is_variable) refl)
 
 -- a number that is not too large is the value of its digits
-value_told : (digits : List ℕ) {value : ℕ} → Value value ≡ number_of digits → value ≡ value_of digits
+value_told : (digits : List ℕ) {value : ℕ} → Some value ≡ number_of digits → value ≡ value_of digits
 value_told digits {value} e =
-    by_test (is_number digits) (λ t. let z : number_of digits ≡ Value (value_of digits) = rw (t, number_of) refl in cc)
-    (λ t. let z : number_of digits ≡ TooLarge = rw (t, number_of) refl in let q : ◌≡◌ {A = ℕ} 0 1 = cc in absurd (omega arith))
+    by_test (is_number digits) (λ t. let z : number_of digits ≡ Some (value_of digits) = rw (t, number_of) refl in cc)
+    (λ t. let z : number_of digits ≡ None = rw (t, number_of) refl in let q : ◌≡◌ {A = ℕ} 0 1 = cc in absurd (omega arith))
 
-large_told : (digits : List ℕ) → TooLarge ≡ number_of digits → largest < value_of digits
+large_told : (digits : List ℕ) → None ≡ number_of digits → largest < value_of digits
 large_told digits e =
     by_test (is_number digits)
-    (λ t. let z : number_of digits ≡ Value (value_of digits) = rw (t, number_of) refl in let q : ◌≡◌ {A = ℕ} 0 1 = cc in absurd (omega arith))
+    (λ t. let z : number_of digits ≡ Some (value_of digits) = rw (t, number_of) refl in let q : ◌≡◌ {A = ℕ} 0 1 = cc in absurd (omega arith))
     (λ t. leb-false (value_of digits) largest t)
 
 -- the digits behind an offset, as the code lends them
@@ -100,7 +99,7 @@ module _ (text : List ℕ) (at : ℕ) {size : ℕ} (counted : size ≡ length (l
 
   -- digits worth less than `count` name a variable
   pub named_is : (count : ℕ) {value : ℕ} → true ≡ is_dollar (drop at text)
-      → Value value ≡ number_of (take size (take (length text - (at + 1)) (drop (at + 1) text)))
+      → Some value ≡ number_of (take size (take (length text - (at + 1)) (drop (at + 1) text)))
       → value < count
       → Some (value, size + 1) ≡ variable_of count (drop at text)
   unfolding is_variable
@@ -111,12 +110,12 @@ module _ (text : List ℕ) (at : ℕ) {size : ℕ} (counted : size ≡ length (l
       rw (e, variable_of, v, sized) refl
 
   -- digits worth more name none
-  pub over_is : (count : ℕ) {value : ℕ} → Value value ≡ number_of (take size (take (length text - (at + 1)) (drop (at + 1) text))) → count ≤ value
+  pub over_is : (count : ℕ) {value : ℕ} → Some value ≡ number_of (take size (take (length text - (at + 1)) (drop (at + 1) text))) → count ≤ value
       → None ≡ variable_of count (drop at text)
   over_is count told over = unnamed_is count (drop at text) (none_above count (drop at text) (omega (arith, value_told _ told, ap value_of taken)))
 
   -- nor do digits worth more than a number may be
-  pub large_is : (count : ℕ) → TooLarge ≡ number_of (take size (take (length text - (at + 1)) (drop (at + 1) text))) → count ≤ most_variables
+  pub large_is : (count : ℕ) → None ≡ number_of (take size (take (length text - (at + 1)) (drop (at + 1) text))) → count ≤ most_variables
       → None ≡ variable_of count (drop at text)
   large_is count told few = unnamed_is count (drop at text) (none_above count (drop at text) (omega (arith, large_told _ told, ap value_of taken)))
 

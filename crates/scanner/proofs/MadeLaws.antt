@@ -1,4 +1,5 @@
 -- What one step of the scan promises, by what its functions found.
+use Rattle.std.specs.Prelude.{Some, None, Option}
 use Prim.Native.Nat.{ℕ, ◌+◌, ◌-◌, ◌*◌, ◌<◌, ◌≤◌}
 use mathlib.Core.Path.{◌≡◌, refl, sym, ap, ◌∙◌, subst}
 use mathlib.Core.Bool.{true, false}
@@ -14,7 +15,6 @@ use Rattle.spellings.proofs.BytesLaws.{by_test, index_le, index_front, index_res
 use Rattle.grammar.specs.Table.{Lexicon}
 use Rattle.kinds.specs.Kinds.{word_kind, number_kind, keyword_kind, no_kind}
 use Rattle.spellings.specs.Numbers.{number_of}
-use Rattle.spellings.specs.declared.Number.TheVariants.{Value, TooLarge}
 use Rattle.tokens.specs.declared.Token.{Token}
 use Rattle.tokens.specs.Scan.{Number, Fault, lexeme_of, is_new, kind_of}
 use Rattle.tokens.specs.Variables.{is_variable}
@@ -34,8 +34,6 @@ use Rattle.scanner.specs.Rooms.{place_then, count_with, words_in}
 use Rattle.lexicon.specs.Trees.{hash_of, Hashed, Planted, FoundAt, FreeFor, Searched, links_with}
 use Rattle.lexicon.specs.LexiconRoom.{most_spellings, symbols_at, keyword_count_at, spelling_count_at, tree_mask}
 use Rattle.lexicon.specs.LexiconRoom.{kind_from, Lexical}
-use Rattle.grammar.specs.declared.Found.{Found}
-use Rattle.grammar.specs.declared.Found.TheVariants.{At, Absent}
 use Rattle.grammar.specs.Found.{found_in}
 use Rattle.scanner.specs.Stepping.{Named, named_keyword, an_outside, neither, made}
 use Rattle.scanner.specs.Stepping.{OwnWord, met_before, first_met, SymbolHere, Marks, Stepped, Agrees, Ready}
@@ -228,11 +226,11 @@ module _ {lex : Lexicon} {at : ℕ} {rest : List ℕ} where
       }
 
   module _ (equal : is_digit (get_or rest 0 0) ≡ true) {size : ℕ} (agrees : size ≡ length (longest_run is_digit rest)) where
-    number_marks : {value : ℕ} → Value value ≡ number_of (take size rest) → Marks lex at rest (Emit (token number_kind at size value))
-    number_marks {value} f = number_lexeme (sym (lexeme_digits _ rest equal ∙ number_is_lem rest (Value value) agrees f))
+    number_marks : {value : ℕ} → Some value ≡ number_of (take size rest) → Marks lex at rest (Emit (token number_kind at size value))
+    number_marks {value} f = number_lexeme (sym (lexeme_digits _ rest equal ∙ number_is_lem rest (Some value) agrees f))
 
-    large_marks : TooLarge ≡ number_of (take size rest) → Marks lex at rest Stop
-    large_marks f = fault_lexeme (sym (lexeme_digits _ rest equal ∙ number_is_lem rest TooLarge agrees f))
+    large_marks : None ≡ number_of (take size rest) → Marks lex at rest Stop
+    large_marks f = fault_lexeme (sym (lexeme_digits _ rest equal ∙ number_is_lem rest None agrees f))
 
   symbol_marks : {kind : ℕ} → 0 < length rest → is_variable (length lex.variables) rest ≡ false → is_symbol (get_or rest 0 0) ≡ true
       → kind ≡ kind_of lex (get_or rest 0 0 ∷ []) no_kind
@@ -439,13 +437,13 @@ module _ (formula : List ℕ) (at : ℕ) {size : ℕ} (equal : size ≡ length (
 
   module _ (agrees : is_digit (get_or formula at 0) ≡ true) (lex : Lexicon) where
     -- digits worth a number that is not too large make its token
-    pub number_at : {value : ℕ} → Value value ≡ number_of (take size (take (length formula - at) (drop at formula)))
+    pub number_at : {value : ℕ} → Some value ≡ number_of (take size (take (length formula - at) (drop at formula)))
         → Marks lex at (drop at formula) (Emit (token number_kind at size value))
     number_at f =
         number_marks (ap is_digit (front_byte formula at) ∙ agrees) digits_here (cc (rest_lent formula at))
 
     -- digits worth a larger one stop the scan
-    pub large_at : TooLarge ≡ number_of (take size (take (length formula - at) (drop at formula))) → Marks lex at (drop at formula) Stop
+    pub large_at : None ≡ number_of (take size (take (length formula - at) (drop at formula))) → Marks lex at (drop at formula) Stop
     large_at f =
         large_marks (ap is_digit (front_byte formula at) ∙ agrees) digits_here (cc (rest_lent formula at))
 
@@ -453,9 +451,9 @@ kind_all : (lex : Lexicon) (spelling : List ℕ) → kind_from 0 lex.keywords sp
 unfolding kind_from kind_of
 kind_all lex spelling = by_found (found_in spelling lex.keywords) refl
   where
-    by_found : (found : Found) → found_in spelling lex.keywords ≡ found → kind_from 0 lex.keywords spelling ≡ kind_of lex spelling no_kind
-    by_found (At j) e = rw (e, kind_from, kind_of) (cc (zero-add j))
-    by_found Absent e = rw (e, kind_from, kind_of) refl
+    by_found : (found : Option ℕ) → found_in spelling lex.keywords ≡ found → kind_from 0 lex.keywords spelling ≡ kind_of lex spelling no_kind
+    by_found (Some j) e = rw (e, kind_from, kind_of) (cc (zero-add j))
+    by_found None e = rw (e, kind_from, kind_of) refl
 
 -- a symbol's kind in the lexicon's room
 module _ {lex : Lexicon} {table room tree : List ℕ} (lexical : Lexical lex table room tree) where

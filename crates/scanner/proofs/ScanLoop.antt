@@ -1,4 +1,5 @@
 -- The loop of the scan: what is left of the formula fills the rooms, from where they stand, as the whole formula fills them.
+use Rattle.std.specs.Prelude.{Ok, Err}
 use Prim.Native.Nat.{ℕ, suc, ◌+◌, ◌-◌, ◌*◌, ◌<◌, ◌≤◌}
 use mathlib.Core.Path.{◌≡◌, refl, sym, ap, ap₂, ◌∙◌}
 use mathlib.Core.Bool.{Bool, true, false}
@@ -13,8 +14,7 @@ use Rattle.grammar.specs.Table.{Lexicon}
 use Rattle.tokens.specs.declared.Token.{Token}
 use Rattle.tokens.specs.declared.Step.{Step}
 use Rattle.tokens.specs.declared.Step.TheVariants.{Skip, Stop, Emit}
-use Rattle.tokens.specs.declared.Scanned.{Scanned}
-use Rattle.tokens.specs.declared.Scanned.TheVariants.{Tokens, Unscanned}
+use Rattle.tokens.specs.Scanned.{Scanned}
 use Rattle.tokens.specs.Scan.{Lexed, with_token, is_new, words_with, step_of, lex_from, scan}
 use Rattle.tokens.specs.Tokens.{most_tokens, longest_formula}
 use Rattle.scanner.specs.Rooms.{row_then, token_rows, place_then, count_with, word_places, words_from, words_in, Filled, filled, scan_into}
@@ -92,7 +92,7 @@ unfolding scan_into
 into lex formula tokens words lexed e = ap (fill_from 0 0 tokens words) (sym e)
 
 -- 14 leaves the rooms as they were
-pub too_long : (lex : Lexicon) (formula tokens words : List ℕ) {scanned : Scanned} → scanned ≡ Unscanned (refusal 14 0 0 0)
+pub too_long : (lex : Lexicon) (formula tokens words : List ℕ) {scanned : Scanned} → scanned ≡ Err (refusal 14 0 0 0)
     → longest_formula < length formula
     → filled scanned tokens words ≡ scan_into lex formula tokens words
 unfolding token_rows word_places
@@ -142,7 +142,7 @@ module _ {lex : Lexicon} {formula tokens₀ words₀ tokens words : List ℕ} {a
 
   -- a fault gives 15 with its offset
   pub turn_stop : at < length formula → Stop ≡ step_of lex (words_in formula words count) at (drop at formula) → {scanned : Scanned}
-      → scanned ≡ Unscanned (refusal 15 at 0 0)
+      → scanned ≡ Err (refusal 15 at 0 0)
       → filled scanned tokens words ≡ scan_into lex formula tokens₀ words₀
   unfolding token_rows word_places
   turn_stop h e told = rw (told) (rest_by h Stop e)
@@ -164,7 +164,7 @@ module _ {lex : Lexicon} {formula tokens₀ words₀ tokens words : List ℕ} {a
     turn_less = omega (arith, lies.1)
 
     -- a token after 4,096 others gives 16
-    pub turn_full : many ≡ most_tokens → {scanned : Scanned} → scanned ≡ Unscanned (refusal 16 0 0 0)
+    pub turn_full : many ≡ most_tokens → {scanned : Scanned} → scanned ≡ Err (refusal 16 0 0 0)
         → filled scanned tokens words ≡ scan_into lex formula tokens₀ words₀
     unfolding token_rows word_places
     turn_full z told = rw (told) (rest_emit false (le-ltb many most_tokens (omega arith)))
@@ -220,7 +220,7 @@ module _ {lex : Lexicon} {formula tokens₀ words₀ tokens words : List ℕ} {a
           }
 
   -- where nothing is left, the rooms are filled and the scan accepts
-  pub turn_end : length formula ≤ at → filled (Tokens many count) tokens words ≡ scan_into lex formula tokens₀ words₀
+  pub turn_end : length formula ≤ at → filled (Ok (many, count)) tokens words ≡ scan_into lex formula tokens₀ words₀
   unfolding token_rows word_places
   turn_end h =
       cc (words_length count formula words 0, lex_end turn.fuel lex at many (words_in formula words count), drop_of_length-le formula h, turn.rest)

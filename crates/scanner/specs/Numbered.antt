@@ -1,11 +1,10 @@
 -- Document 01's number and values of a scan's answer, and what a scan promises. Document 01, "Formula" and "Causes, by number".
-use Rattle.std.specs.Prelude.{ℕ, ◌≤◌, ◌≡◌, List, [], length}
+use Rattle.std.specs.Prelude.{ℕ, ◌≤◌, ◌≡◌, List, [], length, Ok, Err}
 use Rattle.answers.specs.declared.Refusal.{Refusal}
 use Rattle.answers.specs.Refusals.{refusal}
 use Rattle.grammar.specs.Table.{Lexicon}
 use Rattle.tokens.specs.declared.Token.{Token}
-use Rattle.tokens.specs.declared.Scanned.{Scanned}
-use Rattle.tokens.specs.declared.Scanned.TheVariants.{Tokens, Unscanned}
+use Rattle.tokens.specs.Scanned.{Scanned}
 use Rattle.tokens.specs.Tokens.{most_tokens, longest_formula}
 use Rattle.tokens.specs.Tiling.{Tiled}
 use Rattle.tokens.specs.Unscanned.{Unscans}
@@ -13,8 +12,8 @@ use Rattle.scanner.specs.Rooms.{filled, scan_into}
 
 -- the number and values of each answer: those of its refusal, else 0 and none
 abbrev pub numbered_scan : Scanned → Refusal
-numbered_scan (Tokens n count) = refusal 0 0 0 0
-numbered_scan (Unscanned r) = r
+numbered_scan (Ok (n, count)) = refusal 0 0 0 0
+numbered_scan (Err r) = r
 
 -- The number and values that the rules give a formula: 0 where it has at most 65,535 bytes and is separators and at most 4,096 tokens, else 14, 15 or 16.
 pub data Numbers (lex : Lexicon) (formula : List ℕ) : Refusal → Type 0 where

@@ -3,7 +3,7 @@
 use Rattle.std.specs.Prelude.{ℕ, zero, suc, ◌+◌, ◌*◌, ◌^◌, ◌<◌, ◌≤◌, true, false, List, [], ◌∷◌, length, get_or}
 use Rattle.std.proofs.lemmas.List.Edits.{sets}
 use Rattle.tokens.specs.declared.Token.{Token}
-use Rattle.tokens.specs.declared.Scanned.{Scanned}
+use Rattle.tokens.specs.Scanned.{Scanned}
 use Rattle.grammar.specs.Table.{Lexicon}
 use Rattle.tokens.specs.Scan.{is_new, scan}
 use Rattle.tokens.specs.Tokens.{token, most_tokens}

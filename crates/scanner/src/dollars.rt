@@ -4,8 +4,6 @@ ghost use Rattle.tokens.specs.Variables.{is_dollar, dollars_below};
 ghost use Rattle.grammar.specs.Variables.{most_variables};
 ghost use Rattle.scanner.specs.Dollars.{is_named, variable_of};
 
-use spellings::Number;
-
 // The byte `$`.
 pub const DOLLAR: u8 = b'$';
 
@@ -39,16 +37,11 @@ pub fn variable_at(text: &[u8], at: usize, count: usize) -> Option<(u32, usize)>
     }
     let digits = &text[at + 1..];
     let n = spellings::digit_run(digits);
-    let number = spellings::value(&digits[..n]);
-    match number {
-        Number::Value(v) => {
-            if (v as usize) < count {
-                return Some((v, n + 1));
-            }
-            None
-        }
-        Number::TooLarge => None,
+    let v = spellings::value(&digits[..n])?;
+    if (v as usize) < count {
+        return Some((v, n + 1));
     }
+    None
 }
 
 // Whether what stands at an offset is one of `count` variables, or no `$` before a digit.

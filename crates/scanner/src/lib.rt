@@ -13,6 +13,7 @@ ghost use Rattle.tokens.specs.Variables.{dollar};
 ghost use Rattle.lexicon.specs.Trees.{hash_of, Planted, Linkable, links_with};
 ghost use Rattle.lexicon.specs.LexiconRoom.{lexicon_by, lexicon_in, LexicalIn};
 ghost use Rattle.scanner.specs.Stepping.{Named, Ready, OwnWord, made, SymbolHere, Marks, Stepped, Agrees, Scannable, LentToLink};
+ghost use Rattle.answers.specs.Causes.{cause_number};
 ghost use Rattle.answers.specs.Refusals.{refusal};
 ghost use Rattle.scanner.specs.Rooms.{row_then, place_then, count_with, words_in, RoomFor, LentToScan, filled, scan_into};
 ghost use Rattle.scanner.specs.Numbered.{Scans};
@@ -20,7 +21,7 @@ ghost use Rattle.scanner.specs.Numbered.{Scans};
 use crate::dollars::{DOLLAR, variable_at};
 use crate::room::{LENGTH, OFFSET, PLACE, TOKEN, VALUE};
 use answers::Refusal;
-use answers::causes::{BAD_TOKEN, FORMULA_TOO_LONG, TOO_MANY_TOKENS};
+use answers::causes::Cause;
 use grammar::limits::MOST_OUTSIDES;
 use grammar::reader::part;
 use kinds::{KEYWORD_KIND, NO_KIND, NUMBER_KIND, VARIABLE_KIND, WORD_KIND};
@@ -29,7 +30,7 @@ use lexicon::variables::enter_sorts;
 use lexicon::{
     KEYWORD_COUNT, MASK, ROOM, SPELLING_COUNT, SYMBOLS, TREE, VARIABLE_COUNT, VARIABLES,
 };
-use spellings::{LONGEST_WORD, Number};
+use spellings::LONGEST_WORD;
 use terms::VARIABLE;
 use tokens::{LONGEST_FORMULA, MOST_TOKENS, Scanned, Step, Token};
 
@@ -81,13 +82,13 @@ fn number_step(formula: &[u8], at: usize) -> Step
     let n = spellings::digit_run(rest);
     let number = spellings::value(&rest[..n]);
     match number {
-        Number::Value(v) => Step::Emit(Token {
+        Some(v) => Step::Emit(Token {
             kind: NUMBER_KIND,
             at: at as u32,
             size: n as u32,
             value: v,
         }),
-        Number::TooLarge => Step::Stop,
+        None => Step::Stop,
     }
 }
 
@@ -316,17 +317,17 @@ fn store_word(words: &mut [u32], links: &mut [u32], count: usize, t: Token, spot
 
 // ---------------------------------------------------------------- the scan
 
-fn unscanned(number: u8, a: u64) -> Scanned
-    ensures { result ≡ Scanned.Unscanned (refusal number a 0 0) }
+fn unscanned(cause: Cause, a: u64) -> Scanned
+    ensures { result ≡ Err (refusal (cause_number cause) a 0 0) }
 {
-    Scanned::Unscanned(answers::refuse(number, a, 0, 0))
+    Err(cause.refuse(a, 0, 0))
 }
 
 // Refusal 15, with the offset at which the bad lexeme starts.
 fn bad_lexeme(at: usize) -> Scanned
-    ensures { result ≡ Scanned.Unscanned (refusal 15 at 0 0) }
+    ensures { result ≡ Err (refusal 15 at 0 0) }
 {
-    unscanned(BAD_TOKEN, at as u64)
+    unscanned(Cause::BadToken, at as u64)
 }
 
 // The scan of a formula by the lexicon of a table.
@@ -360,7 +361,7 @@ fn scan_loop(
             }
             Step::Emit(t) => {
                 if n == MOST_TOKENS {
-                    return unscanned(TOO_MANY_TOKENS, 0);
+                    return unscanned(Cause::TooManyTokens, 0);
                 }
                 store_token(tokens, n, t);
                 count = store_word(words, links, count, t, spot);
@@ -369,7 +370,7 @@ fn scan_loop(
             }
         }
     }
-    Scanned::Tokens(n, count)
+    Ok((n, count))
 }
 
 // The same, with the lexicon entered first.
@@ -435,7 +436,7 @@ pub fn scan(
 {
     let size = formula.len();
     if LONGEST_FORMULA < size {
-        return unscanned(FORMULA_TOO_LONG, 0);
+        return unscanned(Cause::FormulaTooLong, 0);
     }
     if size <= SHORT {
         return scan_linked::<SHORT_LINKS>(

@@ -7,7 +7,7 @@ use native.Mathlib.Omega.{arith}
 use lib.Dec.{eqb, leb, ltb, eqb-suc-zero}
 use lib.ListN.{length, get_or, take, drop}
 use borrow.Author.Tests.{lt-leb}
-use Rattle.std.specs.Prelude.{⊤, Result, Err}
+use Rattle.std.specs.Prelude.{⊤, Result, Err, Ok}
 use Rattle.answers.specs.Refusals.{refusal}
 use Rattle.answers.specs.Checked.{Checked, ok, bad, ◌>>◌, need, verdict}
 use Rattle.spellings.proofs.BytesLaws.{by_test}
@@ -25,11 +25,9 @@ use Rattle.texts.specs.Reading.{TextRead}
 use Rattle.elaboration.specs.Contexts.{Before}
 use Rattle.elaboration.specs.CheckSequence.{check_result, check_root}
 use Rattle.bodies.specs.declared.Known.{Known}
-use Rattle.bodies.specs.declared.ItemSort.{ItemSort}
-use Rattle.bodies.specs.declared.ItemSort.TheVariants.{As, Unsorted}
+use Rattle.bodies.specs.Faults.{ItemSort, cause_of, tested_by, verdict_of}
 use Rattle.bodies.specs.declared.Fault.{Fault}
 use Rattle.bodies.specs.declared.Fault.TheVariants.{Undefined, WrongSort}
-use Rattle.bodies.specs.Faults.{cause_of, tested_by, verdict_of}
 use Rattle.bodies.specs.TemplateBytes.{fill_bytes, templates_fault}
 use Rattle.bodies.specs.HeadBytes.{signature_at}
 use Rattle.bodies.specs.BodyBytes.{unless_faulty, call_at, item_at, result_at}
@@ -51,8 +49,8 @@ pub record Carries (L room : List ℕ) : Type 0 where
 
 -- a sort or a refusal at a place
 abbrev pub sorted_at : ℕ → ItemSort → Checked ℕ
-sorted_at at (As s) = ok s
-sorted_at at (Unsorted fault) = bad (refusal (cause_of fault) at 0 0)
+sorted_at at (Ok s) = ok s
+sorted_at at (Err fault) = bad (refusal (cause_of fault) at 0 0)
 
 -- 9 before 11, by the outcomes of the tests
 abbrev fault_by : Bool → Bool → Result ⊤ Fault
@@ -60,7 +58,7 @@ fault_by closed filled = choose (tested_by filled WrongSort) (Err Undefined) clo
 
 call_by :
     (at sort : ℕ) (defined closed filled : Bool)
-    → sorted_at at (choose (Unsorted Undefined) (unless_faulty sort (fault_by closed filled)) (not defined))
+    → sorted_at at (choose (Err Undefined) (unless_faulty sort (fault_by closed filled)) (not defined))
     ≡ (need (defined && closed) 9 at >> need filled 11 at >> ok sort)
 call_by at sort true true true = refl
 call_by at sort true true false = refl
@@ -100,7 +98,7 @@ module _ (bs : List ℕ) (scope : Scope) (heads : List ℕ) (knows : (nontermina
         let tests = call_by at (get_or sig 0 0) (is_defined scope.env nonterminal) closed (fill_bytes false args L (drop 1 sig)) in
         by_test (is_defined scope.env nonterminal) (λ e. cc ((knows nonterminal l).shown e, fill_bytes_lem L args ts S.params (read_templates w))) (λ e. cc)
 
-    keyword_agrees : (test : Bool) → sorted_at at (choose (As 0) (Unsorted Undefined) test) ≡ (need test 9 at >> ok 0)
+    keyword_agrees : (test : Bool) → sorted_at at (choose (Ok 0) (Err Undefined) test) ≡ (need test 9 at >> ok 0)
     keyword_agrees true = refl
     keyword_agrees false = refl
 

@@ -9,7 +9,6 @@ use lib.Seq.{get_or-set_same, get_or-set_other, set_out}
 use borrow.Author.Tests.{eqb-true, eqb-false, leb-true, leb-false}
 use Rattle.bodies.specs.declared.Fault.{Fault}
 use Rattle.std.specs.Prelude.{⊤, Result, Ok, Err}
-use Rattle.answers.specs.declared.Verdict.TheVariants.{Passed, Refused}
 use Rattle.answers.specs.Checked.{Checked, ok, bad, ◌>>◌}
 use Rattle.spellings.proofs.BytesLaws.{by_test}
 use Rattle.grammar.specs.Written.{WrittenDefinition}
@@ -42,10 +41,10 @@ below_more heads nonterminal at limit b h j =
 
 -- both checks agree: the same refusal, or an environment and the heads that show it
 abbrev pub Agree : List ℕ → Env → ℕ → ℕ → Checked Env → Collected → Type 0
-Agree bs E block limit (ok own) (collected Passed H) = Collects bs E own block H × Below H limit
-Agree bs E block limit (ok own) (collected (Refused r) H) = ⊥
-Agree bs E block limit (bad r) (collected Passed H) = ⊥
-Agree bs E block limit (bad r) (collected (Refused q) H) = r ≡ q
+Agree bs E block limit (ok own) (collected (Ok tt) H) = Collects bs E own block H × Below H limit
+Agree bs E block limit (ok own) (collected (Err r) H) = ⊥
+Agree bs E block limit (bad r) (collected (Ok tt) H) = ⊥
+Agree bs E block limit (bad r) (collected (Err q) H) = r ≡ q
 
 -- only heads count
 collect_part : (bs : List ℕ) (block : ℕ) (heads : List ℕ) (all : Collected) (tag : ℕ) → Part tag → (at : ℕ) (v : List ℕ) (fs : RawFields)
@@ -57,7 +56,7 @@ collect_part bs block heads all tag part_result at v fs e = e
 collect_part bs block heads all tag part_text at v fs e = e
 
 module _ (bs : List ℕ) (E : Env) (block : ℕ) (follow : List Field)
-    (ends : (at : ℕ) (heads : List ℕ) → collect_from (spread at follow) bs block heads ≡ collected Passed heads) where
+    (ends : (at : ℕ) (heads : List ℕ) → collect_from (spread at follow) bs block heads ≡ collected (Ok tt) heads) where
   -- refused by both, or one more
   refused_or_more :
       (limit : ℕ) (tested : Result ⊤ Fault) (at : ℕ) (heads : List ℕ) (checked : Checked Env) (more : Collected)

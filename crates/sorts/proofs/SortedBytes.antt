@@ -10,8 +10,7 @@ use lib.Dec.{ltb}
 use lib.ListN.{length, get_or, drop, set, length-append, length-drop, length-set, replicate, length-replicate}
 use lib.Seq.{take_at, take-suc-set}
 use borrow.Author.Tests.{le-leb, lt-ltb}
-use Rattle.std.specs.Prelude.{Some}
-use Rattle.answers.specs.declared.Verdict.TheVariants.{Passed, Refused}
+use Rattle.std.specs.Prelude.{Some, Ok, Err}
 use Rattle.answers.specs.Checked.{Checked, ok, bad, ◌>>=◌, ◌>>◌, verdict}
 use Rattle.grammar.specs.Sorts.{Signature}
 use Rattle.grammar.specs.Table.{Item, Alternative, Definition, Table}
@@ -33,8 +32,7 @@ use Rattle.elaboration.specs.CheckSequence.{Elaborated, none_yet, and_then, chec
 use Rattle.elaboration.specs.CheckSequence.{check_root, check_sorts}
 use Rattle.elaboration.specs.Contexts.{Before, at_first, behind_block, scope_after}
 use Rattle.bodies.specs.declared.Known.{Known}
-use Rattle.bodies.specs.declared.ItemSort.{ItemSort}
-use Rattle.bodies.specs.declared.ItemSort.TheVariants.{As, Unsorted}
+use Rattle.bodies.specs.Faults.{ItemSort}
 use Rattle.bodies.specs.HeadBytes.{signature_at, Collected, collected, collect_from}
 use Rattle.bodies.specs.BodyBytes.{one_more, item_at}
 use Rattle.bodies.proofs.HeadLaws.{before_in_front}
@@ -50,7 +48,7 @@ use Rattle.sorts.proofs.BodiesByBytes.{known_of, Carries, sorted_at, item_agrees
 -- what comes after a check that passes
 abbrev after : {A : Type 0} → Checked A → (A → Finding) → Finding
 after (ok a) f = f a
-after (bad r) f = Some (Refused r)
+after (bad r) f = Some (Err r)
 
 -- what a check finds
 abbrev pub found : {A : Type 0} → Checked A → Finding
@@ -122,10 +120,10 @@ module _ (bs : List ℕ) (given_scope : Scope) (before : Before) (heads : List �
       → (last : ℕ → Finding)
       → ((sort : ℕ) → sorts_from rest bs (known_of given_scope head (length (L ++ (sort ∷ [])))) heads (set room (length L) sort) ≡ last sort)
       → go_on (after_item (known_of given_scope head (length L)) heads room at item_sort) (λ k H M. sorts_from rest bs k H M) ≡ after checked last
-  item_goes head at L room rest (As s) checked e h last f =
+  item_goes head at L room rest (Ok s) checked e h last f =
       let one : one_more (length L) ≡ length (L ++ (s ∷ [])) = more_is (length L) h ∙ sym (length-append L (s ∷ [])) in
       cc (f s)
-  item_goes head at L room rest (Unsorted fault) checked e h last f = cc
+  item_goes head at L room rest (Err fault) checked e h last f = cc
 
   items_sorted :
       {is : List Item} → Each ItemWithin is → (follow : List Field) (head at to : ℕ) → at + items_size is ≡ to → (L room : List ℕ) → Carries L room
@@ -232,7 +230,7 @@ module _ (bs : List ℕ) (root : ℕ) (low : root < 64) (whole : List (List Defi
   root_field = field 8 (root ∷ []) ∷ []
 
   collect_ends : (blocks : List (List WrittenDefinition)) (block at : ℕ) (heads : List ℕ)
-      → collect_from (spread at (blocks_then blocks root_field)) bs block heads ≡ collected Passed heads
+      → collect_from (spread at (blocks_then blocks root_field)) bs block heads ≡ collected (Ok tt) heads
   unfolding spread blocks_then collect_from
   collect_ends [] block at heads = refl
   collect_ends (b ∷ blocks) block at heads = refl
@@ -243,10 +241,10 @@ module _ (bs : List ℕ) (root : ℕ) (low : root < 64) (whole : List (List Defi
       → Agree bs E block limit checked given_collected → (last : Env → Finding)
       → ((own : Env) (heads : List ℕ) → Collects bs E own block heads → Below heads limit → sorts_from rest bs known heads room ≡ last own)
       → go_on (after_block known room given_collected) (λ k H M. sorts_from rest bs k H M) ≡ after checked last
-  block_goes E block limit known room rest (ok own) (collected Passed heads) (c, b) last f = f own heads c b
-  block_goes E block limit known room rest (ok own) (collected (Refused r) heads) a last f = absurd a
-  block_goes E block limit known room rest (bad r) (collected Passed heads) a last f = absurd a
-  block_goes E block limit known room rest (bad r) (collected (Refused q) heads) a last f = ap (λ p. Some (Refused p)) (sym a)
+  block_goes E block limit known room rest (ok own) (collected (Ok tt) heads) (c, b) last f = f own heads c b
+  block_goes E block limit known room rest (ok own) (collected (Err r) heads) a last f = absurd a
+  block_goes E block limit known room rest (bad r) (collected (Ok tt) heads) a last f = absurd a
+  block_goes E block limit known room rest (bad r) (collected (Err q) heads) a last f = ap (λ p. Some (Err p)) (sym a)
 
   -- behind the blocks the root is checked
   abbrev root_after : ℕ → Before → Checked Table

@@ -8,22 +8,18 @@ use lib.Dec.{eqb, leb}
 use lib.ListN.{length, get_or, replicate}
 use borrow.Author.Tests.{le-leb, lt-leb, eq-eqb, ne_eqb}
 use Rattle.std.specs.Prelude.{⊤, Some, None, Result, Ok, Err}
-use Rattle.answers.specs.declared.Verdict.{Verdict}
-use Rattle.answers.specs.declared.Verdict.TheVariants.{Passed, Refused}
-use Rattle.answers.specs.Refusals.{refusal}
+use Rattle.answers.specs.Refusals.{Verdict, refusal}
 use Rattle.grammar.specs.Sorts.{term}
 use Rattle.grammar.specs.declared.FieldSpan.{FieldSpan}
 use Rattle.grammar.specs.Lookup.{field_at, value_in, fields_at}
 use Rattle.grammar.proofs.LookupLaws.{fields_of_lem, field_lies, Walk, walk_field, walk_end}
 use Rattle.grammar.specs.Limits.{most}
 use Rattle.bodies.specs.declared.Known.{Known}
-use Rattle.bodies.specs.declared.ItemSort.{ItemSort}
-use Rattle.bodies.specs.declared.ItemSort.TheVariants.{As, Unsorted}
+use Rattle.bodies.specs.Faults.{ItemSort, cause_of, tested_by, verdict_of}
 use Rattle.bodies.specs.HeadBytes.{signature_at, collected, collect_at}
 use Rattle.bodies.specs.BodyBytes.{ParameterSorts, SortAdded, item_at, result_at}
 use Rattle.bodies.specs.declared.Fault.{Fault}
 use Rattle.bodies.specs.declared.Fault.TheVariants.{Undefined, WrongSort}
-use Rattle.bodies.specs.Faults.{cause_of, tested_by, verdict_of}
 use Rattle.sorts.specs.ByBytes.{root_at, unknown, counting, with_variables, verdict_step, stepped, step_at, go_on, sorts_from, sorts_of}
 use Rattle.sorts.specs.ByBytes.{Finding, FieldStep, Counts, ItemChecked, FieldChecked}
 use Rattle.bodies.proofs.TemplateInduction.{choose}
@@ -109,21 +105,21 @@ module _ {bs : List ℕ} {at : ℕ} {value : List ℕ} {known : Known} {heads L 
     (sorted : item_sort ≡ item_at bs known heads L value) where
   -- an item's refusal
   pub item_refused :
-      {fault : Fault} {number : ℕ} {verdict : Verdict} → item_sort ≡ Unsorted fault → number ≡ cause_of fault → verdict ≡ Refused (refusal number at 0 0)
+      {fault : Fault} {number : ℕ} {verdict : Verdict} → item_sort ≡ Err fault → number ≡ cause_of fault → verdict ≡ Err (refusal number at 0 0)
       → ItemChecked bs at value known heads L (Err (Some verdict)) L
   item_refused f n q = record { steps = cc; counts = tt }
 
   -- one variable more
   pub item_added :
-      {sort count : ℕ} {L' : List ℕ} → item_sort ≡ As sort → SortAdded L known.variables sort L' count
+      {sort count : ℕ} {L' : List ℕ} → item_sort ≡ Ok sort → SortAdded L known.variables sort L' count
       → ItemChecked bs at value known heads L (Ok (with_variables known count)) L'
   item_added f q = record { steps = cc (q.count_is, q.sorts_are); counts = (omega arith, omega arith) }
 
 -- ------------------------------------------------------------------ one field
 
 verdict_counts : (known : Known) (verdict : Verdict) → Counts known (verdict_step known verdict)
-verdict_counts known Passed = (omega arith, omega arith)
-verdict_counts known (Refused r) = tt
+verdict_counts known (Ok tt) = (omega arith, omega arith)
+verdict_counts known (Err r) = tt
 
 module _ {bs : List ℕ} {at tag : ℕ} {value : List ℕ} {to : ℕ} {known : Known} {heads L : List ℕ} where
   -- a block's heads are collected
@@ -181,7 +177,7 @@ module _ {bs : List ℕ} {at tag : ℕ} {value : List ℕ} {to : ℕ} {known : K
 -- ------------------------------------------------------------------ the walk
 
 -- a table that is too long is not looked at; of any other the fields give the answer
-pub sorts_long : (bs : List ℕ) → most.bytes < length bs → Some Passed ≡ sorts_of bs
+pub sorts_long : (bs : List ℕ) → most.bytes < length bs → Some (Ok tt) ≡ sorts_of bs
 unfolding sorts_of
 sorts_long bs h = cc (lt-leb (length bs) most.bytes h)
 
@@ -212,12 +208,12 @@ sorting_start =
     record { heads = refl; sorts = refl; full = refl; keywords = omega arith; outsides = omega arith; rest = refl }
 
 module _ {bs heads₀ L₀ stack₀ heads L stack : List ℕ} {at : ℕ} {known : Known} (sorting : Sorting bs heads₀ L₀ stack₀ heads L stack at known) where
-  walks : Walk (λ fs. sorts_from fs bs known heads L) (Some Passed)
+  walks : Walk (λ fs. sorts_from fs bs known heads L) (Some (Ok tt))
   unfolding sorts_from step_at
   walks = record { at-end = λ at. refl; at_cut = λ at. refl; at_none = λ at to. refl }
 
   -- at the end
-  pub sorting_end : length bs ≤ at → Some Passed ≡ sorts_from (fields_at bs 0) bs unknown heads₀ L₀
+  pub sorting_end : length bs ≤ at → Some (Ok tt) ≡ sorts_from (fields_at bs 0) bs unknown heads₀ L₀
   sorting_end h = sym (walk_end walks bs at h) ∙ sorting.rest
 
   module _ {field : FieldSpan} {step : FieldStep} {heads' L' : List ℕ} (equal : field ≡ field_at bs at)

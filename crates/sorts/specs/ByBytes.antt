@@ -1,11 +1,9 @@
 -- The check of sorts on the bytes of a table, as the code makes it, for any bytes. On the bytes of a table it is `check_sorts`
 -- (proofs/SortedBytes.antt). Nobody needs this file to believe `expand`.
-use Rattle.std.specs.Prelude.{ℕ, ◌+◌, ◌-◌, ◌*◌, ◌≤◌, ◌≡◌, true, false, ◌&&◌, List, ◌++◌, eqb, leb, length, get_or, drop, set, replicate}
-use Rattle.std.specs.Prelude.{⊤, Option, Some, None, Result, Ok, Err}
+use Rattle.std.specs.Prelude.{ℕ, ◌+◌, ◌-◌, ◌*◌, ◌≤◌, ◌≡◌, true, false, ◌&&◌, List, ◌++◌, eqb, leb, length, get_or, drop, set, replicate, Ok, Err}
+use Rattle.std.specs.Prelude.{⊤, Option, Some, None, Result}
 use Rattle.grammar.specs.Variables.{most_variables}
-use Rattle.answers.specs.declared.Verdict.{Verdict}
-use Rattle.answers.specs.declared.Verdict.TheVariants.{Passed, Refused}
-use Rattle.answers.specs.Refusals.{refusal}
+use Rattle.answers.specs.Refusals.{Verdict, refusal}
 use Rattle.grammar.specs.Sorts.{term}
 use Rattle.grammar.specs.Fields.{RawFields, end, cut, next, fields_of}
 use Rattle.grammar.specs.Lookup.{fields_at}
@@ -13,9 +11,7 @@ use Rattle.grammar.specs.Limits.{most}
 use Rattle.bodies.specs.declared.Known.{Known}
 use Rattle.bodies.specs.declared.Fault.{Fault}
 use Rattle.bodies.specs.declared.Fault.TheVariants.{Undefined, WrongSort}
-use Rattle.bodies.specs.Faults.{cause_of, tested_by, verdict_of}
-use Rattle.bodies.specs.declared.ItemSort.{ItemSort}
-use Rattle.bodies.specs.declared.ItemSort.TheVariants.{As, Unsorted}
+use Rattle.bodies.specs.Faults.{cause_of, tested_by, verdict_of, ItemSort}
 use Rattle.bodies.specs.HeadBytes.{signature_at, Collected, collected, collect_from}
 use Rattle.bodies.specs.BodyBytes.{one_more, item_at, result_at}
 
@@ -62,16 +58,16 @@ with_variables k n = record { keywords = k.keywords; outsides = k.outsides; head
 
 -- a verdict: the check goes on with what is known, or stops
 abbrev pub verdict_step : Known → Verdict → FieldStep
-verdict_step k Passed = Ok k
-verdict_step k (Refused r) = Err (Some (Refused r))
+verdict_step k (Ok tt) = Ok k
+verdict_step k (Err r) = Err (Some (Err r))
 
 abbrev pub after_block : Known → List ℕ → Collected → Stepped
 after_block k L (collected v H) = stepped (verdict_step k v) H L
 
 -- one variable more; there are 16 at most
 abbrev pub after_item : Known → List ℕ → List ℕ → ℕ → ItemSort → Stepped
-after_item k H L at (As s) = stepped (Ok (with_variables k (one_more k.variables))) H (set L k.variables s)
-after_item k H L at (Unsorted fault) = stepped (Err (Some (Refused (refusal (cause_of fault) at 0 0)))) H L
+after_item k H L at (Ok s) = stepped (Ok (with_variables k (one_more k.variables))) H (set L k.variables s)
+after_item k H L at (Err fault) = stepped (Err (Some (Err (refusal (cause_of fault) at 0 0)))) H L
 
 -- the variables of an alternative are its parameters at its beginning
 abbrev pub after_head : Known → List ℕ → List ℕ → List ℕ → Stepped
@@ -106,8 +102,8 @@ go_on (stepped (Ok k) H L) f = f k H L
 go_on (stepped (Err finding) H L) f = finding
 
 unfoldable pub sorts_from : RawFields → List ℕ → Known → List ℕ → List ℕ → Finding
-sorts_from (end at) bs k H L = Some Passed
-sorts_from (cut at) bs k H L = Some Passed
+sorts_from (end at) bs k H L = Some (Ok tt)
+sorts_from (cut at) bs k H L = Some (Ok tt)
 sorts_from (next at tag v fs) bs k H L = go_on (step_at bs at tag v fs k H L) (λ k' H' L'. sorts_from fs bs k' H' L')
 
 -- a longer table was refused before
@@ -115,7 +111,7 @@ unfoldable pub sorts_of : List ℕ → Finding
 sorts_of bs =
     elim (leb (length bs) most.bytes) [
       | true ↦ sorts_from (fields_of bs) bs unknown (replicate most.nonterminals 0) (replicate most_variables 0)
-      | false ↦ Some Passed
+      | false ↦ Some (Ok tt)
     ]
 
 -- ------------------------------------------------------------------ what the code's functions ask and ensure

@@ -7,7 +7,8 @@ ghost use Rattle.grammar.specs.Lookup.{fields_at};
 ghost use Rattle.sorts.specs.ByBytes.{root_at, unknown, verdict_step, counting, sorts_from, sorts_of};
 ghost use Rattle.sorts.specs.ByBytes.{Countable, ItemChecked, FieldChecked, Room, FieldReady, Stacked};
 
-use answers::{Verdict, refused};
+use answers::Verdict;
+use answers::causes::Cause;
 use bodies::faults::verdict_of;
 use bodies::heads::{collect, head_of, signature_at};
 use bodies::items::{add_sort, check_item, check_result, load_params};
@@ -48,8 +49,8 @@ fn step_of(v: Verdict, known: Known) -> Result<Known, Finding>
     ensures { result ≡ verdict_step known v }
 {
     match v {
-        Verdict::Passed => Ok(known),
-        Verdict::Refused(_) => Err(Some(v)),
+        Ok(()) => Ok(known),
+        Err(_) => Err(Some(v)),
     }
 }
 
@@ -86,8 +87,8 @@ fn check_variable(
     ensures { ItemChecked table.now at v.now known heads.now sorts.old result sorts.new }
 {
     match check_item(stack, table, heads, sorts, known, v) {
-        ItemSort::Unsorted(fault) => Err(Some(refused(fault.into(), at))),
-        ItemSort::As(s) => {
+        Err(fault) => Err(Some(Cause::from(fault).refused(at))),
+        Ok(s) => {
             let variables = add_sort(sorts, known.variables, s);
             Ok(Known { variables, ..known })
         }
@@ -153,7 +154,7 @@ fn check_fields(heads: &mut [u16], sorts: &mut [u8], stack: &mut [u8], table: &[
             }
         }
     }
-    Some(Verdict::Passed)
+    Some(Ok(()))
 }
 
 // The places that the templates of a table open: at most two for each of its bytes, and some more.
@@ -180,7 +181,7 @@ pub fn check_sorts(table: &[u8]) -> Finding
     ensures { result ≡ sorts_of table.now }
 {
     if LONGEST_TABLE < table.len() {
-        return Some(Verdict::Passed);
+        return Some(Ok(()));
     }
     if MIDDLE_TABLE < table.len() {
         return check_with::<LARGE_STACK>(table);

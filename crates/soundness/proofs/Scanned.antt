@@ -1,4 +1,5 @@
 -- A scan gives tokens whose words have small numbers: outside names below 64, then one number for each token at most.
+use Rattle.std.specs.Prelude.{Err}
 use Prim.Native.Nat.{ℕ, zero, suc, ◌+◌, ◌≤◌}
 use mathlib.Core.Path.{◌≡◌, refl}
 use mathlib.Core.Bool.{Bool, true, false}
@@ -12,7 +13,6 @@ use Rattle.grammar.specs.Table.{Lexicon}
 use Rattle.tokens.specs.declared.Token.{Token}
 use Rattle.tokens.specs.declared.Step.{Step}
 use Rattle.tokens.specs.declared.Step.TheVariants.{Skip, Emit, Stop}
-use Rattle.tokens.specs.declared.Scanned.TheVariants.{Unscanned}
 use Rattle.tokens.specs.Scan.{Lexed, is_new, words_with, scan_ended, with_token, step_of, lex_from, scan}
 use Rattle.tokens.specs.Tokens.{most_tokens, longest_formula, end_token}
 use Rattle.tokens.proofs.SpellingLaws.{every_at, scan_spelled}
@@ -42,7 +42,7 @@ few_from (suc fuel) lex at (b ∷ bs) before words l =
 
     limited : (token : Token) (test : Bool) → ltb before most_tokens ≡ test
         → (before + 1 ≤ most_tokens → length (emitted token).words + (before + 1) ≤ length (words_with words (take token.size (b ∷ bs)) token) + most_tokens)
-        → length (elim test as (λ x. Lexed) [ false ↦ scan_ended (Unscanned (refusal 16 0 0 0)) words | true ↦ emitted token ]).words + before ≤ length
+        → length (elim test as (λ x. Lexed) [ false ↦ scan_ended (Err (refusal 16 0 0 0)) words | true ↦ emitted token ]).words + before ≤ length
         words + most_tokens
     limited token false e h = omega arith
     limited token true e h = omega (arith, h (omega (arith, ltb-true before most_tokens e)), one_more words (take token.size (b ∷ bs)) token)
@@ -53,8 +53,8 @@ few_from (suc fuel) lex at (b ∷ bs) before words l =
         → length
         (elim step as (λ x. Lexed) [
           | Skip ↦ lex_from fuel lex (at + 1) bs before words
-          | Stop ↦ scan_ended (Unscanned (refusal 15 at 0 0)) words
-          | Emit t ↦ elim (ltb before most_tokens) as (λ x. Lexed) [ false ↦ scan_ended (Unscanned (refusal 16 0 0 0)) words | true ↦ emitted t ]
+          | Stop ↦ scan_ended (Err (refusal 15 at 0 0)) words
+          | Emit t ↦ elim (ltb before most_tokens) as (λ x. Lexed) [ false ↦ scan_ended (Err (refusal 16 0 0 0)) words | true ↦ emitted t ]
         ]).words + before ≤ length words + most_tokens
     go Skip h f = h
     go Stop h f = omega arith
@@ -66,7 +66,7 @@ few_words lex formula = go (leb (length formula) longest_formula)
   where
     go : (test : Bool)
         → length
-        (elim test as (λ x. Lexed) [ true ↦ lex_from (length formula) lex 0 formula 0 [] | false ↦ scan_ended (Unscanned (refusal 14 0 0 0)) [] ]).words ≤
+        (elim test as (λ x. Lexed) [ true ↦ lex_from (length formula) lex 0 formula 0 [] | false ↦ scan_ended (Err (refusal 14 0 0 0)) [] ]).words ≤
         most_tokens
     go true = omega (arith, few_from (length formula) lex 0 formula 0 [] (omega arith))
     go false = omega arith

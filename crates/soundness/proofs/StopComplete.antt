@@ -43,8 +43,7 @@ use Rattle.soundness.proofs.Complete as Complete
 use Rattle.soundness.specs.Stopping.{Left, next_index, takes, makes, begins, Fails, no_token, no_row, too_deep, too_many_calls, no_choice, Stops, at_token}
 use Rattle.soundness.specs.Stopping.{at_place, at_arguments, at_call, past_item, CallStops, at-start, in_items, at_result, Refuses, stops, left_over}
 use Rattle.soundness.proofs.CellsLeft.{left_not, left_trans, Leaves, build_leaves, build_all_leaves, item_leaves, items_leave, call_leaves}
-use Rattle.soundness.proofs.StopLaws.{first_set_one, build_stays, build_all_stays, index_is, take_halts, place_halts}
-use Rattle.soundness.proofs.StopLaws.{item_bounded, items_bounded, call_bounded}
+use Rattle.soundness.proofs.StopLaws.{first_set_one, build_stays, build_all_stays, index_is, take_halts, place_halts, item_bounded, items_bounded, call_bounded}
 use Rattle.terms.specs.Cells.{columns}
 
 -- a run halted with this refusal that had made `first` cells and then `total`, and left the others

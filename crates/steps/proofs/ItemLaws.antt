@@ -1,4 +1,5 @@
 -- Laws of the items of an alternative and of its result.
+use Rattle.std.specs.Prelude.{Ok, Err, Some, None}
 use Prim.Native.Nat.{ℕ, zero, suc, ◌+◌, ◌≤◌}
 use mathlib.Core.Path.{◌≡◌, refl, sym, ap, ◌∙◌}
 use mathlib.Core.Bool.{true, false}
@@ -9,12 +10,9 @@ use lib.ListN.{length, get_or}
 use Rattle.kinds.specs.Kinds.{only}
 use Rattle.grammar.specs.Table.{Templates, number, Item, terminal}
 use Rattle.expansion.specs.declared.State.{State}
-use Rattle.expansion.specs.declared.Outcome.{Outcome}
-use Rattle.expansion.specs.declared.Outcome.TheVariants.{Value, Halted}
-use Rattle.templates.specs.declared.Arguments.{Arguments}
-use Rattle.templates.specs.declared.Arguments.TheVariants.{Listed, Overfull}
-use Rattle.templates.specs.declared.Built.{Built}
-use Rattle.templates.specs.declared.Built.TheVariants.{Made, Full}
+use Rattle.expansion.specs.Outcome.{Outcome}
+use Rattle.templates.specs.Given.{Arguments}
+use Rattle.templates.specs.Given.{Built}
 use Rattle.expansion.specs.Run.{Result, done, halt, Run, after}
 use Rattle.expansion.specs.Outcomes.{ran}
 use Rattle.expansion.specs.Expansion.{Input, next_token, token_taken, misfit, build, build_all, fresh_made, run_item, run_items}
@@ -109,8 +107,8 @@ module _ {S : Source} {at : ℕ} {item : Item} {after' : ℕ} (stands : ItemAt S
   pub read_stepped : (outcome : Outcome) → ((callee : ℕ → List ℕ → Run ℕ) → ran outcome cells ≡ run_item callee input item values state cells)
       → (out : List ℕ)
       → Steps S at input values state cells (read_step outcome after') out cells
-  read_stepped (Halted cause) reads out = λ callee. body_runs callee (reads callee)
-  read_stepped (Value result state') reads out =
+  read_stepped (Err cause) reads out = λ callee. body_runs callee (reads callee)
+  read_stepped (Ok (result, state')) reads out =
       record { item = item; stands = stands; runs = λ callee. sym (reads callee); rest = λ callee. body_runs callee (reads callee) }
 
 -- A call has no row for its arguments, or has them listed.
@@ -124,8 +122,8 @@ module _ {S : Source} {at : ℕ} (kind operand : ℕ) (ts : Templates) {after' :
   -- What is done then.
   pub call_stepped : (arguments : Arguments) (out cells' : List ℕ) → Lists state arguments out cells' (build_all ts input values state cells)
       → Steps S at input values state cells (call_step arguments operand after' state) out cells'
-  call_stepped Overfull out cells' lists = λ callee. goes_on callee lists
-  call_stepped (Listed given made) out cells' lists =
+  call_stepped None out cells' lists = λ callee. goes_on callee lists
+  call_stepped (Some (given, made)) out cells' lists =
       record { values = lists.values; holds = lists.holds; rest = λ callee. goes_on callee lists.gives }
 
 -- ------------------------------------------------------------------ how far an item goes
@@ -133,34 +131,34 @@ module _ {S : Source} {at : ℕ} (kind operand : ℕ) (ts : Templates) {after' :
 module _ {S : Source} {at : ℕ} {item : Item} {after' : ℕ} (stands : ItemAt S at item after') (state : State) where
   -- One that takes a token or a fresh name moves on to the offset behind it.
   pub read_advances : (outcome : Outcome) → Spends state outcome → Advances S at state (read_step outcome after')
-  read_advances (Halted cause) spends = tt
-  read_advances (Value result state') spends = record { item = item; stands = stands; counted = spends.0; called = spends.1 }
+  read_advances (Err cause) spends = tt
+  read_advances (Ok (result, state')) spends = record { item = item; stands = stands; counted = spends.0; called = spends.1 }
 
   -- So does a call, whose arguments move no counter but that of the cells and are no more than bytes.
   pub call_advances : (arguments : Arguments) (operand : ℕ) {most : ℕ} → Few most arguments → most ≤ length S.bytes
       → Advances S at state (call_step arguments operand after' state)
-  call_advances Overfull operand few l = tt
-  call_advances (Listed given made) operand few l = (record { item = item; stands = stands; counted = omega arith; called = refl }, omega arith)
+  call_advances None operand few l = tt
+  call_advances (Some (given, made)) operand few l = (record { item = item; stands = stands; counted = omega arith; called = refl }, omega arith)
 
 -- The array of the arguments is as it was where a token or a fresh name is read.
 pub read_keeps : (outcome : Outcome) (after' : ℕ) (out : List ℕ) → KeepsArray out (read_step outcome after') out
-read_keeps (Halted cause) after' out = tt
-read_keeps (Value result state') after' out = refl
+read_keeps (Err cause) after' out = tt
+read_keeps (Ok (result, state')) after' out = refl
 
 -- What stands behind a call's arguments stays.
 pub call_keeps : (arguments : Arguments) (operand after' : ℕ) (state : State) (out out' : List ℕ) → KeptBehind out arguments out'
     → KeepsArray out (call_step arguments operand after' state) out'
-call_keeps Overfull operand after' state out out' kept = tt
-call_keeps (Listed given made) operand after' state out out' kept = kept
+call_keeps None operand after' state out out' kept = tt
+call_keeps (Some (given, made)) operand after' state out out' kept = kept
 
 -- ------------------------------------------------------------------ the outcome
 
 -- The outcome of a result is what its template gives.
 pub result_built : (outcome : Built) (state : State) (cells : List ℕ) → ran (result_step outcome state) cells ≡ built state outcome cells
-result_built (Made result behind made) state cells = refl
-result_built Full state cells = refl
+result_built (Some (result, behind, made)) state cells = refl
+result_built None state cells = refl
 
 -- It moves no counter but that of the cells.
 pub result_stays : (outcome : Built) (state : State) → Stays state (result_step outcome state)
-result_stays (Made result behind made) state = (refl, refl, refl)
-result_stays Full state = tt
+result_stays (Some (result, behind, made)) state = (refl, refl, refl)
+result_stays None state = tt

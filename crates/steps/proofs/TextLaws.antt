@@ -1,4 +1,5 @@
 -- Laws of a result that is a text: what its rows give under the values of the variables is what its template gives.
+use Rattle.std.specs.Prelude.{Some, None}
 use Prim.Native.Nat.{ℕ, zero, suc, ◌+◌, ◌-◌, ◌/◌, ◌%◌, ◌<◌, ◌≤◌}
 use mathlib.Core.Path.{◌≡◌, refl, sym, ap, ap₂, ◌∙◌}
 use mathlib.Core.List.{List, [], ◌∷◌, ◌++◌}
@@ -16,8 +17,7 @@ use Rattle.templates.specs.Built.{Holds, with_made}
 use Rattle.copying.specs.Hanging.{HangsAt}
 use Rattle.copying.specs.Copies.{copied, CopiesText}
 use Rattle.copying.proofs.CopyLaws.{hangs_more}
-use Rattle.copying.specs.declared.Copied.{Copied}
-use Rattle.copying.specs.declared.Copied.TheVariants.{Made, Full}
+use Rattle.copying.specs.Copied.{Copied}
 use Rattle.steps.specs.HeldTexts.{held_value, held_word, held_sort, held_rows, text_at, TextHangs}
 use Rattle.steps.specs.Steps.{Stays}
 use Rattle.steps.specs.TextSteps.{Shows, copied_step, GivesText}
@@ -69,13 +69,13 @@ hangs_at_more l hang = record { variable = λ four. omega (arith, hang.variable 
 
 -- The outcome is what the text gives.
 pub copied_ran : (made : Copied) (state : State) (cells : List ℕ) → ran (copied_step made state) cells ≡ copied state made cells
-copied_ran (Made value count) state cells = refl
-copied_ran Full state cells = refl
+copied_ran (Some (value, count)) state cells = refl
+copied_ran None state cells = refl
 
 -- It moves no counter but that of the cells.
 pub copied_stays : (made : Copied) (state : State) → Stays state (copied_step made state)
-copied_stays (Made value count) state = (refl, refl, refl)
-copied_stays Full state = tt
+copied_stays (Some (value, count)) state = (refl, refl, refl)
+copied_stays None state = tt
 
 -- what the code takes of the texts: all from the index of the rows on
 abbrev rows_from : List ℕ → ℕ → List ℕ

@@ -1,6 +1,6 @@
 -- What the code that does the items of an alternative asks and answers, and the bound that its counters keep. These definitions mirror
 -- code: nobody needs them to believe `expand`.
-use Rattle.std.specs.Prelude.{ℕ, ◌+◌, ◌-◌, ◌*◌, ◌/◌, ◌^◌, ◌<◌, ◌≤◌, ◌≡◌, List, [], ◌∷◌, ◌++◌, length, get_or}
+use Rattle.std.specs.Prelude.{ℕ, ◌+◌, ◌-◌, ◌*◌, ◌/◌, ◌^◌, ◌<◌, ◌≤◌, ◌≡◌, List, [], ◌∷◌, ◌++◌, length, get_or, Ok, Err, Some, None}
 use Rattle.answers.specs.declared.Refusal.{Refusal}
 use Rattle.answers.specs.Refusals.{refusal}
 use Rattle.grammar.specs.Limits.{most}
@@ -9,8 +9,7 @@ use Rattle.grammar.specs.Table.{Templates, keyword, ide, number, place, Item, te
 use Rattle.tokens.specs.declared.Token.{Token}
 use Rattle.scanner.specs.Rooms.{tokens_in, TokensFit}
 use Rattle.expansion.specs.declared.State.{State}
-use Rattle.expansion.specs.declared.Outcome.{Outcome}
-use Rattle.expansion.specs.declared.Outcome.TheVariants.{Value, Halted}
+use Rattle.expansion.specs.Outcome.{Outcome}
 use Rattle.steps.specs.declared.ItemStep.{ItemStep}
 use Rattle.steps.specs.declared.ItemStep.TheVariants.{Finished, Stopped, Taken, Opened}
 use Rattle.steps.specs.declared.Cursor.{Cursor}
@@ -18,10 +17,8 @@ use Rattle.expansion.specs.Run.{Run, done, halt, after}
 use Rattle.expansion.specs.Outcomes.{ran}
 use Rattle.expansion.specs.Expansion.{Input, take_token, take_terminal, fresh_made, build, run_item, run_items}
 use Rattle.expansion.specs.Limits.{most_calls}
-use Rattle.templates.specs.declared.Built.{Built}
-use Rattle.templates.specs.declared.Built.TheVariants.{Made, Full}
-use Rattle.templates.specs.declared.Arguments.{Arguments}
-use Rattle.templates.specs.declared.Arguments.TheVariants.{Listed, Overfull}
+use Rattle.templates.specs.Given.{Built}
+use Rattle.templates.specs.Given.{Arguments}
 use Rattle.templates.specs.Built.{RoomsFit, Holds, with_made, numbered_built, numbered_arguments}
 use Rattle.steps.specs.Source.{Source, alternative_at, GoesOn}
 
@@ -89,13 +86,13 @@ most_weight = most.bytes * most_calls + 1
 
 -- a result moves no counter but that of the cells
 abbrev pub Stays : State → Outcome → Type 0
-Stays s (Value v t) = (t.at ≡ s.at) × (t.fresh ≡ s.fresh) × (t.calls ≡ s.calls)
-Stays s (Halted r) = Unit {0}
+Stays s (Ok (v, t)) = (t.at ≡ s.at) × (t.fresh ≡ s.fresh) × (t.calls ≡ s.calls)
+Stays s (Err r) = Unit {0}
 
 -- a token or a fresh name moves the counters by one
 abbrev pub Spends : State → Outcome → Type 0
-Spends s (Value v t) = (t.at + t.fresh ≤ s.at + s.fresh + 1) × (t.calls ≡ s.calls)
-Spends s (Halted r) = Unit {0}
+Spends s (Ok (v, t)) = (t.at + t.fresh ≤ s.at + s.fresh + 1) × (t.calls ≡ s.calls)
+Spends s (Err r) = Unit {0}
 
 -- ------------------------------------------------------------------ an item that is no call
 
@@ -131,18 +128,18 @@ pub record ReadsItem (tokens : List ℕ) (kind operand : ℕ) (s : State) (r : O
 
 -- a token that was read, or a fresh name: the item behind it stands at an offset
 abbrev pub read_step : Outcome → ℕ → ItemStep
-read_step (Value x t) after' = Taken x after' t
-read_step (Halted r) after' = Stopped r
+read_step (Ok (x, t)) after' = Taken x after' t
+read_step (Err r) after' = Stopped r
 
 -- the arguments of a call, and what is called
 abbrev pub call_step : Arguments → ℕ → ℕ → State → ItemStep
-call_step (Listed k made) n after' s = Opened n k after' (with_made s made)
-call_step Overfull n after' s = Stopped (numbered_arguments s Overfull)
+call_step (Some (k, made)) n after' s = Opened n k after' (with_made s made)
+call_step None n after' s = Stopped (numbered_arguments s None)
 
 -- the value of the template that is an alternative's result
 abbrev pub result_step : Built → State → Outcome
-result_step (Made v behind made) s = Value v (with_made s made)
-result_step Full s = Halted (numbered_built s Full)
+result_step (Some (v, behind, made)) s = Ok (v, with_made s made)
+result_step None s = Err (numbered_built s None)
 
 -- document 01's number and values of what is done at an offset: those of its refusal, else none
 abbrev pub numbered_step : ItemStep → Refusal

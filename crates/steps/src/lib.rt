@@ -13,8 +13,8 @@ ghost use Rattle.steps.specs.Steps.{MayReadItem, MayStep, MayFinish, GivesFresh,
 
 use crate::taking::{take, take_ide};
 use crate::texts::{copied_step, text_result};
-use answers::causes::{NO_ROW, TOKEN_DOES_NOT_FIT};
-use answers::{Refusal, refuse};
+use answers::Refusal;
+use answers::causes::Cause;
 use expansion::{Outcome, State};
 use grammar::codes::{CALL_ITEM, IDE_ITEM, ITEM_TAG, KEYWORD_ITEM, LOCAL_ITEM, PLACE_ITEM};
 use grammar::limits::MOST_VARIABLES;
@@ -57,7 +57,7 @@ pub fn misfit(at: usize, kinds: u64) -> Refusal
     ensures { result ≡ refusal 17 at kinds (ones kinds) }
 {
     let count = kinds::count(kinds);
-    refuse(TOKEN_DOES_NOT_FIT, at as u64, kinds, count as u64)
+    Cause::TokenDoesNotFit.refuse(at as u64, kinds, count as u64)
 }
 
 // A fresh name.
@@ -65,13 +65,13 @@ fn fresh_name(s: State) -> Outcome
     requires { s.fresh < 2 ^ 31 }
     ensures { GivesFresh s result }
 {
-    Outcome::Value(
+    Ok((
         FRESH + s.fresh as u32,
         State {
             fresh: s.fresh + 1,
             ..s
         },
-    )
+    ))
 }
 
 // An item that is no call, by its kind and operand.
@@ -95,7 +95,7 @@ fn read_item(tokens: &[u32], kind: u8, operand: u8, s: State) -> Outcome
 fn no_row(s: State) -> Refusal
     ensures { result ≡ refusal 21 s.at 0 0 }
 {
-    refuse(NO_ROW, s.at as u64, 0, 0)
+    Cause::NoRow.refuse(s.at as u64, 0, 0)
 }
 
 // The state with another number of cells made.
@@ -110,8 +110,8 @@ fn read_step(outcome: Outcome, next: usize) -> ItemStep
     ensures { result ≡ read_step outcome next }
 {
     match outcome {
-        Outcome::Halted(r) => ItemStep::Stopped(r),
-        Outcome::Value(x, t) => ItemStep::Taken(x, next, t),
+        Err(r) => ItemStep::Stopped(r),
+        Ok((x, t)) => ItemStep::Taken(x, next, t),
     }
 }
 
@@ -120,10 +120,8 @@ fn call_step(listed: Arguments, callee: u8, next: usize, s: State) -> ItemStep
     ensures { result ≡ call_step listed callee next s }
 {
     match listed {
-        Arguments::Overfull => ItemStep::Stopped(no_row(s)),
-        Arguments::Listed(given, made) => {
-            ItemStep::Opened(callee, given, next, with_made(s, made))
-        }
+        None => ItemStep::Stopped(no_row(s)),
+        Some((given, made)) => ItemStep::Opened(callee, given, next, with_made(s, made)),
     }
 }
 
@@ -132,8 +130,8 @@ fn result_step(b: Built, s: State) -> Outcome
     ensures { result ≡ result_step b s }
 {
     match b {
-        Built::Made(v, _, made) => Outcome::Value(v, with_made(s, made)),
-        Built::Full => Outcome::Halted(no_row(s)),
+        Some((v, _, made)) => Ok((v, with_made(s, made))),
+        None => Err(no_row(s)),
     }
 }
 

@@ -32,8 +32,8 @@ pub(crate) fn copied_step(copied: Copied, s: State) -> Outcome
     ensures { result ≡ copied_step copied s }
 {
     match copied {
-        Copied::Made(v, made) => Outcome::Value(v, with_made(s, made)),
-        Copied::Full => Outcome::Halted(no_row(s)),
+        Some((v, made)) => Ok((v, with_made(s, made))),
+        None => Err(no_row(s)),
     }
 }
 

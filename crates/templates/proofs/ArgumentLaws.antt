@@ -1,4 +1,5 @@
 -- Laws of the loop over the arguments of a call: templates one behind the other, up to the end of the bytes.
+use Rattle.std.specs.Prelude.{Some, None}
 use Prim.Native.Nat.{ℕ, suc, ◌+◌, ◌<◌, ◌≤◌}
 use mathlib.Core.Path.{◌≡◌, refl, sym, ap, ◌∙◌, subst, subst⁻¹}
 use mathlib.Core.Bool.{true}
@@ -17,9 +18,7 @@ use Rattle.decoding.specs.Prefix.{found}
 use Rattle.decoding.proofs.PrefixLaws.{name_first, name_last, byte_first, variable_first, constructor_first, unknown_first}
 use Rattle.expansion.specs.declared.State.{State}
 use Rattle.templates.specs.declared.Making.{Making}
-use Rattle.templates.specs.declared.Built.{Built}
-use Rattle.templates.specs.declared.Built.TheVariants.{Made, Full}
-use Rattle.templates.specs.declared.Arguments.TheVariants.{Listed, Overfull}
+use Rattle.templates.specs.Given.{Built}
 use Rattle.templates.specs.declared.Head.{Head}
 use Rattle.templates.specs.declared.Head.TheVariants.{Leaf}
 use Rattle.expansion.specs.Run.{Result, done, return, after, ◌>>=◌}
@@ -31,43 +30,43 @@ use Rattle.templates.proofs.BuildLaws.{leaf_built}
 
 -- ------------------------------------------------------------------ bytes that are read have a first template
 
-abbrev Some : ReadTemplates → Type 0
-Some fault = Unit {0}
-Some (parsed none) = ⊥
-Some (parsed (more t ts)) = Unit {0}
+abbrev Begins : ReadTemplates → Type 0
+Begins fault = Unit {0}
+Begins (parsed none) = ⊥
+Begins (parsed (more t ts)) = Unit {0}
 
-some_front : (template : Template) (read : ReadTemplates) → Some (in_front template read)
-some_front template fault = tt
-some_front template (parsed ts) = tt
+begins_front : (template : Template) (read : ReadTemplates) → Begins (in_front template read)
+begins_front template fault = tt
+begins_front template (parsed ts) = tt
 
-some_applied : (code : ℕ) (split : SplitTemplates) → Some (applied code split)
-some_applied code short = tt
-some_applied code (taken us vs) = tt
+begins_applied : (code : ℕ) (split : SplitTemplates) → Begins (applied code split)
+begins_applied code short = tt
+begins_applied code (taken us vs) = tt
 
-some_constructed : (code : ℕ) (read : ReadTemplates) → Some (constructed code read)
-some_constructed code fault = tt
-some_constructed code (parsed ts) = some_applied code (take_templates (arity code) ts)
+begins_constructed : (code : ℕ) (read : ReadTemplates) → Begins (constructed code read)
+begins_constructed code fault = tt
+begins_constructed code (parsed ts) = begins_applied code (take_templates (arity code) ts)
 
-some_byte : (byte : ℕ) (read : ReadTemplates) → Some (byte_in_front byte read)
-some_byte byte read =
-    by_test (ltb byte 0x10) (λ e. subst⁻¹ Some (variable_first byte read e) (some_front (variable byte) read))
+begins_byte : (byte : ℕ) (read : ReadTemplates) → Begins (byte_in_front byte read)
+begins_byte byte read =
+    by_test (ltb byte 0x10) (λ e. subst⁻¹ Begins (variable_first byte read e) (begins_front (variable byte) read))
     (λ e.
-    by_test (is_constructor byte) (λ k. subst⁻¹ Some (constructor_first byte read e k) (some_constructed byte read))
-    (λ k. subst⁻¹ Some (unknown_first byte read e k) tt))
+    by_test (is_constructor byte) (λ k. subst⁻¹ Begins (constructor_first byte read e k) (begins_constructed byte read))
+    (λ k. subst⁻¹ Begins (unknown_first byte read e k) tt))
 
-some_name : (byte : ℕ) (bs : List ℕ) → is_name_tag byte ≡ true → Some (templates_of (byte ∷ bs))
-some_name byte [] e = subst⁻¹ Some (name_last byte e) tt
-some_name byte (n ∷ bs) e = subst⁻¹ Some (name_first byte n bs e) (some_front _ (templates_of bs))
+begins_name : (byte : ℕ) (bs : List ℕ) → is_name_tag byte ≡ true → Begins (templates_of (byte ∷ bs))
+begins_name byte [] e = subst⁻¹ Begins (name_last byte e) tt
+begins_name byte (n ∷ bs) e = subst⁻¹ Begins (name_first byte n bs e) (begins_front _ (templates_of bs))
 
-some_read : (byte : ℕ) (bs : List ℕ) → Some (templates_of (byte ∷ bs))
-some_read byte bs =
-    by_test (is_name_tag byte) (some_name byte bs) (λ e. subst⁻¹ Some (byte_first byte bs e) (some_byte byte (templates_of bs)))
+begins_read : (byte : ℕ) (bs : List ℕ) → Begins (templates_of (byte ∷ bs))
+begins_read byte bs =
+    by_test (is_name_tag byte) (begins_name byte bs) (λ e. subst⁻¹ Begins (byte_first byte bs e) (begins_byte byte (templates_of bs)))
 
 -- the first template, where bytes are left
 abbrev pub First : List ℕ → ℕ → Templates → Type 0
 First v at ts = (a : Ahead v at) × (ts ≡ more a.template a.others)
 
-first_by : (bytes : List ℕ) (at : ℕ) (ts : Templates) → Some (parsed ts) → templates_of (drop at bytes) ≡ parsed ts → First bytes at ts
+first_by : (bytes : List ℕ) (at : ℕ) (ts : Templates) → Begins (parsed ts) → templates_of (drop at bytes) ≡ parsed ts → First bytes at ts
 first_by bytes at none s e = absurd s
 first_by bytes at (more t ts) s e = (record { template = t; others = ts; read = e }, refl)
 
@@ -75,7 +74,7 @@ first_by bytes at (more t ts) s e = (record { template = t; others = ts; read = 
 pub first_of : (bytes : List ℕ) (at : ℕ) (ts : Templates) → at < length bytes → templates_of (drop at bytes) ≡ parsed ts → First bytes at ts
 first_of bytes at ts h e =
     first_by bytes at ts
-    (subst Some e (rw (drop-cons bytes at 0 h) (some_read (get_or bytes at 0) (drop (suc at) bytes))))
+    (subst Begins e (rw (drop-cons bytes at 0 h) (begins_read (get_or bytes at 0) (drop (suc at) bytes))))
     e
 
 -- ------------------------------------------------------------------ one by one
@@ -129,17 +128,17 @@ module _ {bytes : List ℕ} {start : ℕ} {env : List ℕ} {m : Making} {cells�
     -- what `build` ensures of one template
     module _ (cells' : List ℕ) (given_built : Built) (builds : Builds bytes at env (further m count) cells given_built cells') where
       -- no row is left: refusal 21
-      pub listing_full : given_built ≡ Full → (input : Input) (state : State) (values : List ℕ) → input.rows ≡ m.rows → Holds env m.count values
-          → Lists state Overfull out cells' (build_all (found (templates_of (drop start bytes))) input values (with_made state m.made) cells₀)
+      pub listing_full : given_built ≡ None → (input : Input) (state : State) (values : List ℕ) → input.rows ≡ m.rows → Holds env m.count values
+          → Lists state None out cells' (build_all (found (templates_of (drop start bytes))) input values (with_made state m.made) cells₀)
       listing_full er input state values e g =
-          sym (listing_one (built state Full cells') input state values e g (cc (builds.evaluates input state values e g)))
+          sym (listing_one (built state None cells') input state values e g (cc (builds.evaluates input state values e g)))
 
       -- one template more is built
-      pub listing_next : {row after' made' : ℕ} → length cells' ≡ length cells → given_built ≡ Made row after' made' → (out' : List ℕ)
+      pub listing_next : {row after' made' : ℕ} → length cells' ≡ length cells → given_built ≡ Some (row, after', made') → (out' : List ℕ)
           → ((values : List ℕ) → Holds out given_count values → Holds out' (given_count + 1) (values ++ (row ∷ [])))
           → Listing bytes start env m cells₀ out' cells' after' (given_count + 1) made'
       listing_next {row} {after'} {made'} el er out' put =
-          let q : Behind bytes at (Made row after' made') = subst (Behind bytes at) er builds.behind in
+          let q : Behind bytes at (Some (row, after', made')) = subst (Behind bytes at) er builds.behind in
           record {
             small = omega (arith, listing.small, q.0);
             few = omega (arith, listing.small);
@@ -158,17 +157,17 @@ module _ {bytes : List ℕ} {start : ℕ} {env : List ℕ} {m : Making} {cells�
     -- what `head_at` ensures of a template that makes no cell
     module _ (head : Head) {row next : ℕ} (equal : head ≡ Leaf row next)
         (leads : (values : List ℕ) → Holds env m.count values → HeadValue bytes at values head) (heads : Heads bytes at head) where
-      leaf : Builds bytes at env (further m count) cells (Made row next count) cells
+      leaf : Builds bytes at env (further m count) cells (Some (row, next, count)) cells
       leaf = leaf_built bytes at (further m count) head equal leads heads cells
 
       -- its value is one more
       pub leaf_next : (out' : List ℕ) → ((values : List ℕ) → Holds out given_count values → Holds out' (given_count + 1) (values ++ (row ∷ [])))
           → Listing bytes start env m cells₀ out' cells next (given_count + 1) count
-      leaf_next = listing_next cells (Made row next count) leaf refl refl
+      leaf_next = listing_next cells (Some (row, next, count)) leaf refl refl
 
   -- all templates are built
   pub listing_end : length bytes ≤ at → (input : Input) (state : State) (values : List ℕ) → input.rows ≡ m.rows → Holds env m.count values
-      → Lists state (Listed given_count count) out cells (build_all (found (templates_of (drop start bytes))) input values (with_made state m.made) cells₀)
+      → Lists state (Some (given_count, count)) out cells (build_all (found (templates_of (drop start bytes))) input values (with_made state m.made) cells₀)
   unfolding build_all templates_of
   listing_end h input state values e g =
       let d : drop at bytes ≡ [] = drop_of_length-le bytes {i = at} h in

@@ -1,4 +1,5 @@
 -- Laws of what stands in front of a template, and of the loop that evaluates a constructor's template with an explicit stack.
+use Rattle.std.specs.Prelude.{Some, None}
 use Prim.Native.Nat.{ℕ, ◌+◌, ◌-◌, ◌*◌, ◌/◌, ◌%◌, ◌<◌, ◌≤◌}
 use mathlib.Core.Path.{◌≡◌, refl, sym, ap, ◌∙◌, subst}
 use mathlib.Core.List.{List, [], ◌∷◌}
@@ -15,7 +16,6 @@ use Rattle.expansion.specs.declared.State.{State}
 use Rattle.templates.specs.declared.Making.{Making}
 use Rattle.templates.specs.declared.Head.{Head}
 use Rattle.templates.specs.declared.Head.TheVariants.{Leaf, Node}
-use Rattle.templates.specs.declared.Built.TheVariants.{Made, Full}
 use Rattle.expansion.specs.Run.{Result, done}
 use Rattle.expansion.specs.Expansion.{Input, cell, build}
 use Rattle.templates.specs.Built.{Holds, with_made, Ahead, template_at, others_at, built, Builds}
@@ -351,7 +351,7 @@ module _ {whole : Whole} {turn : Turn} {needed : ℕ} (looping : Looping whole t
         cc (makes_cell I M c.inner (with_made s turn.made) turn.cells inner_none, c.rest I s M e g)
 
     -- no row is left: refusal 21
-    pub building_full : whole.m.rows ≤ turn.made → Same whole (λ I s M. built s Full turn.cells)
+    pub building_full : whole.m.rows ≤ turn.made → Same whole (λ I s M. built s None turn.cells)
     building_full h I s M e g =
         sym (resume_halt I M c.around _ turn.cells)
         ∙ cc (cell_none I c.inner.code c.inner.given (with_made s turn.made) turn.cells (omega (arith, e)), cell_goes I s M e g)
@@ -432,7 +432,7 @@ module _ {whole : Whole} {turn : Turn} {code needed out : ℕ} {cells : List ℕ
     read_alone = cc (read_on, alone)
 
     -- the outermost constructor is made
-    pub closing_made : Builds whole.v whole.from whole.env whole.m whole.cells (Made turn.made turn.at (turn.made + 1)) cells
+    pub closing_made : Builds whole.v whole.from whole.env whole.m whole.cells (Some (turn.made, turn.at, turn.made + 1)) cells
     closing_made =
         record {
           evaluates = made_alone;
@@ -483,7 +483,7 @@ pub leaf_built : (bytes : List ℕ) (at : ℕ) {env : List ℕ} (m : Making) {ma
     → ((values : List ℕ) → Holds env m.count values → HeadValue bytes at values head)
     → Heads bytes at head
     → (cells : List ℕ)
-    → Builds bytes at env m cells (Made made_value next m.made) cells
+    → Builds bytes at env m cells (Some (made_value, next, m.made)) cells
 leaf_built bytes at m {next = next} head e l h cells =
     let q : Past bytes at next = subst (Heads bytes at) e h in
     record {

@@ -1,4 +1,5 @@
 -- Laws of templates read from their bytes, and of the loop over the arguments of a constructor.
+use Rattle.std.specs.Prelude.{Some}
 use Prim.Native.Nat.{ℕ, suc, ◌+◌, ◌<◌, ◌≤◌}
 use mathlib.Core.Path.{◌≡◌, refl, sym, ap, ◌∙◌}
 use mathlib.Core.Bool.{true, false}
@@ -19,7 +20,6 @@ use Rattle.decoding.specs.Prefix.{is_name_tag, name_by}
 use Rattle.decoding.specs.Prefix.{templates_of}
 use Rattle.decoding.proofs.PrefixLaws.{name_first, name_last, byte_first, variable_first, constructor_first, unknown_first}
 use Rattle.expansion.specs.declared.State.{State}
-use Rattle.templates.specs.declared.Built.TheVariants.{Made}
 use Rattle.expansion.specs.Run.{Result, done, halt, Run, return, after, ◌>>=◌}
 use Rattle.expansion.specs.Expansion.{Input, build, build_all}
 use Rattle.templates.specs.Built.{Holds, with_made, Ahead, template_at, others_at, Behind}
@@ -105,7 +105,7 @@ module _ (bytes : List ℕ) (at : ℕ) (ahead : Ahead bytes at) where
     at_variable h = template_is ∙ (variable_read h).0
 
     -- behind it, one byte on
-    pub behind_variable : byte < 16 → (row made : ℕ) → Behind bytes at (Made row (at + 1) made)
+    pub behind_variable : byte < 16 → (row made : ℕ) → Behind bytes at (Some (row, at + 1, made))
     behind_variable h row made = (omega arith, omega (arith, ahead_inside), (variable_read h).1 ∙ ap parsed (sym others_are))
 
     -- a variable is built as its value
@@ -172,7 +172,7 @@ module _ (bytes : List ℕ) (at : ℕ) (ahead : Ahead bytes at) where
         at_name = template_is ∙ name_read.0
 
         -- behind it, two bytes on
-        pub behind_name : (row made : ℕ) → Behind bytes at (Made row (at + 2) made)
+        pub behind_name : (row made : ℕ) → Behind bytes at (Some (row, at + 2, made))
         behind_name row made = (omega arith, omega (arith, name_inside), name_read.1 ∙ ap parsed (sym others_are))
 
 -- ------------------------------------------------------------------ the arguments of a constructor, one by one

@@ -1,6 +1,6 @@
 -- What the code that evaluates templates works on and answers: the values of the variables in an array, templates as bytes in
 -- prefix form, and rows. These definitions mirror code: nobody needs them to believe `expand`.
-use Rattle.std.specs.Prelude.{ℕ, ◌*◌, ◌<◌, ◌≤◌, ◌≡◌, true, false, List, ltb, length, get_or, drop, set}
+use Rattle.std.specs.Prelude.{ℕ, ◌*◌, ◌<◌, ◌≤◌, ◌≡◌, true, false, List, ltb, length, get_or, drop, set, Some, None}
 use Rattle.grammar.specs.Variables.{most_variables}
 use Rattle.answers.specs.declared.Refusal.{Refusal}
 use Rattle.answers.specs.Refusals.{refusal}
@@ -10,10 +10,8 @@ use Rattle.grammar.specs.Table.{Template, Templates, none, more}
 use Rattle.decoding.specs.Prefix.{parsed, templates_of, is_templates, found, head_template}
 use Rattle.expansion.specs.declared.State.{State}
 use Rattle.templates.specs.declared.Making.{Making}
-use Rattle.templates.specs.declared.Built.{Built}
-use Rattle.templates.specs.declared.Built.TheVariants.{Made, Full}
-use Rattle.templates.specs.declared.Arguments.{Arguments}
-use Rattle.templates.specs.declared.Arguments.TheVariants.{Listed, Overfull}
+use Rattle.templates.specs.Given.{Built}
+use Rattle.templates.specs.Given.{Arguments}
 use Rattle.expansion.specs.Run.{Result, done, halt}
 use Rattle.expansion.specs.Expansion.{Input, build, build_all}
 
@@ -65,13 +63,13 @@ others_at v at = others_of (found (templates_of (drop at v)))
 
 -- document 01's number and values of an answer: 21 with the index of the next token where no row is left, else none
 abbrev pub numbered_built : State → Built → Refusal
-numbered_built s (Made v after made) = refusal 0 0 0 0
-numbered_built s Full = refusal 21 s.at 0 0
+numbered_built s (Some (v, after, made)) = refusal 0 0 0 0
+numbered_built s None = refusal 21 s.at 0 0
 
 -- an answer: the value and the cells made, or no row is left
 abbrev pub built : State → Built → List ℕ → Result ℕ
-built s (Made v after made) cells = done v (with_made s made) cells
-built s Full cells = halt (numbered_built s Full) cells
+built s (Some (v, after, made)) cells = done v (with_made s made) cells
+built s None cells = halt (numbered_built s None) cells
 
 -- the answer, with the cells as they then are, is what the template at an offset gives under values of variables in an array
 abbrev pub Evaluates : List ℕ → ℕ → List ℕ → Making → List ℕ → Built → List ℕ → Type 0
@@ -81,8 +79,8 @@ Evaluates v at env m cells r cells' =
 
 -- the offset that is answered lies behind the template
 abbrev pub Behind : List ℕ → ℕ → Built → Type 0
-Behind v at (Made x after made) = (at < after) × (after ≤ length v) × (templates_of (drop after v) ≡ parsed (others_at v at))
-Behind v at Full = Unit {0}
+Behind v at (Some (x, after, made)) = (at < after) × (after ≤ length v) × (templates_of (drop after v) ≡ parsed (others_at v at))
+Behind v at None = Unit {0}
 
 -- what the evaluation of the template at an offset asks
 pub record MayBuild (v : List ℕ) (at : ℕ) (m : Making) (cells stack : List ℕ) : Type 0 where
@@ -98,8 +96,8 @@ pub record Builds (v : List ℕ) (at : ℕ) (env : List ℕ) (m : Making) (cells
 
 -- document 01's number and values of an answer, as above
 abbrev pub numbered_arguments : State → Arguments → Refusal
-numbered_arguments s (Listed k made) = refusal 0 0 0 0
-numbered_arguments s Overfull = refusal 21 s.at 0 0
+numbered_arguments s (Some (k, made)) = refusal 0 0 0 0
+numbered_arguments s None = refusal 21 s.at 0 0
 
 -- the values are listed in an array
 pub record ListedIn (s : State) (k made : ℕ) (env cells : List ℕ) (r : Result (List ℕ)) : Type 0 where
@@ -109,18 +107,18 @@ pub record ListedIn (s : State) (k made : ℕ) (env cells : List ℕ) (r : Resul
 
 -- an answer: they are, or no row is left
 abbrev pub Lists : State → Arguments → List ℕ → List ℕ → Result (List ℕ) → Type 0
-Lists s (Listed k made) env cells r = ListedIn s k made env cells r
-Lists s Overfull env cells r = r ≡ halt (numbered_arguments s Overfull) cells
+Lists s (Some (k, made)) env cells r = ListedIn s k made env cells r
+Lists s None env cells r = r ≡ halt (numbered_arguments s None) cells
 
 -- what stands behind them in the array stays
 abbrev pub KeptBehind : List ℕ → Arguments → List ℕ → Type 0
-KeptBehind env (Listed k made) env' = (i : ℕ) → k ≤ i → get_or env' i 0 ≡ get_or env i 0
-KeptBehind env Overfull env' = Unit {0}
+KeptBehind env (Some (k, made)) env' = (i : ℕ) → k ≤ i → get_or env' i 0 ≡ get_or env i 0
+KeptBehind env None env' = Unit {0}
 
 -- how many there are
 abbrev pub Few : ℕ → Arguments → Type 0
-Few most (Listed k made) = k ≤ most
-Few most Overfull = Unit {0}
+Few most (Some (k, made)) = k ≤ most
+Few most None = Unit {0}
 
 -- what the evaluation of the templates from an offset on asks
 pub record MayList (v : List ℕ) (start : ℕ) (m : Making) (cells stack : List ℕ) : Type 0 where

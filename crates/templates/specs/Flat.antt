@@ -1,7 +1,6 @@
 -- A constructor whose arguments are all values, stored without the stack. These definitions mirror code: nobody needs them to believe `expand`.
 use Rattle.std.specs.Prelude.{ℕ, ◌+◌, ◌<◌, ◌≡◌, List, Option, Some, None}
 use Rattle.templates.specs.declared.Making.{Making}
-use Rattle.templates.specs.declared.Built.TheVariants.{Made}
 use Rattle.templates.specs.Built.{RowsFit, Builds}
 use Rattle.templates.specs.Heads.{Takes}
 
@@ -13,7 +12,7 @@ pub record MayStore (v : List ℕ) (from code : ℕ) (m : Making) (cells : List 
 -- the constructor at an offset has made one cell, in the next row, and its template ends at another offset
 pub record FlatStored (v : List ℕ) (from : ℕ) (env : List ℕ) (m : Making) (cells : List ℕ) (next : ℕ) (cells' : List ℕ) : Type 0 where
   pub row : m.made < m.rows
-  pub builds : Builds v from env m cells (Made m.made next (m.made + 1)) cells'
+  pub builds : Builds v from env m cells (Some (m.made, next, m.made + 1)) cells'
 
 -- that, or nothing is made
 abbrev pub StoresFlat : List ℕ → ℕ → List ℕ → Making → List ℕ → Option ℕ → List ℕ → Type 0

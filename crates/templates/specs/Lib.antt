@@ -1,3 +1,4 @@
+pub mod Given
 pub mod Built
 pub mod Heads
 pub mod Stack

@@ -30,11 +30,7 @@ pub struct Making {
 }
 
 // What a template gives: its value, the offset behind it and the cells then made; or no row is left for a cell.
-#[derive(Drop)]
-pub enum Built {
-    Made(u32, usize, usize),
-    Full,
-}
+pub type Built = Option<(u32, usize, usize)>;
 
 // What stands in front of a template: a value and the offset behind it, or a constructor.
 #[derive(Drop)]
@@ -44,11 +40,7 @@ enum Head {
 }
 
 // What a call's arguments give: how many there are and the cells then made; or no row is left for a cell.
-#[derive(Drop)]
-pub enum Arguments {
-    Listed(usize, usize),
-    Overfull,
-}
+pub type Arguments = Option<(usize, usize)>;
 
 // How many rows some numbers make, 16,384 at most.
 pub fn rows_of(numbers: usize) -> usize
@@ -228,11 +220,11 @@ fn build_nested(
             }
         } else {
             if m.rows <= count {
-                return Built::Full;
+                return None;
             }
             let around = store_cell(cells, count, stack, pos, n);
             if around == 0 {
-                return Built::Made(count as u32, at, count + 1);
+                return Some((count as u32, at, count + 1));
             }
             stack[pos - 1] = count as u32;
             count += 1;
@@ -257,7 +249,7 @@ fn build_node(
     ensures { Builds v.now from env.now m cells.old result cells.new }
 {
     match store_flat(cells, v, from, code, env, m) {
-        Some(next) => Built::Made(m.made as u32, next, m.made + 1),
+        Some(next) => Some((m.made as u32, next, m.made + 1)),
         None => build_nested(cells, stack, v, from, code, env, m),
     }
 }
@@ -275,7 +267,7 @@ pub fn build(
     ensures { Builds v.now at env.now m cells.old result cells.new }
 {
     match head_at(v, at, env, m.count) {
-        Head::Leaf(x, next) => Built::Made(x, next, m.made),
+        Head::Leaf(x, next) => Some((x, next, m.made)),
         Head::Node(b) => build_node(cells, stack, v, at, b, env, m),
     }
 }
@@ -305,10 +297,7 @@ pub fn build_arguments(
             }
             Head::Node(b) => {
                 let here = Making { made: count, ..m };
-                let Built::Made(x, after, more) = build_node(cells, stack, v, at, b, env, here)
-                else {
-                    return Arguments::Overfull;
-                };
+                let (x, after, more) = build_node(cells, stack, v, at, b, env, here)?;
                 put(out, n, x);
                 at = after;
                 count = more;
@@ -316,5 +305,5 @@ pub fn build_arguments(
             }
         }
     }
-    Arguments::Listed(n, count)
+    Some((n, count))
 }

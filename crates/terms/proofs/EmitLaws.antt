@@ -1,12 +1,13 @@
 -- The last step of an expansion: what is judged of a term, case by case, and what is written of one that passes.
+use Rattle.std.specs.Prelude.{Ok, Err}
 use Prim.Native.Nat.{ℕ, ◌<◌, ◌≤◌}
 use mathlib.Core.Path.{◌≡◌, refl}
 use mathlib.Core.List.{List, [], ◌∷◌, ◌++◌}
 use lib.ListN.{length, drop}
 use borrow.Author.Tests.{le-leb, lt-leb}
 use Rattle.answers.specs.declared.Refusal.{Refusal}
-use Rattle.answers.specs.declared.Answer.{Answer}
-use Rattle.answers.specs.declared.Answer.TheVariants.{Accepted, Refusing}
+use Rattle.answers.specs.Refusals.{Answer}
+use Rattle.answers.specs.Refusals.{accepted}
 use Rattle.answers.specs.Refusals.{refusal}
 use Rattle.answers.specs.Checked.{Checked, ok, bad, ◌>>=◌}
 use Rattle.terms.specs.Term.{Name, Term, size, largest_term}
@@ -19,12 +20,12 @@ leaves r text = record { answer = r; text = text }
 
 module _ (made constructors : ℕ) (out text : List ℕ) where
   -- a text that does not fit is refused: 24
-  pub fitted_long : length text < length out → fitted made constructors out text ≡ leaves (Refusing (refusal 24 (length out) 0 0)) text
+  pub fitted_long : length text < length out → fitted made constructors out text ≡ leaves (Err (refusal 24 (length out) 0 0)) text
   fitted_long h = rw (lt-leb (length out) (length text) h, fitted) refl
 
   -- one that fits is written in front
   pub fitted_whole : length out ≤ length text
-      → fitted made constructors out text ≡ leaves (Accepted made constructors (length out)) (out ++ drop (length out) text)
+      → fitted made constructors out text ≡ leaves (accepted made constructors (length out)) (out ++ drop (length out) text)
   fitted_whole h = rw (le-leb (length out) (length text) h, fitted) refl
 
 -- ------------------------------------------------------------------ what is judged
@@ -67,7 +68,7 @@ module _ (made : ℕ) (t : Term Name) where
 
 module _ (write : Term Name → List ℕ) (made : ℕ) (t : Term Name) (text : List ℕ) where
   -- what is refused is not written
-  pub emitted_refused : {r : Refusal} → judged made t ≡ bad r → emitted write made t text ≡ leaves (Refusing r) text
+  pub emitted_refused : {r : Refusal} → judged made t ≡ bad r → emitted write made t text ≡ leaves (Err r) text
   unfolding emitted
   emitted_refused e = rw e
 

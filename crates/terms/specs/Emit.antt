@@ -1,8 +1,8 @@
 -- The last step of an expansion: the tests on its term, what is written of the term, and whether that fits into the buffer lent for it.
 -- Document 01, "Causes, by number": "Last 22, 23, 24", and what is returned on acceptance.
-use Rattle.std.specs.Prelude.{ℕ, true, false, List, [], ◌∷◌, ◌++◌, leb, length, drop}
-use Rattle.answers.specs.declared.Answer.{Answer}
-use Rattle.answers.specs.declared.Answer.TheVariants.{Accepted, Refusing}
+use Rattle.std.specs.Prelude.{ℕ, true, false, List, [], ◌∷◌, ◌++◌, leb, length, drop, Ok, Err}
+use Rattle.answers.specs.Refusals.{Answer}
+use Rattle.answers.specs.Refusals.{accepted}
 use Rattle.answers.specs.Refusals.{refusal}
 use Rattle.answers.specs.Checked.{Checked, ok, bad, ◌>>=◌, need}
 use Rattle.terms.specs.Term.{Name, Term, size, largest_term}
@@ -48,12 +48,12 @@ pub record Emitted : Type 0 where
 abbrev pub fitted : ℕ → ℕ → List ℕ → List ℕ → Emitted
 fitted made constructors out text =
     elim (leb (length out) (length text)) [
-      | false ↦ record { answer = Refusing (refusal 24 (length out) 0 0); text = text }
-      | true ↦ record { answer = Accepted made constructors (length out); text = out ++ drop (length out) text }
+      | false ↦ record { answer = Err (refusal 24 (length out) 0 0); text = text }
+      | true ↦ record { answer = accepted made constructors (length out); text = out ++ drop (length out) text }
     ]
 
 abbrev pub emitted_if : Checked (Unit {0}) → (Term Name → List ℕ) → ℕ → Term Name → List ℕ → Emitted
-emitted_if (bad r) write made t text = record { answer = Refusing r; text = text }
+emitted_if (bad r) write made t text = record { answer = Err r; text = text }
 emitted_if (ok u) write made t text = fitted made (size t) (write t) text
 
 -- The last step for a term after so many cells were made, judged and then written: its answer, and the buffer with what `write` gives of the term.

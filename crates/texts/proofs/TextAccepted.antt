@@ -1,4 +1,5 @@
 -- A text that `check_reading` accepts is read by the rules: its bytes are its tokens, which derive the template within the limits.
+use Rattle.std.specs.Prelude.{Ok, Err}
 use Prim.Native.Nat.{ℕ, ◌+◌, ◌*◌, ◌≤◌, ◌<◌}
 use mathlib.Core.Path.{◌≡◌, refl, sym, ap, subst, ◌∙◌}
 use mathlib.Core.Bool.{Bool, true, false, true≢false, not, ◌&&◌, and-eq-true_iff}
@@ -16,8 +17,7 @@ use Rattle.grammar.specs.Table.{Template}
 use Rattle.grammar.specs.Variables.{most_variables}
 use Rattle.terms.specs.Cells.{columns, name_base}
 use Rattle.terms.specs.Term.{largest_term}
-use Rattle.tokens.specs.declared.Scanned.{Scanned}
-use Rattle.tokens.specs.declared.Scanned.TheVariants.{Tokens, Unscanned}
+use Rattle.tokens.specs.Scanned.{Scanned}
 use Rattle.tokens.specs.Scan.{Lexed, scan}
 use Rattle.tokens.specs.Tiling.{Tiled}
 use Rattle.tokens.proofs.TilingLaws.{scan_tiled, scan_counted}
@@ -159,9 +159,9 @@ pub record Accepted (P : TextContext) (L : List ℕ) (n A B : ℕ) (bs : List �
   pub fitting : fits A B ≡ true
 
 -- A scan that passes answers how many tokens and words there are.
-pub scanned_as : (answer : Scanned) → is_scanned answer ≡ true → (many : ℕ) × (count : ℕ) × (answer ≡ Tokens many count)
-scanned_as (Tokens many count) e = (many, count, refl)
-scanned_as (Unscanned r) e = absurd (true≢false (sym e))
+pub scanned_as : (answer : Scanned) → is_scanned answer ≡ true → (many : ℕ) × (count : ℕ) × (answer ≡ Ok (many, count))
+scanned_as (Ok (many, count)) e = (many, count, refl)
+scanned_as (Err r) e = absurd (true≢false (sym e))
 
 -- a run whose reading is given is done
 pub record DoneAs (A : ℕ) (result : Result ℕ) (r : Reading) : Type 0 where
@@ -188,7 +188,7 @@ module _ {G : Scope} {P : TextContext} {L : List ℕ} {n : ℕ} {S : Signature} 
   lexed = scan (lexicon_for P L n) bs
 
   -- a text that is scanned, with no number and no word but outside names
-  module _ {many count : ℕ} (scanned : lexed.answer ≡ Tokens many count) (none_other : length lexed.words ≡ 0)
+  module _ {many count : ℕ} (scanned : lexed.answer ≡ Ok (many, count)) (none_other : length lexed.words ≡ 0)
       (numberless : has_number lexed.tokens ≡ false) where
     tiled : Tiled (lexicon_for P L n) bs 0 [] lexed.tokens (length bs) lexed.words
     tiled = scan_tiled (lexicon_for P L n) place.few_outsides bs scanned
@@ -220,7 +220,7 @@ module _ {G : Scope} {P : TextContext} {L : List ℕ} {n : ℕ} {S : Signature} 
     unfreshened e l = omega (arith, (reads e).counted)
 
   -- a text that is scanned so, and whose strict run is done
-  read_so : {B many count : ℕ} {r : TextRead} → Passed P n S.result B lexed r → lexed.answer ≡ Tokens many count → length lexed.words ≡ 0
+  read_so : {B many count : ℕ} {r : TextRead} → Passed P n S.result B lexed r → lexed.answer ≡ Ok (many, count) → length lexed.words ≡ 0
       → (many ≡ length lexed.tokens) × (many ≤ 4096) → (read : Reading) → DoneAs S.result (run_text P n (map as_outside lexed.tokens)) read
       → leb (rows_of read.template) largest_term ≡ true → read.is_fresh ≡ false → record { template = read.template; used = P.used + read.made } ≡ r
       → Accepted P L n S.result B bs r

@@ -23,7 +23,7 @@ use Rattle.texts.proofs.ReadBack.{has_below, read_back}
 use Rattle.copying.proofs.CopyLaws.{hangs_more}
 use Rattle.copying.specs.Hanging.{is_row_at, IsPart, VariableBelow, Hangs, hangs, HangsAt}
 use Rattle.copying.specs.Copies.{copied, CopiesText}
-use Rattle.copying.specs.declared.Copied.{Copied}
+use Rattle.copying.specs.Copied.{Copied}
 
 -- a number at a place of a sort, where `made` rows are made
 record Stands (cells : List ℕ) (made count sort x : ℕ) : Type 0 where

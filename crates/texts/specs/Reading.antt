@@ -1,6 +1,6 @@
 -- Reading a text: from its tokens to the template that it stands for, or a refusal. Document 02, C-14. A text is scanned and run as a formula is, from its own
 -- nonterminal, "under the blocks before its own"; what its cells then hold is the template.
-use Rattle.std.specs.Prelude.{ℕ, ◌+◌, ◌-◌, ◌*◌, Bool, true, false, not, ◌&&◌, ◌||◌, List, [], ◌∷◌, map, eqb, leb, ltb, replicate}
+use Rattle.std.specs.Prelude.{ℕ, ◌+◌, ◌-◌, ◌*◌, Bool, true, false, not, ◌&&◌, ◌||◌, List, [], ◌∷◌, map, eqb, leb, ltb, replicate, Ok, Err}
 use Rattle.answers.specs.Refusals.{refusal}
 use Rattle.answers.specs.Checked.{Checked, ok, bad, ◌>>=◌, ◌>>◌, need}
 use Rattle.kinds.specs.Kinds.{word_kind, number_kind}
@@ -11,8 +11,7 @@ use Rattle.grammar.specs.Table.{Template, Lexicon}
 use Rattle.terms.specs.Cells.{columns, most_cells}
 use Rattle.terms.specs.Term.{largest_term}
 use Rattle.tokens.specs.declared.Token.{Token}
-use Rattle.tokens.specs.declared.Scanned.{Scanned}
-use Rattle.tokens.specs.declared.Scanned.TheVariants.{Tokens, Unscanned}
+use Rattle.tokens.specs.Scanned.{Scanned}
 use Rattle.tokens.specs.Tokens.{token}
 use Rattle.tokens.specs.Scan.{Lexed}
 use Rattle.productions.specs.Normal.{Production}
@@ -56,13 +55,13 @@ has_number [] = false
 has_number (t ∷ ts) = eqb t.kind number_kind || has_number ts
 
 abbrev pub is_scanned : Scanned → Bool
-is_scanned (Tokens n words) = true
-is_scanned (Unscanned r) = false
+is_scanned (Ok (n, words)) = true
+is_scanned (Err r) = false
 
 -- how many words are no outside names
 abbrev pub other_words : Scanned → ℕ
-other_words (Tokens n words) = words
-other_words (Unscanned r) = 0
+other_words (Ok (n, words)) = words
+other_words (Err r) = 0
 
 -- ------------------------------------------------------------------ the run of a text
 

@@ -1,4 +1,5 @@
 -- Scans that are worked out: tokens, spelling numbers, refusals.
+use Rattle.std.specs.Prelude.{Ok, Err}
 use mathlib.Core.Path.{◌≡◌, refl}
 use mathlib.Core.Bool.{true, false}
 use mathlib.Core.List.{[], ◌∷◌}
@@ -7,7 +8,6 @@ use Rattle.answers.specs.Refusals.{refusal}
 use Rattle.spellings.specs.Bytes.{bytes, longest_run, same, index_of, value_from}
 use Rattle.grammar.specs.Table.{Lexicon}
 use Rattle.grammar.specs.Found.{found_in}
-use Rattle.tokens.specs.declared.Scanned.TheVariants.{Tokens, Unscanned}
 use Rattle.tokens.specs.Scan.{scan_ended, lexeme_of, kind_of, spelling_of, step_of, words_with, lex_from, scan}
 use Rattle.tokens.specs.Tokens.{token}
 use Rattle.tokens.specs.Variables.{is_dollar, is_variable, dollars_below}
@@ -27,7 +27,7 @@ house =
 abstraction :
     scan house (bytes "fun(p)p(b)")
     ≡ record {
-      answer = Tokens 8 2;
+      answer = Ok (8, 2);
       tokens =
           token 4 0 3 0 ∷ token 2 3 1 0 ∷ token 0 4 1 64 ∷ token 3 5 1 0 ∷ token 0 6 1 64 ∷ token 2 7 1 0 ∷ token 0 8 1 65
           ∷ token 3 9 1 0 ∷ [];
@@ -40,7 +40,7 @@ abstraction = refl
 mixed :
     scan house (bytes " T.007*ab_1 T\n")
     ≡ record {
-      answer = Tokens 6 1;
+      answer = Ok (6, 1);
       tokens =
           token 0 1 1 0 ∷ token 8 2 1 0 ∷ token 1 3 3 7 ∷ token 64 6 1 0 ∷ token 0 7 4 64 ∷ token 0 12 1 0 ∷ [];
       words = bytes "ab_1" ∷ [];
@@ -49,27 +49,27 @@ unfolding house bytes longest_run same index_of value_from found_in is_dollar is
 mixed = refl
 
 -- a word of 31 bytes passes, one of 32 is refused at its start
-long_word : (scan house (32 ∷ replicate 31 97)).answer ≡ Tokens 1 1
+long_word : (scan house (32 ∷ replicate 31 97)).answer ≡ Ok (1, 1)
 unfolding house bytes longest_run same index_of found_in is_dollar is_variable lexeme_of kind_of spelling_of step_of words_with lex_from scan
 long_word = refl
 
-too_long : scan house (32 ∷ replicate 32 97) ≡ scan_ended (Unscanned (refusal 15 1 0 0)) []
+too_long : scan house (32 ∷ replicate 32 97) ≡ scan_ended (Err (refusal 15 1 0 0)) []
 unfolding house bytes longest_run same index_of found_in is_dollar is_variable lexeme_of kind_of spelling_of step_of words_with lex_from scan
 too_long = refl
 
 -- a number's value is bounded and not its digits; the tokens and words before the fault are kept
-large : (scan house (bytes "a 00999999999")).answer ≡ Tokens 2 1
+large : (scan house (bytes "a 00999999999")).answer ≡ Ok (2, 1)
 unfolding house bytes longest_run same index_of value_from found_in is_dollar is_variable lexeme_of kind_of spelling_of step_of words_with lex_from scan
 large = refl
 
 too_large :
     scan house (bytes "a 1000000000")
-    ≡ record { answer = Unscanned (refusal 15 2 0 0); tokens = token 0 0 1 64 ∷ []; words = bytes "a" ∷ [] }
+    ≡ record { answer = Err (refusal 15 2 0 0); tokens = token 0 0 1 64 ∷ []; words = bytes "a" ∷ [] }
 unfolding house bytes longest_run same index_of value_from found_in is_dollar is_variable lexeme_of kind_of spelling_of step_of words_with lex_from scan
 too_large = refl
 
 -- byte 127 is no symbol
-bad_byte : (scan house (40 ∷ 127 ∷ [])).answer ≡ Unscanned (refusal 15 1 0 0)
+bad_byte : (scan house (40 ∷ 127 ∷ [])).answer ≡ Err (refusal 15 1 0 0)
 unfolding house bytes longest_run same index_of found_in is_dollar is_variable lexeme_of kind_of spelling_of step_of words_with lex_from scan
 bad_byte = refl
 
@@ -86,7 +86,7 @@ plain = record { keywords = bytes "(" ∷ bytes "$" ∷ []; outsides = []; varia
 variables :
     scan text (bytes "$1$ $02 $3x")
     ≡ record {
-      answer = Tokens 6 1;
+      answer = Ok (6, 1);
       tokens =
           token 68 0 2 0x4000001 ∷ token 3 2 1 0 ∷ token 66 4 3 0x4000002 ∷ token 3 8 1 0 ∷ token 1 9 1 3 ∷ token 0 10 1 64 ∷ [];
       words = bytes "x" ∷ [];
@@ -95,7 +95,7 @@ unfolding text bytes longest_run same index_of value_from found_in is_dollar is_
 variables = refl
 
 -- in a formula it is always the keyword
-without_variables : scan plain (bytes "$1") ≡ record { answer = Tokens 2 0; tokens = token 3 0 1 0 ∷ token 1 1 1 1 ∷ []; words = [] }
+without_variables : scan plain (bytes "$1") ≡ record { answer = Ok (2, 0); tokens = token 3 0 1 0 ∷ token 1 1 1 1 ∷ []; words = [] }
 unfolding plain bytes longest_run same index_of value_from found_in is_dollar is_variable lexeme_of kind_of spelling_of step_of words_with lex_from scan
 without_variables = refl
 

@@ -1,4 +1,5 @@
 -- The scan goes by the rules: it follows a tiling to its end, and stops where the rules do.
+use Rattle.std.specs.Prelude.{Ok, Err}
 use Prim.Native.Nat.{ℕ, zero, suc, ◌+◌, ◌<◌, ◌≤◌}
 use mathlib.Core.Path.{◌≡◌, refl, ap, ◌∙◌}
 use mathlib.Core.Bool.{true}
@@ -16,8 +17,7 @@ use Rattle.spellings.proofs.BytesLaws.{by_test}
 use Rattle.grammar.specs.Table.{Lexicon}
 use Rattle.tokens.specs.declared.Token.{Token}
 use Rattle.tokens.specs.declared.Step.TheVariants.{Skip, Stop, Emit}
-use Rattle.tokens.specs.declared.Scanned.{Scanned}
-use Rattle.tokens.specs.declared.Scanned.TheVariants.{Tokens, Unscanned}
+use Rattle.tokens.specs.Scanned.{Scanned}
 use Rattle.tokens.specs.Scan.{Lexed, scan_ended, with_token, step_of, words_with, lex_from, scan}
 use Rattle.tokens.specs.Tokens.{most_tokens, longest_formula}
 use Rattle.tokens.specs.Tiling.{Stands, Tiled, here, past_separator, past_token}
@@ -91,7 +91,7 @@ module _ (lex : Lexicon) (few : length lex.outsides ≤ 64) (formula : List ℕ)
   pub tiled_scanned : {ts : List Token} {words : List (List ℕ)} → length formula ≤ longest_formula
       → Tiled lex formula 0 [] ts (length formula) words
       → length ts ≤ most_tokens
-      → scan lex formula ≡ record { answer = Tokens (length ts) (length words); tokens = ts; words = words }
+      → scan lex formula ≡ record { answer = Ok (length ts, length words); tokens = ts; words = words }
   tiled_scanned {ts} {words} short d small =
       let f = follow d (length formula) 0 (omega arith) (omega arith) in
       let z : 0 + length ts ≡ length ts = omega arith in
@@ -101,13 +101,13 @@ module _ (lex : Lexicon) (few : length lex.outsides ≤ 64) (formula : List ℕ)
         scan_short lex formula short,
         f.same,
         lex_end f.fuel lex (length formula) (0 + length ts) words,
-        prefixed_end ts (Tokens (0 + length ts) (length words)) words,
+        prefixed_end ts (Ok (0 + length ts, length words)) words,
       )
 
   -- ------------------------------------------------------------------ where the rules stop
 
   fault_answer : (fuel at before : ℕ) (met : List (List ℕ)) → length formula ≤ at + fuel → at < length formula → Faulty (drop at formula)
-      → (lex_from fuel lex at (drop at formula) before met).answer ≡ Unscanned (refusal 15 at 0 0)
+      → (lex_from fuel lex at (drop at formula) before met).answer ≡ Err (refusal 15 at 0 0)
   fault_answer zero at before met enough h f = absurd (omega arith)
   fault_answer (suc fuel) at before met enough h f =
       let e : Stop ≡ step_of lex met at (drop at formula) = step_by_lem lex met at (drop at formula) (lexeme_fault _ (drop at formula) f) in
@@ -115,7 +115,7 @@ module _ (lex : Lexicon) (few : length lex.outsides ≤ 64) (formula : List ℕ)
 
   token_answer : (fuel at before : ℕ) (met met' : List (List ℕ)) (token : Token) → length formula ≤ at + fuel → at < length formula → before ≡ most_tokens
       → Stands lex at (drop at formula) met token met'
-      → (lex_from fuel lex at (drop at formula) before met).answer ≡ Unscanned (refusal 16 0 0 0)
+      → (lex_from fuel lex at (drop at formula) before met).answer ≡ Err (refusal 16 0 0 0)
   token_answer zero at before met met' token enough h e st = absurd (omega arith)
   token_answer (suc fuel) at before met met' token enough h e st =
       let some : 0 < length (drop at formula) = omega (arith, length-drop at formula) in
@@ -123,7 +123,7 @@ module _ (lex : Lexicon) (few : length lex.outsides ≤ 64) (formula : List ℕ)
       rw (lex_step fuel lex at (drop at formula) before met (Emit token) some m.emits, le-ltb before most_tokens (omega arith)) refl
 
   -- What the rules refuse, the scan refuses with the same refusal.
-  pub unscans_answer : {cause : Refusal} → Unscans lex formula cause → (scan lex formula).answer ≡ Unscanned cause
+  pub unscans_answer : {cause : Refusal} → Unscans lex formula cause → (scan lex formula).answer ≡ Err cause
   unscans_answer (formula_too_long h) = simp (scan_long lex formula h)
   unscans_answer (a_fault {at = at} {ts = ts} {met = met} short d small h f) =
       let w = follow d (length formula) 0 (omega arith) (omega arith) in
@@ -170,12 +170,12 @@ module _ (lex : Lexicon) (few : length lex.outsides ≤ 64) (formula : List ℕ)
   emit_stops h st (full d l h' f) = full (past_token h st d) (omega arith) h' f
 
   abbrev Refused : Scanned → (Refusal → Type 0) → Type 0
-  Refused (Tokens m count) P = Unit {0}
-  Refused (Unscanned r) P = P r
+  Refused (Ok (m, count)) P = Unit {0}
+  Refused (Err r) P = P r
 
   refused : (scanned : Scanned) {P Q : Refusal → Type 0} → ((cause : Refusal) → P cause → Q cause) → Refused scanned P → Refused scanned Q
-  refused (Tokens m count) f p = tt
-  refused (Unscanned r) f p = f r p
+  refused (Ok (m, count)) f p = tt
+  refused (Err r) f p = f r p
 
   StoppedFrom : ℕ → ℕ → List (List ℕ) → Lexed → Type 0
   StoppedFrom at n met l = Refused l.answer (StopsFrom at n met)
@@ -207,5 +207,5 @@ module _ (lex : Lexicon) (few : length lex.outsides ≤ 64) (formula : List ℕ)
       rw (scan_long lex formula over) (formula_too_long over))
 
   -- What the scan refuses, the rules refuse with the same refusal.
-  pub answer_unscans : {cause : Refusal} → (scan lex formula).answer ≡ Unscanned cause → Unscans lex formula cause
+  pub answer_unscans : {cause : Refusal} → (scan lex formula).answer ≡ Err cause → Unscans lex formula cause
   answer_unscans e = rw (e) at scan_unscans

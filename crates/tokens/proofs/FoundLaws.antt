@@ -1,4 +1,5 @@
 -- Where a search finds a spelling, by the rules of specs/Tiling.
+use Rattle.std.specs.Prelude.{Some, None, Option}
 use Prim.Native.Nat.{ℕ, ◌<◌}
 use mathlib.Core.Path.{◌≡◌, refl, sym, ap, subst}
 use mathlib.Core.List.{List}
@@ -8,8 +9,6 @@ use lib.ListN.{length}
 use borrow.Author.Tests.{lt-ltb, le-ltb, ltb-true, ltb-false}
 use Rattle.spellings.specs.Bytes.{index_of}
 use Rattle.spellings.proofs.BytesLaws.{by_test, index_le, index_found, index-first, index_at, same_false}
-use Rattle.grammar.specs.declared.Found.{Found}
-use Rattle.grammar.specs.declared.Found.TheVariants.{At, Absent}
 use Rattle.grammar.specs.Found.{found_in}
 use Rattle.tokens.specs.Tiling.{FirstAt, NotIn}
 
@@ -33,14 +32,14 @@ module _ {sought : List ℕ} {vs : List (List ℕ)} where
       (λ e. omega (arith, ltb-false (index_of sought vs) (length vs) e, index_le sought vs))
 
   -- a search finds a spelling where it stands first
-  pub first_found : {index : ℕ} → FirstAt sought vs index → At index ≡ found_in sought vs
+  pub first_found : {index : ℕ} → FirstAt sought vs index → Some index ≡ found_in sought vs
   unfolding found_in
   first_found f =
       let z : index_of sought vs ≡ _ = first_index f in
-      sym (rw (lt-ltb (index_of sought vs) (length vs) (omega (arith, z, f.there)), found_in) (ap At z))
+      sym (rw (lt-ltb (index_of sought vs) (length vs) (omega (arith, z, f.there)), found_in) (ap Some z))
 
   -- a search finds no spelling that stands nowhere
-  pub none_found : NotIn sought vs → Absent ≡ found_in sought vs
+  pub none_found : NotIn sought vs → None ≡ found_in sought vs
   unfolding found_in
   none_found f = sym (rw (le-ltb (index_of sought vs) (length vs) (omega (arith, none_index f)), found_in) refl)
 
@@ -55,9 +54,9 @@ module _ (sought : List ℕ) (vs : List (List ℕ)) where
   index_is_none h = record { none = λ j l e. omega (arith, index_at sought vs j l e) }
 
 -- what a search tells, by its answer
-abbrev pub FoundBy : List ℕ → List (List ℕ) → Found → Type 0
-FoundBy s vs (At k) = FirstAt s vs k
-FoundBy s vs Absent = NotIn s vs
+abbrev pub FoundBy : List ℕ → List (List ℕ) → Option ℕ → Type 0
+FoundBy s vs (Some k) = FirstAt s vs k
+FoundBy s vs None = NotIn s vs
 
 found_rule : (sought : List ℕ) (vs : List (List ℕ)) → FoundBy sought vs (found_in sought vs)
 found_rule sought vs =
@@ -70,5 +69,5 @@ found_rule sought vs =
     subst (FoundBy sought vs) (none_found f) f)
 
 -- what a search answers is so
-pub found_by : (sought : List ℕ) (vs : List (List ℕ)) (found : Found) → found ≡ found_in sought vs → FoundBy sought vs found
+pub found_by : (sought : List ℕ) (vs : List (List ℕ)) (found : Option ℕ) → found ≡ found_in sought vs → FoundBy sought vs found
 found_by sought vs found e = subst (FoundBy sought vs) (sym e) (found_rule sought vs)

@@ -1,4 +1,5 @@
 -- What is left of a formula, by the step at its front; and a scan, by the formula's length.
+use Rattle.std.specs.Prelude.{Ok, Err}
 use Prim.Native.Nat.{ℕ, zero, suc, ◌+◌, ◌<◌, ◌≤◌}
 use mathlib.Core.Path.{◌≡◌, refl}
 use mathlib.Core.Bool.{Bool, true, false}
@@ -12,7 +13,6 @@ use Rattle.grammar.specs.Table.{Lexicon}
 use Rattle.tokens.specs.declared.Token.{Token}
 use Rattle.tokens.specs.declared.Step.{Step}
 use Rattle.tokens.specs.declared.Step.TheVariants.{Skip, Stop, Emit}
-use Rattle.tokens.specs.declared.Scanned.TheVariants.{Tokens, Unscanned}
 use Rattle.tokens.specs.Scan.{Lexed, scan_ended, with_token, words_with, step_of, lex_from, scan}
 use Rattle.tokens.specs.Tokens.{most_tokens, longest_formula}
 
@@ -22,7 +22,7 @@ use Rattle.tokens.specs.Tokens.{most_tokens, longest_formula}
 abbrev pub emitted : ℕ → Lexicon → ℕ → List ℕ → ℕ → List (List ℕ) → Token → Bool → Lexed
 emitted k lex at rest n words t more =
     elim more [
-      | false ↦ scan_ended (Unscanned (refusal 16 0 0 0)) words
+      | false ↦ scan_ended (Err (refusal 16 0 0 0)) words
       | true ↦
           with_token t (lex_from k lex (at + t.size) (drop t.size rest) (n + 1) (words_with words (take t.size rest) t))
     ]
@@ -30,7 +30,7 @@ emitted k lex at rest n words t more =
 -- what is left, by the step at its front
 abbrev pub after : ℕ → Lexicon → ℕ → List ℕ → ℕ → List (List ℕ) → Step → Lexed
 after k lex at rest n words Skip = lex_from k lex (at + 1) (drop 1 rest) n words
-after k lex at rest n words Stop = scan_ended (Unscanned (refusal 15 at 0 0)) words
+after k lex at rest n words Stop = scan_ended (Err (refusal 15 at 0 0)) words
 after k lex at rest n words (Emit t) = emitted k lex at rest n words t (ltb n most_tokens)
 
 lex_by : (fuel : ℕ) (lex : Lexicon) (at byte : ℕ) (bs : List ℕ) (many : ℕ) (words : List (List ℕ)) (step : Step)
@@ -50,7 +50,7 @@ lex_step fuel lex at (b ∷ bs) many words step h e = lex_by fuel lex at b bs ma
 
 -- where nothing is left, the tokens counted are accepted
 pub lex_end : (fuel : ℕ) (lex : Lexicon) (at many : ℕ) (words : List (List ℕ))
-    → lex_from fuel lex at [] many words ≡ scan_ended (Tokens many (length words)) words
+    → lex_from fuel lex at [] many words ≡ scan_ended (Ok (many, length words)) words
 unfolding lex_from
 lex_end zero lex at many words = refl
 lex_end (suc fuel) lex at many words = refl
@@ -61,6 +61,6 @@ unfolding scan
 scan_short lex formula h = rw (le-leb (length formula) longest_formula h, scan) refl
 
 -- a longer one is refused with 14
-pub scan_long : (lex : Lexicon) (formula : List ℕ) → longest_formula < length formula → scan lex formula ≡ scan_ended (Unscanned (refusal 14 0 0 0)) []
+pub scan_long : (lex : Lexicon) (formula : List ℕ) → longest_formula < length formula → scan lex formula ≡ scan_ended (Err (refusal 14 0 0 0)) []
 unfolding scan
 scan_long lex formula h = rw (lt-leb (length formula) longest_formula h, scan) refl

@@ -1,5 +1,6 @@
 -- What a scan gives, for every lexicon with at most 64 outside names, as every table's is, and every formula. Each statement has one
 -- sentence above it; the proofs cite the laws.
+use Rattle.std.specs.Prelude.{Ok, Err}
 use Prim.Native.Nat.{ℕ, ◌≤◌}
 use mathlib.Core.Path.{◌≡◌, refl, sym, ap, ◌∙◌}
 use mathlib.Core.Logic.{◌↔◌}
@@ -17,7 +18,6 @@ use Rattle.answers.specs.Refusals.{refusal}
 use Rattle.grammar.specs.Table.{Lexicon}
 use Rattle.grammar.specs.Limits.{most}
 use Rattle.tokens.specs.declared.Token.{Token}
-use Rattle.tokens.specs.declared.Scanned.TheVariants.{Tokens, Unscanned}
 use Rattle.tokens.specs.Scan.{Separator, Symbol, Fault, word_lexeme, number_lexeme, lexeme_of, spelling_of, scan}
 use Rattle.tokens.specs.Tokens.{end_token, most_tokens, longest_formula, spelled}
 use Rattle.tokens.specs.Tiling.{bytes_of, Tiled}
@@ -36,11 +36,11 @@ token_at ts i = get_or ts i end_token
 
 module _ (lex : Lexicon) (few : length lex.outsides ≤ 64) (formula : List ℕ) where
   -- a scan that is not refused is of a formula that is not too long
-  not_long : {many count : ℕ} → (scan lex formula).answer ≡ Tokens many count → length formula ≤ longest_formula
+  not_long : {many count : ℕ} → (scan lex formula).answer ≡ Ok (many, count) → length formula ≤ longest_formula
   not_long {many} {count} e =
       by_test (leb (length formula) longest_formula) (λ h. leb-true (length formula) longest_formula h)
       (λ h.
-      let l : (scan lex formula).answer ≡ Unscanned (refusal 14 0 0 0)
+      let l : (scan lex formula).answer ≡ Err (refusal 14 0 0 0)
       = cc (scan_long lex formula (leb-false (length formula) longest_formula h)) in
       let z : ◌≡◌ {A = ℕ} 0 1 = cc in
       absurd (omega arith))
@@ -48,11 +48,11 @@ module _ (lex : Lexicon) (few : length lex.outsides ≤ 64) (formula : List ℕ)
   -- A scan gives these tokens and words exactly if the formula has at most 65,535 bytes and is, by the rules, these tokens, at most
   -- 4,096 of them, with separators between them, and these words.
   pub accepted_exactly : (ts : List Token) (words : List (List ℕ))
-      → (scan lex formula ≡ record { answer = Tokens (length ts) (length words); tokens = ts; words = words })
+      → (scan lex formula ≡ record { answer = Ok (length ts, length words); tokens = ts; words = words })
       ↔ ((length formula ≤ longest_formula) × Tiled lex formula 0 [] ts (length formula) words × (length ts ≤ most_tokens))
   accepted_exactly ts words = (
     λ e.
-        let a : (scan lex formula).answer ≡ Tokens (length ts) (length words) = cc in
+        let a : (scan lex formula).answer ≡ Ok (length ts, length words) = cc in
         let d : Tiled lex formula 0 [] ts (length formula) words
         = rw (e) at (scan_tiled lex few formula a) in
         (not_long a, d, omega (arith, (scan_counted lex few formula a).2)),
@@ -60,11 +60,11 @@ module _ (lex : Lexicon) (few : length lex.outsides ≤ 64) (formula : List ℕ)
   )
 
   -- A scan gives a refusal exactly if the rules for 14, 15 and 16 do.
-  pub refused_exactly : (cause : Refusal) → ((scan lex formula).answer ≡ Unscanned cause) ↔ Unscans lex formula cause
+  pub refused_exactly : (cause : Refusal) → ((scan lex formula).answer ≡ Err cause) ↔ Unscans lex formula cause
   refused_exactly cause = (answer_unscans lex few formula, unscans_answer lex few formula)
 
   -- The answer counts the tokens, of which there are at most 4,096, and the words that are neither keywords nor outside names.
-  pub tokens_counted : {many count : ℕ} → (scan lex formula).answer ≡ Tokens many count
+  pub tokens_counted : {many count : ℕ} → (scan lex formula).answer ≡ Ok (many, count)
       → (many ≡ length (scan lex formula).tokens) × (count ≡ length (scan lex formula).words) × (many ≤ most_tokens)
   tokens_counted e = scan_counted lex few formula e
 

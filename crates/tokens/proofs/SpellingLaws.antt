@@ -1,4 +1,5 @@
 -- A word token's value is the spelling number of its bytes by all words of the scan, and every word token is a word.
+use Rattle.std.specs.Prelude.{Some, None, Option}
 use Prim.Native.Nat.{ℕ, zero, suc, ◌+◌, ◌-◌, ◌<◌, ◌≤◌}
 use mathlib.Core.Path.{◌≡◌, refl, sym, ap, ◌∙◌}
 use mathlib.Core.Bool.{true, false}
@@ -10,8 +11,6 @@ use lib.ListN.{length, get_or, take, drop, length-append}
 use borrow.Author.Tests.{ltb-true, ltb-false, le-leb, le-ltb, lt-ltb, ne_eqb, eq-eqb}
 use Rattle.spellings.specs.Bytes.{is_letter, is_word_byte, longest_run, is_word, index_of}
 use Rattle.spellings.proofs.BytesLaws.{by_test, run_taken, every_run, letter_word_byte, index_le, index_found, index_front, index_rest, index_self}
-use Rattle.grammar.specs.declared.Found.{Found}
-use Rattle.grammar.specs.declared.Found.TheVariants.{At, Absent}
 use Rattle.grammar.specs.Table.{Lexicon}
 use Rattle.grammar.specs.Found.{found_in}
 use Rattle.grammar.proofs.LookupLaws.{found_within, found_spells}
@@ -105,21 +104,21 @@ placed words spelling token k v = by_test (ltb (index_of spelling words) (length
 
 -- a word's spelling number by the words then met is its spelling number by all words
 module _ (lex : Lexicon) (few : length lex.outsides ≤ 64) where
-  stays : (words more : List (List ℕ)) (spelling : List ℕ) (token : Token) (found : Found) → found ≡ found_in spelling lex.outsides → token.kind ≡ word_kind
+  stays : (words more : List (List ℕ)) (spelling : List ℕ) (token : Token) (found : Option ℕ) → found ≡ found_in spelling lex.outsides → token.kind ≡ word_kind
       → token.value ≡ spelling_of lex words spelling
       → (token.value ≡ spelling_of lex (words_with words spelling token ++ more) spelling)
       × (token.value < 64 + length (words_with words spelling token ++ more))
-  stays words more spelling token (At i) e k v =
-      let a : token.value ≡ i = v ∙ spelling_found lex words spelling (At i) e in (
-        a ∙ sym (spelling_found lex (words_with words spelling token ++ more) spelling (At i) e),
+  stays words more spelling token (Some i) e k v =
+      let a : token.value ≡ i = v ∙ spelling_found lex words spelling (Some i) e in (
+        a ∙ sym (spelling_found lex (words_with words spelling token ++ more) spelling (Some i) e),
         omega (arith, a, found_within spelling lex.outsides e),
       )
-  stays words more spelling token Absent e k v =
-      let a : token.value ≡ 64 + index_of spelling words = v ∙ spelling_found lex words spelling Absent e in
+  stays words more spelling token None e k v =
+      let a : token.value ≡ 64 + index_of spelling words = v ∙ spelling_found lex words spelling None e in
       let p : Placed words (words_with words spelling token) spelling = placed words spelling token k a in
       let i : index_of spelling (words_with words spelling token ++ more) ≡ index_of spelling words = index_front spelling (words_with words spelling token) more
       p.there ∙ p.same_place in (
-        a ∙ sym (cc (spelling_found lex (words_with words spelling token ++ more) spelling Absent e)),
+        a ∙ sym (cc (spelling_found lex (words_with words spelling token ++ more) spelling None e)),
         omega (arith, a, p.there, p.same_place, length-append (words_with words spelling token) more),
       )
 
@@ -173,13 +172,13 @@ module _ (lex : Lexicon) (few : length lex.outsides ≤ 64) where
     pub spelled_number : (listed : List (List ℕ)) (token : Token) → Spelled lex formula listed token → spelled lex listed token.value ≡ bytes_of formula token
     spelled_number listed token w = by_found (found_in (bytes_of formula token) lex.outsides) refl
       where
-        by_found : (found : Found) → found ≡ found_in (bytes_of formula token) lex.outsides → spelled lex listed token.value ≡ bytes_of formula token
-        by_found (At k) e =
-            let a : token.value ≡ k = w.numbered ∙ spelling_found lex listed (bytes_of formula token) (At k) e in
+        by_found : (found : Option ℕ) → found ≡ found_in (bytes_of formula token) lex.outsides → spelled lex listed token.value ≡ bytes_of formula token
+        by_found (Some k) e =
+            let a : token.value ≡ k = w.numbered ∙ spelling_found lex listed (bytes_of formula token) (Some k) e in
             let h : k < length lex.outsides = found_within (bytes_of formula token) lex.outsides e in
             ap (spelled lex listed) a ∙ rw (lt-ltb k 64 (omega arith), spelled) (found_spells (bytes_of formula token) lex.outsides e)
-        by_found Absent e =
-            let a : token.value ≡ 64 + index_of (bytes_of formula token) listed = w.numbered ∙ spelling_found lex listed (bytes_of formula token) Absent e in
+        by_found None e =
+            let a : token.value ≡ 64 + index_of (bytes_of formula token) listed = w.numbered ∙ spelling_found lex listed (bytes_of formula token) None e in
             let z : 64 + index_of (bytes_of formula token) listed - 64 ≡ index_of (bytes_of formula token) listed = omega arith in
             ap (spelled lex listed) a
             ∙ rw (le-ltb (64 + index_of (bytes_of formula token) listed) 64 (omega arith), spelled)

@@ -1,4 +1,5 @@
 -- A step of the scan and the rules of specs/Tiling tell the same token and the same words.
+use Rattle.std.specs.Prelude.{Some, None, Option}
 use Prim.Native.Nat.{ℕ, zero, suc, ◌+◌, ◌<◌, ◌≤◌}
 use mathlib.Core.Path.{◌≡◌, refl, sym, ap, ◌∙◌, subst}
 use mathlib.Core.Bool.{true}
@@ -8,8 +9,6 @@ use lib.ListN.{length, get_or, take, length-take}
 use borrow.Author.Tests.{eq-eqb, ne_eqb}
 use Rattle.spellings.specs.Bytes.{is_digit, is_word_byte, is_separator, longest_run, value_of}
 use Rattle.spellings.proofs.BytesLaws.{run_prefix, run_length}
-use Rattle.grammar.specs.declared.Found.{Found}
-use Rattle.grammar.specs.declared.Found.TheVariants.{At, Absent}
 use Rattle.grammar.specs.Table.{Lexicon}
 use Rattle.grammar.specs.Found.{found_in}
 use Rattle.kinds.specs.Kinds.{word_kind, number_kind, keyword_kind, no_kind}
@@ -61,7 +60,7 @@ module _ (lex : Lexicon) (few : length lex.outsides ≤ 64) (met : List (List �
   makes_keyword {number} f =
       let none : keyword_kind number ≡ 0 → ⊥ = λ e. omega (arith, e) in
       record {
-        token_is = token_other lex met at spelling other (sym (kind_found lex spelling other (At number) (first_found f))) none;
+        token_is = token_other lex met at spelling other (sym (kind_found lex spelling other (Some number) (first_found f))) none;
         words_are = with_other met spelling _ none;
       }
 
@@ -69,19 +68,19 @@ module _ (lex : Lexicon) (few : length lex.outsides ≤ 64) (met : List (List �
   unfolding made
   makes_symbol none n =
       record {
-        token_is = token_other lex met at spelling other (sym (kind_found lex spelling other Absent (none_found n))) none;
+        token_is = token_other lex met at spelling other (sym (kind_found lex spelling other None (none_found n))) none;
         words_are = with_other met spelling _ none;
       }
 
   module _ (word : other ≡ word_kind) (no_keyword : NotIn spelling lex.keywords) where
     kind_word : other ≡ kind_of lex spelling other
-    kind_word = sym (kind_found lex spelling other Absent (none_found no_keyword))
+    kind_word = sym (kind_found lex spelling other None (none_found no_keyword))
 
     makes_outside : {number : ℕ} → FirstAt spelling lex.outsides number → Makes made met spelling (token other at (length spelling) number) met
     unfolding made
     makes_outside {number} f =
         record {
-          token_is = token_word lex met at spelling other kind_word word (sym (spelling_found lex met spelling (At number) (first_found f)));
+          token_is = token_word lex met at spelling other kind_word word (sym (spelling_found lex met spelling (Some number) (first_found f)));
           words_are = with_known met spelling _ word (λ e. omega (arith, e, f.there));
         }
 
@@ -92,7 +91,7 @@ module _ (lex : Lexicon) (few : length lex.outsides ≤ 64) (met : List (List �
         record {
           token_is =
               token_word lex met at spelling other kind_word word
-              (cc (first_index f, spelling_found lex met spelling Absent (none_found o)));
+              (cc (first_index f, spelling_found lex met spelling None (none_found o)));
           words_are = with_known met spelling _ word (λ e. omega (arith, e, f.there));
         }
 
@@ -103,7 +102,7 @@ module _ (lex : Lexicon) (few : length lex.outsides ≤ 64) (met : List (List �
         record {
           token_is =
               token_word lex met at spelling other kind_word word
-              (cc (none_index f, spelling_found lex met spelling Absent (none_found o)));
+              (cc (none_index f, spelling_found lex met spelling None (none_found o)));
           words_are = with_next met spelling _ word refl;
         }
 
@@ -128,40 +127,40 @@ module _ (lex : Lexicon) (few : length lex.outsides ≤ 64) (met : List (List �
       → Stands lex at rest met (made lex few met at spelling word_kind) (words_with met spelling (made lex few met at spelling word_kind))
   word_stands w = by_keyword (found_in spelling lex.keywords) refl
     where
-      by_met : NotIn spelling lex.keywords → NotIn spelling lex.outsides → (found : Found) → found ≡ found_in spelling met
+      by_met : NotIn spelling lex.keywords → NotIn spelling lex.outsides → (found : Option ℕ) → found ≡ found_in spelling met
           → Stands lex at rest met (made lex few met at spelling word_kind) (words_with met spelling (made lex few met at spelling word_kind))
-      by_met n o (At k) e =
-          let f : FirstAt spelling met k = found_by spelling met (At k) e in
+      by_met n o (Some k) e =
+          let f : FirstAt spelling met k = found_by spelling met (Some k) e in
           stands_made (a_word_again w n o f) (makes_again lex few met at spelling word_kind refl n o f)
-      by_met n o Absent e =
-          let f : NotIn spelling met = found_by spelling met Absent e in
+      by_met n o None e =
+          let f : NotIn spelling met = found_by spelling met None e in
           stands_made (a_new_word w n o f) (makes_new lex few met at spelling word_kind refl n o f)
 
-      by_outside : NotIn spelling lex.keywords → (found : Found) → found ≡ found_in spelling lex.outsides
+      by_outside : NotIn spelling lex.keywords → (found : Option ℕ) → found ≡ found_in spelling lex.outsides
           → Stands lex at rest met (made lex few met at spelling word_kind) (words_with met spelling (made lex few met at spelling word_kind))
-      by_outside n (At k) e =
-          let f : FirstAt spelling lex.outsides k = found_by spelling lex.outsides (At k) e in
+      by_outside n (Some k) e =
+          let f : FirstAt spelling lex.outsides k = found_by spelling lex.outsides (Some k) e in
           stands_made (an_outside_name w n f) (makes_outside lex few met at spelling word_kind refl n f)
-      by_outside n Absent e = by_met n (found_by spelling lex.outsides Absent e) (found_in spelling met) refl
+      by_outside n None e = by_met n (found_by spelling lex.outsides None e) (found_in spelling met) refl
 
-      by_keyword : (found : Found) → found ≡ found_in spelling lex.keywords
+      by_keyword : (found : Option ℕ) → found ≡ found_in spelling lex.keywords
           → Stands lex at rest met (made lex few met at spelling word_kind) (words_with met spelling (made lex few met at spelling word_kind))
-      by_keyword (At k) e =
-          let f : FirstAt spelling lex.keywords k = found_by spelling lex.keywords (At k) e in
+      by_keyword (Some k) e =
+          let f : FirstAt spelling lex.keywords k = found_by spelling lex.keywords (Some k) e in
           stands_made (a_keyword w f) (makes_keyword lex few met at spelling word_kind f)
-      by_keyword Absent e = by_outside (found_by spelling lex.keywords Absent e) (found_in spelling lex.outsides) refl
+      by_keyword None e = by_outside (found_by spelling lex.keywords None e) (found_in spelling lex.outsides) refl
 
   symbol_stands : SymbolFront (length lex.variables) rest spelling
       → Stands lex at rest met (made lex few met at spelling no_kind) (words_with met spelling (made lex few met at spelling no_kind))
   symbol_stands y = by_keyword (found_in spelling lex.keywords) refl
     where
-      by_keyword : (found : Found) → found ≡ found_in spelling lex.keywords
+      by_keyword : (found : Option ℕ) → found ≡ found_in spelling lex.keywords
           → Stands lex at rest met (made lex few met at spelling no_kind) (words_with met spelling (made lex few met at spelling no_kind))
-      by_keyword (At k) e =
-          let f : FirstAt spelling lex.keywords k = found_by spelling lex.keywords (At k) e in
+      by_keyword (Some k) e =
+          let f : FirstAt spelling lex.keywords k = found_by spelling lex.keywords (Some k) e in
           stands_made (a_keyword_symbol y f) (makes_keyword lex few met at spelling no_kind f)
-      by_keyword Absent e =
-          let f : NotIn spelling lex.keywords = found_by spelling lex.keywords Absent e in
+      by_keyword None e =
+          let f : NotIn spelling lex.keywords = found_by spelling lex.keywords None e in
           stands_made (a_symbol y f) (makes_symbol lex few met at spelling no_kind (λ z. omega (arith, z)) f)
 
 -- what a step that emits a token tells of it

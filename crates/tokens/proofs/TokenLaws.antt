@@ -1,4 +1,5 @@
 -- What holds of all tokens of a scan, by recursion on what is left of the formula.
+use Rattle.std.specs.Prelude.{Ok, Err}
 use Prim.Native.Nat.{ℕ, zero, suc, ◌+◌, ◌<◌, ◌≤◌}
 use mathlib.Core.Path.{◌≡◌, refl, sym, ap, ◌∙◌, subst}
 use mathlib.Core.Bool.{true}
@@ -16,7 +17,6 @@ use Rattle.grammar.specs.Table.{Lexicon}
 use Rattle.tokens.specs.declared.Token.{Token}
 use Rattle.tokens.specs.declared.Step.{Step}
 use Rattle.tokens.specs.declared.Step.TheVariants.{Skip, Stop, Emit}
-use Rattle.tokens.specs.declared.Scanned.TheVariants.{Tokens, Unscanned}
 use Rattle.tokens.specs.Scan.{Lexed, scan_ended, with_token, words_with, step_of, lex_from, scan}
 use Rattle.tokens.specs.Tokens.{most_tokens, longest_formula}
 use Rattle.tokens.specs.Unscanned.{Faulty}
@@ -36,10 +36,10 @@ pub data Halts (lex : Lexicon) (formula : List ℕ) (at many : ℕ) (words : Lis
 -- A fact of what is left at an offset, after n tokens and the words met, that each step hands on.
 pub record Kept (lex : Lexicon) (formula : List ℕ) (P : ℕ → ℕ → List (List ℕ) → Lexed → Type 0) : Type 0 where
   -- it holds at the end
-  pub ends : (many : ℕ) (words : List (List ℕ)) → many ≤ most_tokens → P (length formula) many words (scan_ended (Tokens many (length words)) words)
+  pub ends : (many : ℕ) (words : List (List ℕ)) → many ≤ most_tokens → P (length formula) many words (scan_ended (Ok (many, length words)) words)
   -- it holds where a scan stops
   pub stops : (at many : ℕ) (words : List (List ℕ)) (cause : Refusal) → Halts lex formula at many words cause
-      → P at many words (scan_ended (Unscanned cause) words)
+      → P at many words (scan_ended (Err cause) words)
   -- it holds before a separator, if it holds behind it
   pub skips : (at many : ℕ) (words : List (List ℕ)) (lexed : Lexed) → at < length formula → is_separator (get_or formula at 0) ≡ true
       → P (at + 1) many words lexed

@@ -1,3 +1,4 @@
+pub mod Scanned
 pub mod Tokens
 pub mod Variables
 pub mod Scan

@@ -1,14 +1,13 @@
 -- Scanning: from the bytes of a formula to its tokens, with refusals 14, 15 and 16. Document 01, "Formula"; 02, C-14, for `$` variables.
-use Rattle.std.specs.Prelude.{ℕ, zero, suc, ◌+◌}
+use Rattle.std.specs.Prelude.{ℕ, zero, suc, ◌+◌, Ok, Err, Some, None}
 use mathlib.Core.{Bool.Bool, Bool.true, Bool.false, Bool.◌&&◌, List.List, List.[], List.◌∷◌, List.◌++◌}
 use lib.{Dec.eqb, Dec.leb, Dec.ltb, ListN.length, ListN.get_or, ListN.take, ListN.drop}
 use Rattle.tokens.specs.declared.Token.{Token}
 use Rattle.tokens.specs.declared.Step.{Step, TheVariants.Skip, TheVariants.Stop, TheVariants.Emit}
-use Rattle.tokens.specs.declared.Scanned.{Scanned, TheVariants.Tokens, TheVariants.Unscanned}
+use Rattle.tokens.specs.Scanned.{Scanned}
 use Rattle.spellings.specs.Bytes.{is_letter, is_digit, is_word_byte, is_separator, is_symbol, longest_run, longest_word, index_of, value_of, is_number}
 use Rattle.kinds.specs.Kinds.{word_kind, number_kind, keyword_kind, no_kind}
 use Rattle.answers.specs.Refusals.{refusal}
-use Rattle.grammar.specs.declared.Found.TheVariants.{At, Absent}
 use Rattle.grammar.specs.Limits.{most}
 use Rattle.grammar.specs.Table.{Lexicon}
 use Rattle.grammar.specs.Found.{found_in}
@@ -54,11 +53,11 @@ lexeme_of count rest =
 
 -- the kind of a token spelled s that is not a number: a keyword's, if it is one, else the given one
 unfoldable pub kind_of : Lexicon → List ℕ → ℕ → ℕ
-kind_of lex s other = elim (found_in s lex.keywords) [ At k ↦ keyword_kind k | Absent ↦ other ]
+kind_of lex s other = elim (found_in s lex.keywords) [ Some k ↦ keyword_kind k | None ↦ other ]
 
 -- the spelling number of an outside name, in table order from 0, and of any other word the one given
 unfoldable pub number_or : Lexicon → List ℕ → ℕ → ℕ
-number_or lex s fresh = elim (found_in s lex.outsides) [ At k ↦ k | Absent ↦ fresh ]
+number_or lex s fresh = elim (found_in s lex.outsides) [ Some k ↦ k | None ↦ fresh ]
 
 -- the spelling number of a word: an outside name's, or from 64 upward by first appearance among `words`
 unfoldable pub spelling_of : Lexicon → List (List ℕ) → List ℕ → ℕ
@@ -107,15 +106,15 @@ with_token t l = record { answer = l.answer; tokens = t ∷ l.tokens; words = l.
 -- What is left of the formula at the offset `at`, after n tokens and the words met with them; k bounds the bytes left.
 -- Refusal 15 comes before 16 at each token.
 unfoldable pub lex_from : ℕ → Lexicon → ℕ → List ℕ → ℕ → List (List ℕ) → Lexed
-lex_from zero lex at rest n words = scan_ended (Tokens n (length words)) words
-lex_from (suc k) lex at [] n words = scan_ended (Tokens n (length words)) words
+lex_from zero lex at rest n words = scan_ended (Ok (n, length words)) words
+lex_from (suc k) lex at [] n words = scan_ended (Ok (n, length words)) words
 lex_from (suc k) lex at (b ∷ bs) n words =
     elim (step_of lex words at (b ∷ bs)) [
       | Skip ↦ lex_from k lex (at + 1) bs n words
-      | Stop ↦ scan_ended (Unscanned (refusal 15 at 0 0)) words
+      | Stop ↦ scan_ended (Err (refusal 15 at 0 0)) words
       | Emit t ↦
           elim (ltb n most_tokens) [
-            | false ↦ scan_ended (Unscanned (refusal 16 0 0 0)) words
+            | false ↦ scan_ended (Err (refusal 16 0 0 0)) words
             | true ↦
                 with_token t
                 (lex_from k lex (at + t.size) (drop t.size (b ∷ bs)) (n + 1) (words_with words (take t.size (b ∷ bs)) t))
@@ -126,4 +125,4 @@ lex_from (suc k) lex at (b ∷ bs) n words =
 unfoldable pub scan : Lexicon → List ℕ → Lexed
 scan lex formula =
     elim (leb (length formula) longest_formula)
-    [ true ↦ lex_from (length formula) lex 0 formula 0 [] | false ↦ scan_ended (Unscanned (refusal 14 0 0 0)) [] ]
+    [ true ↦ lex_from (length formula) lex 0 formula 0 [] | false ↦ scan_ended (Err (refusal 14 0 0 0)) [] ]

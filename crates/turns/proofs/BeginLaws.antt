@@ -1,4 +1,5 @@
 -- Laws of the beginning of a call.
+use Rattle.std.specs.Prelude.{Ok, Err}
 use Prim.Native.Nat.{ℕ, zero, suc, ◌+◌, ◌-◌, ◌<◌, ◌≤◌}
 use mathlib.Core.Path.{◌≡◌, refl, sym, ap, ◌∙◌}
 use mathlib.Core.Bool.{Bool, true, false}
@@ -27,8 +28,7 @@ use Rattle.steps.specs.Steps.{body, tokens_lent, weight}
 use Rattle.frames.specs.Frames.{ahead}
 use Rattle.steps.specs.declared.Activation.{Activation}
 use Rattle.turns.specs.Lent.{Ready, lent_input}
-use Rattle.turns.specs.declared.begins.Begun.{Begun}
-use Rattle.turns.specs.declared.begins.Begun.TheVariants.{Refused, Entered}
+use Rattle.turns.specs.Begun.{Begun}
 use Rattle.turns.specs.Begins.{call_refusal, CallBegunAt, Starts}
 use Rattle.grammar.specs.Limits.{most}
 
@@ -89,7 +89,7 @@ starts_refused : {lent : Input} {S : Source} {depth nonterminal given : ℕ} {st
     → other ≡ call_refusal lent depth nonterminal state
     → {memory : List ℕ}
     → RemembersFor S.patterns S.bytes memory
-    → Starts lent S depth nonterminal given state (Refused cause) memory
+    → Starts lent S depth nonterminal given state (Err cause) memory
 starts_refused e h due m =
     record { begins = λ vs cells. rw e (h vs cells); refuses = e ∙ due; enters = tt; entered_chosen = tt; remembers = m }
 
@@ -105,14 +105,15 @@ module _ {S : Source} {room : List ℕ} (ready_room : Ready S room) (tokens : Li
 
   -- Refusal 19: no more calls may be open.
   pub starts_closed : {memory : List ℕ} → RemembersFor S.patterns S.bytes memory → depth ≡ 0 → {cause : Refusal} → cause ≡ refusal 19 state.at 0 0
-      → Ends (Refused cause) memory
+      → Ends (Err cause) memory
   starts_closed m e er =
       starts_refused er (λ vs cells. call_closed input nonterminal vs state cells depth e) (due_closed input nonterminal state depth e) m
 
   module _ (may_open : depth ≡ 0 → ⊥) where
     -- Refusal 20: no more calls may be begun.
-    pub starts_spent : {memory : List ℕ} → RemembersFor S.patterns S.bytes memory → most_calls ≤ state.calls → {cause : Refusal} → cause ≡ refusal 20 state.at 0 0
-        → Ends (Refused cause) memory
+    pub starts_spent : {memory : List ℕ} → RemembersFor S.patterns S.bytes memory → most_calls ≤ state.calls → {cause : Refusal}
+        → cause ≡ refusal 20 state.at 0 0
+        → Ends (Err cause) memory
     starts_spent m l er =
         starts_refused er (λ vs cells. call_by input nonterminal vs state cells depth may_open false (le-ltb state.calls most_calls l))
         (due_spent input nonterminal state depth may_open l) m
@@ -149,7 +150,7 @@ module _ {S : Source} {room : List ℕ} (ready_room : Ready S room) (tokens : Li
       -- Refusal 17: no rule fits.
       pub starts_nowhere : 256 ≤ place → {set : ℕ} → set ≡ get_or (first_sets_of S.bytes) nonterminal 0 → {cause : Refusal}
           → cause ≡ refusal 17 state.at set (ones set)
-          → Ends (Refused cause) memory
+          → Ends (Err cause) memory
       starts_nowhere l {set} es er =
           let ef : set ≡ get_or input.grammar.firsts nonterminal 0 = es ∙ ap (λ sets. get_or sets nonterminal 0) (sym firsts_are) in
           starts_refused (er ∙ ap (λ (k : ℕ). refusal 17 state.at k (ones k)) ef)
@@ -158,7 +159,7 @@ module _ {S : Source} {room : List ℕ} (ready_room : Ready S room) (tokens : Li
 
       -- The items of the rule that is chosen stand at the offset that the room has.
       pub starts_at : place < 256 → {start : ℕ} → start ≡ start_in room place → {next : State} → next ≡ call_begun state
-          → Ends (Entered (record { production = place; began = state.at; count = given; next = start }) next) memory
+          → Ends (Ok ((record { production = place; began = state.at; count = given; next = start }), next)) memory
       unfolding body alternative_at
       starts_at l {start} es {next} et =
           record {

@@ -1,4 +1,5 @@
 -- Laws of one turn: what is left of the call that goes on, and of the calls that wait, gives what the whole gives.
+use Rattle.std.specs.Prelude.{Ok, Err}
 use Prim.Native.Nat.{ℕ, ◌+◌, ◌-◌, ◌*◌, ◌^◌, ◌<◌, ◌≤◌}
 use mathlib.Core.Path.{◌≡◌, refl, sym, ap, ◌∙◌, subst}
 use mathlib.Core.List.{List, [], ◌∷◌, ◌++◌}
@@ -7,8 +8,7 @@ use lib.ListN.{length}
 use Rattle.answers.specs.declared.Refusal.{Refusal}
 use Rattle.grammar.specs.Table.{Item}
 use Rattle.expansion.specs.declared.State.{State}
-use Rattle.expansion.specs.declared.Outcome.{Outcome}
-use Rattle.expansion.specs.declared.Outcome.TheVariants.{Value, Halted}
+use Rattle.expansion.specs.Outcome.{Outcome}
 use Rattle.expansion.specs.Run.{Result, done, halt, Run, after}
 use Rattle.expansion.specs.Outcomes.{ran}
 use Rattle.expansion.specs.Expansion.{Input, build, run_items, run_call}
@@ -22,8 +22,7 @@ use Rattle.steps.specs.Steps.{body, weight, Steps, Onward, Advances, Stays}
 use Rattle.frames.specs.Frames.{frame_size, most_waiting, LevelFits, CallFits, Saved, Frame, resume, ahead, owed, Waits, Stacked}
 use Rattle.frames.specs.Frames.{stacked_none, stacked_one, Standing}
 use Rattle.frames.proofs.FrameLaws.{resume_halt, stacked_same, stacked_more, waits_next, waits_count, waits_fits, waits_saved, waits_holds}
-use Rattle.turns.specs.declared.begins.Begun.{Begun}
-use Rattle.turns.specs.declared.begins.Begun.TheVariants.{Refused, Entered}
+use Rattle.turns.specs.Begun.{Begun}
 use Rattle.turns.specs.declared.Resumption.{Resumption}
 use Rattle.steps.specs.declared.Activation.{Activation}
 use Rattle.steps.specs.declared.Cursor.{Cursor}
@@ -222,10 +221,10 @@ module _ {input : Input} {S : Source} {frames vars : List ℕ} {cursor : Cursor}
     given_by e = rw e at gives_all
 
     -- It refuses.
-    pub closed_halted : {refusal : Refusal} → outcome ≡ Halted refusal → ran outcome cells' ≡ result
+    pub closed_halted : {refusal : Refusal} → outcome ≡ Err refusal → ran outcome cells' ≡ result
     closed_halted e = rw e (halted (given_by e))
 
-    module _ {made_value : ℕ} {next : State} (equal : outcome ≡ Value made_value next) where
+    module _ {made_value : ℕ} {next : State} (equal : outcome ≡ Ok (made_value, next)) where
       -- No call waits.
       pub closed_root : cursor.level ≡ 0 → done made_value next cells' ≡ result
       unfolding resume
@@ -338,13 +337,13 @@ module _ {input : Input} {S : Source} {frames vars : List ℕ} {cursor : Cursor}
     begun_as e = subst (Begins input S depth callee' state') e starts.begins
 
     -- It refuses.
-    pub opened_refused : {refusal : Refusal} → begun ≡ Refused refusal → halt refusal cells ≡ result
+    pub opened_refused : {refusal : Refusal} → begun ≡ Err refusal → halt refusal cells ≡ result
     opened_refused {refusal} e =
         sym (resume_halt input S calling.waiting refusal cells)
         ∙ rw (sym (begun_as e calling.vs cells)) at calling.rest
 
     -- It is entered, and the call that called waits.
-    module _ {call : Activation} {further : State} (equal : begun ≡ Entered call further) where
+    module _ {call : Activation} {further : State} (equal : begun ≡ Ok (call, further)) where
       -- A production goes on where it is entered.
       opened_entry : CallBegunAt S depth state' call further
       opened_entry = subst (CallEntered S depth state') equal starts.enters

@@ -1,5 +1,5 @@
 -- What the code that begins a call answers. These definitions mirror code: nobody needs them to believe `expand`.
-use Rattle.std.specs.Prelude.{ℕ, ◌-◌, ◌<◌, ◌≡◌, true, false, List, eqb, ltb, get_or}
+use Rattle.std.specs.Prelude.{ℕ, ◌-◌, ◌<◌, ◌≡◌, true, false, List, eqb, ltb, get_or, Ok, Err}
 use Rattle.std.specs.Int.Count.{ones}
 use Rattle.answers.specs.declared.Refusal.{Refusal}
 use Rattle.answers.specs.Refusals.{refusal}
@@ -12,8 +12,7 @@ use Rattle.choices.specs.Chosen.{entries_for, chosen_place, chosen_start_for, Re
 use Rattle.steps.specs.Source.{Source, GoesOn}
 use Rattle.steps.specs.Steps.{body}
 use Rattle.steps.specs.declared.Activation.{Activation}
-use Rattle.turns.specs.declared.begins.Begun.{Begun}
-use Rattle.turns.specs.declared.begins.Begun.TheVariants.{Refused, Entered}
+use Rattle.turns.specs.Begun.{Begun}
 use Rattle.turns.specs.Lent.{Ready, lent_input}
 
 -- document 01's number and values of a call that is not entered: 19 if no more may be open, 20 if no more may be begun, else 17
@@ -30,18 +29,18 @@ call_refusal I depth n s =
 
 -- those of an answer, none if the call is entered
 abbrev pub numbered_begun : Input → ℕ → ℕ → State → Begun → Refusal
-numbered_begun I depth n s (Refused r) = call_refusal I depth n s
-numbered_begun I depth n s (Entered call t) = refusal 0 0 0 0
+numbered_begun I depth n s (Err r) = call_refusal I depth n s
+numbered_begun I depth n s (Ok (call, t)) = refusal 0 0 0 0
 
 -- a call of nonterminal n refuses, or goes on with the items and the result at an offset
 abbrev pub Begins : Input → Source → ℕ → ℕ → State → Begun → Type 0
-Begins I S depth n s (Refused r) = (vs cells : List ℕ) → halt r cells ≡ run_call depth I n vs s cells
-Begins I S depth n s (Entered call t) = (vs cells : List ℕ) → body (run_call (depth - 1) I) S call.next I vs t cells ≡ run_call depth I n vs s cells
+Begins I S depth n s (Err r) = (vs cells : List ℕ) → halt r cells ≡ run_call depth I n vs s cells
+Begins I S depth n s (Ok (call, t)) = (vs cells : List ℕ) → body (run_call (depth - 1) I) S call.next I vs t cells ≡ run_call depth I n vs s cells
 
 -- its refusal is the one that is due
 abbrev pub RefusesDuly : Input → ℕ → ℕ → State → Begun → Type 0
-RefusesDuly I depth n s (Refused r) = r ≡ numbered_begun I depth n s (Refused r)
-RefusesDuly I depth n s (Entered call t) = Unit {0}
+RefusesDuly I depth n s (Err r) = r ≡ numbered_begun I depth n s (Err r)
+RefusesDuly I depth n s (Ok (call, t)) = Unit {0}
 
 -- a production goes on at the offset, it is one of the productions, and one more call is begun
 pub record CallBegunAt (S : Source) (depth : ℕ) (s : State) (call : Activation) (t : State) : Type 0 where
@@ -52,8 +51,8 @@ pub record CallBegunAt (S : Source) (depth : ℕ) (s : State) (call : Activation
   pub begun : t ≡ call_begun s
 
 abbrev pub CallEntered : Source → ℕ → State → Begun → Type 0
-CallEntered S depth s (Refused r) = Unit {0}
-CallEntered S depth s (Entered call t) = CallBegunAt S depth s call t
+CallEntered S depth s (Err r) = Unit {0}
+CallEntered S depth s (Ok (call, t)) = CallBegunAt S depth s call t
 
 -- a call with so many arguments: the production that is chosen at the next token, from its first item on
 abbrev pub chosen_call : Input → Source → ℕ → ℕ → State → Activation
@@ -66,8 +65,8 @@ chosen_call I S n given s =
     }
 
 abbrev pub EntersChosen : Input → Source → ℕ → ℕ → State → Begun → Type 0
-EntersChosen I S n given s (Refused r) = Unit {0}
-EntersChosen I S n given s (Entered call t) = call ≡ chosen_call I S n given s
+EntersChosen I S n given s (Err r) = Unit {0}
+EntersChosen I S n given s (Ok (call, t)) = call ≡ chosen_call I S n given s
 
 -- all this, and choices are remembered
 pub record Starts (I : Input) (S : Source) (depth n given : ℕ) (s : State) (b : Begun) (memory : List ℕ) : Type 0 where

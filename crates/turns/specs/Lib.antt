@@ -1,3 +1,4 @@
+pub mod Begun
 pub mod Lent
 pub mod Begins
 pub mod Turns

@@ -5,8 +5,8 @@ ghost use Rattle.expansion.specs.Limits.{most_open, most_calls};
 ghost use Rattle.turns.specs.Lent.{MayBegin};
 ghost use Rattle.turns.specs.Begins.{StartsFor};
 
-use answers::causes::{TOO_MANY_CALLS, TOO_MANY_OPEN_CALLS};
-use answers::{Refusal, refuse};
+use answers::Refusal;
+use answers::causes::Cause;
 use choices::{MEMORY, choose, kinds_of};
 use expansion::{MOST_CALLS, State};
 use productions::room::{NO_PLACE, ROOM, start};
@@ -14,11 +14,7 @@ use scanner::room::{TOKEN, kind_at};
 use steps::{Activation, misfit};
 
 // How a call begins: it refuses, or a production is entered.
-#[derive(Drop)]
-pub enum Begun {
-    Refused(Refusal),
-    Entered(Activation, State),
-}
+pub type Begun = Result<(Activation, State), Refusal>;
 
 // The state with one more call begun.
 fn with_call(s: State) -> State
@@ -55,9 +51,9 @@ fn enter(
             count: given,
             next: start(room, place),
         };
-        return Begun::Entered(call, with_call(s));
+        return Ok((call, with_call(s)));
     }
-    Begun::Refused(misfit(s.at, kinds_of(room, nonterminal)))
+    Err(misfit(s.at, kinds_of(room, nonterminal)))
 }
 
 // The beginning of a call of a nonterminal with so many arguments, while `depth` more calls may be open: tested 19, 20, 17. It has one caller, the loop
@@ -75,10 +71,10 @@ pub fn begin(
     ensures { StartsFor room.now memory.old tokens.now depth nonterminal given s result memory.new }
 {
     if depth == 0 {
-        return Begun::Refused(refuse(TOO_MANY_OPEN_CALLS, s.at as u64, 0, 0));
+        return Err(Cause::TooManyOpenCalls.refuse(s.at as u64, 0, 0));
     }
     if MOST_CALLS <= s.calls {
-        return Begun::Refused(refuse(TOO_MANY_CALLS, s.at as u64, 0, 0));
+        return Err(Cause::TooManyCalls.refuse(s.at as u64, 0, 0));
     }
     enter(memory, room, tokens, nonterminal, given, s)
 }

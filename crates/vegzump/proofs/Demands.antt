@@ -12,14 +12,14 @@
 --   λ x. e,  x.f,  h.0,  h.1                     the function of x that gives e; field f of x; the first and the second part, of A ↔ B both directions
 --   data R .. where, record R .. where           R holds by one of these rules, and by no other; R holds if all of these fields do
 --   [],  x ∷ xs,  xs ++ ys,  get_or xs i d       no member; x, then xs; xs, then ys; member i, counted from 0, and d where there is none
+use Rattle.std.specs.Prelude.{Ok, Err}
 use Prim.Native.Nat.{ℕ, ◌*◌, ◌≤◌, ◌<◌}
 use mathlib.Core.Path.{◌≡◌, refl}
 use mathlib.Core.Logic.{◌↔◌, ◌⊎◌}
 use mathlib.Core.List.{List, [], ◌∷◌, ◌++◌}
 use lib.ListN.{length, get_or, take, drop}
 use Rattle.answers.specs.declared.Refusal.{Refusal}
-use Rattle.answers.specs.declared.Answer.TheVariants.{Accepted, Refusing}
-use Rattle.answers.specs.declared.Verdict.TheVariants.{Passed, Refused}
+use Rattle.answers.specs.Refusals.{accepted}
 use Rattle.grammar.specs.Table.{Template, Templates, none, Item, call}
 use Rattle.grammar.specs.Sorts.{Signature}
 use Rattle.judgements.specs.Judgements.{Newest, ItemSorted, Body}
@@ -60,11 +60,11 @@ use Rattle.vegzump.proofs.Refusing.{call_refuses}
 -- nothing.
 module _ (table : List ℕ) (bytes : (at : ℕ) → get_or table at 0 < 256) where
   -- The check passes a table exactly if it passes by the rules: the third promise of `check_table`.
-  pub check_exactly : (check table ≡ Passed) ↔ Passes table
+  pub check_exactly : (check table ≡ Ok tt) ↔ Passes table
   check_exactly = checks.check_exactly table bytes
 
   -- It gives a refusal exactly if the rules of 1 to 13 do: the fourth promise of `check_table`.
-  pub check_refused_exactly : (refusal : Refusal) → (check table ≡ Refused refusal) ↔ RefusesTable table refusal
+  pub check_refused_exactly : (refusal : Refusal) → (check table ≡ Err refusal) ↔ RefusesTable table refusal
   check_refused_exactly = causes.refused_exactly table bytes
 
   -- A table passes, or is refused by these rules,
@@ -82,7 +82,7 @@ module _ (write : Term Name → List ℕ) (table formula cells text : List ℕ) 
   X = expand_by write table formula cells text
 
   -- Demand 2: a table that its check refuses gets that refusal, and nothing that was lent changes.
-  pub refused_by_check : {refusal : Refusal} → check table ≡ Refused refusal → X ≡ expanded (Refusing refusal) cells text
+  pub refused_by_check : {refusal : Refusal} → check table ≡ Err refusal → X ≡ expanded (Err refusal) cells text
   refused_by_check refused = expand_refused write table refused formula cells text
 
   -- So a table of bytes that does not pass gets the one refusal that the rules of 1 to 13 give: the fourth promise of `expand`.
@@ -106,12 +106,12 @@ module _ (write : Term Name → List ℕ) (table formula cells text : List ℕ) 
     by_syntax = expand_passed write table passes formula cells text
 
     -- A refusal is given exactly in its case of document 01's table of causes, with the values listed there.
-    pub refused_exactly : (refusal : Refusal) → (X.answer ≡ Refusing refusal) ↔ Cause write syntax formula cells text refusal
+    pub refused_exactly : (refusal : Refusal) → (X.answer ≡ Err refusal) ↔ Cause write syntax formula cells text refusal
     refused_exactly = rw by_syntax (exactly.refused_exactly write passes.table (passing_of passes) formula cells text)
 
     -- A formula is accepted exactly if Figure 3 derives a term that `Accepts` asks for; `made`, `size`, `bytes`: its cells, constructors, bytes.
     pub accepted_exactly : (made size bytes : ℕ)
-        → (X.answer ≡ Accepted made size bytes) ↔ ((meant : Term Name) × Accepts write syntax formula cells text meant made size bytes)
+        → (X.answer ≡ accepted made size bytes) ↔ ((meant : Term Name) × Accepts write syntax formula cells text meant made size bytes)
     accepted_exactly = rw by_syntax (exactly.accepted_exactly write passes.table (passing_of passes) formula cells text)
 
     -- Figure 3 derives one term at most.
@@ -119,12 +119,12 @@ module _ (write : Term Name → List ℕ) (table formula cells text : List ℕ) 
     one_term = means_one passes.table (passing_of passes) formula
 
     -- What is written of that term stands in the text of an acceptance, with what was lent behind it.
-    pub accepted_text : (made size bytes : ℕ) → X.answer ≡ Accepted made size bytes → {meant : Term Name}
+    pub accepted_text : (made size bytes : ℕ) → X.answer ≡ accepted made size bytes → {meant : Term Name}
         → Means syntax formula meant → X.text ≡ write meant ++ drop (length (write meant)) text
     accepted_text = rw by_syntax (exactly.accepted_text write passes.table (passing_of passes) formula cells text)
 
     -- A row of those made shows that term, whatever the other rows held, and each row made has the code of a constructor.
-    pub accepted_cells : (made size bytes : ℕ) → X.answer ≡ Accepted made size bytes → {meant : Term Name} (means : Means syntax formula meant)
+    pub accepted_cells : (made size bytes : ℕ) → X.answer ≡ accepted made size bytes → {meant : Term Name} (means : Means syntax formula meant)
         → ((row : ℕ) × (row < made) × (term_at made (spell_of syntax means.words) (take (made * columns) X.cells) row ≡ meant))
         × ((row : ℕ) → row < made → (0x20 ≤ column X.cells row 0) × (column X.cells row 0 ≤ 0x27))
     accepted_cells = rw by_syntax (exactly.accepted_cells write passes.table (passing_of passes) formula cells text)
@@ -186,7 +186,7 @@ module _ (table formula cells text : List ℕ) where
 
   -- New names, `_1`, `_2` and on from the left, go to each fresh binder, to each formula binder whose body holds an outside name of its spelling, and to
   -- their variables; all other names are as written, and so are variables that no binder has: `Named` (meaning/specs/Naming), apart from `rename`.
-  pub accepted_names : (passes : Passes table) (made size bytes : ℕ) → E.answer ≡ Accepted made size bytes → {meant : Term Name}
+  pub accepted_names : (passes : Passes table) (made size bytes : ℕ) → E.answer ≡ accepted made size bytes → {meant : Term Name}
       → Means (syntax_of passes.table) formula meant
       → (shown : Term (List ℕ)) × (next : ℕ) × Named [] 1 meant shown next × (E.text ≡ print shown ++ drop (length (print shown)) text)
   accepted_names passes made size bytes accepted = hygiene.accepted_names (demand_3 passes) accepted

@@ -9,7 +9,7 @@ use lib.ListN.{length, get_or, take, drop, length-append, length-take, length-dr
 use lib.Seq.{take_all, take-nil, take_at, drop_at, take-append-add, drop-append-add, drop-drop, length-take-le, drop-cons, get_or-take}
 use lib.Seq.{sets, length-sets, sets-eq}
 use borrow.Rule.Slice.PartMut.{put_mid, mid_of}
-use Rattle.answers.specs.declared.Answer.{Answer}
+use Rattle.answers.specs.Refusals.{Answer}
 use Rattle.terms.specs.Emit.{text_of}
 use Rattle.meaning.specs.Expand.{Expanded, expanded, expand}
 use Rattle.meaning.specs.Each.{formula_in, numbers_of, numbers_each, written, Series, alone, behind, expand_all, expand_each}

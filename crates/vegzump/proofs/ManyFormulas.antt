@@ -1,11 +1,11 @@
 -- What is promised of many formulas under one table, which is checked once: at each place the answer, the cells and the text are those of `expand`. The call
 -- `expand_each` promises `expand_each` (meaning/specs/Each) by equation; what `expand` answers is on the page of the demands.
+use Rattle.std.specs.Prelude.{Err}
 use Prim.Native.Nat.{ℕ, suc, ◌*◌, ◌/◌, ◌<◌, min}
 use mathlib.Core.Path.{◌≡◌, refl}
 use mathlib.Core.List.{List, [], ◌∷◌}
 use lib.ListN.{length, get_or, take, drop}
 use Rattle.answers.specs.declared.Refusal.{Refusal}
-use Rattle.answers.specs.declared.Answer.TheVariants.{Refusing}
 use Rattle.checker.specs.Passes.{Passes}
 use Rattle.causes.specs.Unlaid.{RefusesTable}
 use Rattle.causes.proofs.CauseTheorems.{refused_exactly as table-refused}
@@ -59,7 +59,7 @@ module _ (table formulas ends answers cells text : List ℕ) where
   -- A table of bytes that does not pass gets the one refusal that the rules of 1 to 13 give at every place, and the cells and the text stay as they were.
   pub each_not_passed : ((at : ℕ) → get_or table at 0 < 256) → (Passes table → ⊥)
       → (cause : Refusal) × RefusesTable table cause
-      × ((i : ℕ) → i < E.count → take numbers_each (drop (i * numbers_each) E.answers) ≡ numbers_of (Refusing cause))
+      × ((i : ℕ) → i < E.count → take numbers_each (drop (i * numbers_each) E.answers) ≡ numbers_of (Err cause))
       × (E.cells ≡ cells) × (E.text ≡ text)
   each_not_passed bytes fails =
       let (cause, given, left) = not-passed-table text_of table bytes [] [] [] fails in (

@@ -1,14 +1,14 @@
 -- What is promised of a formula's numbers for another count of portions (document 02, C-11). The call promises `portions` (vegzump/specs/Portions) by
 -- equation. What it answers, by rules: `Cause` and `Accepts` (meaning/specs/Meaning), as on the page of the demands; what it lists: `Portioned`
 -- (portions/specs/Portioned), which shares nothing with what computes the list.
+use Rattle.std.specs.Prelude.{Err}
 use Prim.Native.Nat.{ℕ, ◌<◌, ◌≤◌}
 use mathlib.Core.Path.{◌≡◌}
 use mathlib.Core.Logic.{◌↔◌}
 use mathlib.Core.List.{List, ◌++◌}
 use lib.ListN.{length, drop}
 use Rattle.answers.specs.declared.Refusal.{Refusal}
-use Rattle.answers.specs.declared.Answer.TheVariants.{Accepted, Refusing}
-use Rattle.answers.specs.Refusals.{refusal}
+use Rattle.answers.specs.Refusals.{accepted, refusal}
 use Rattle.checker.specs.Syntax.{Syntax, syntax_of}
 use Rattle.checker.specs.Passes.{Passes}
 use Rattle.terms.specs.Term.{Name, Term}
@@ -44,17 +44,17 @@ module _ (written wanted : ℕ) (table formula cells list : List ℕ) where
       syntax = syntax_of passes.table
 
       -- A refusal is given exactly in its case, 24 with how many 64-bit numbers the list has.
-      pub refused_exactly : (cause : Refusal) → (X.answer ≡ Refusing cause) ↔ Cause (portions_of written wanted) syntax formula cells list cause
+      pub refused_exactly : (cause : Refusal) → (X.answer ≡ Err cause) ↔ Cause (portions_of written wanted) syntax formula cells list cause
       refused_exactly = rw as_expansion (demands.refused_exactly (portions_of written wanted) table formula cells list passes)
 
       -- A formula is accepted exactly if Figure 3 derives a term that `Accepts` asks for; `count`: the 64-bit numbers of its list.
-      pub accepted_exactly : (made size count : ℕ) → (X.answer ≡ Accepted made size count)
+      pub accepted_exactly : (made size count : ℕ) → (X.answer ≡ accepted made size count)
           ↔ ((meant : Term Name) × Accepts (portions_of written wanted) syntax formula cells list meant made size count)
       accepted_exactly = rw as_expansion (demands.accepted_exactly (portions_of written wanted) table formula cells list passes)
 
       -- By rules exactly one list has, for each mkTermNum of that term from the left, its number, the grams and a remainder below `written` with
       -- grams × written + remainder = number × wanted; it stands in front of what was lent.
-      pub accepted_list : (made size count : ℕ) → X.answer ≡ Accepted made size count → {meant : Term Name} → Means syntax formula meant
+      pub accepted_list : (made size count : ℕ) → X.answer ≡ accepted made size count → {meant : Term Name} → Means syntax formula meant
           → (out : List ℕ) × ((other : List ℕ) → Portioned written wanted meant other ↔ (other ≡ out)) × (X.text ≡ out ++ drop (length out) list)
       accepted_list made size count accepted {meant} means = (
         portions_of written wanted meant,

@@ -1,4 +1,5 @@
 -- The call for portions: its counts, and the expansion behind them.
+use Rattle.std.specs.Prelude.{Err}
 use Prim.Native.Nat.{ℕ, ◌<◌, ◌≤◌}
 use mathlib.Core.Path.{◌≡◌, refl, sym, ◌∙◌}
 use mathlib.Core.Bool.{Bool, true, false, ◌&&◌}
@@ -8,9 +9,7 @@ use lib.Dec.{leb}
 use borrow.Author.Tests.{leb-true, le-leb}
 use Rattle.spellings.proofs.BytesLaws.{by_test}
 use Rattle.answers.specs.declared.Refusal.{Refusal}
-use Rattle.answers.specs.declared.Answer.{Answer}
-use Rattle.answers.specs.declared.Answer.TheVariants.{Refusing}
-use Rattle.answers.specs.Refusals.{refusal}
+use Rattle.answers.specs.Refusals.{Answer, refusal}
 use Rattle.portions.specs.Portions.{portions_of, most_portions, are_counts}
 use Rattle.emitter.specs.declared.Writing.TheVariants.{Portions}
 use Rattle.emitter.specs.Writing.{Writable}
@@ -67,5 +66,5 @@ module _ (written wanted : ℕ) {allowed : Bool} (told : allowed ≡ are_counts 
 
   -- Else the call is refused.
   pub portions_refused : (table formula cells list : List ℕ) {cause : Refusal} → allowed ≡ false → cause ≡ refusal 25 0 0 0
-      → expanded (Refusing cause) cells list ≡ portions written wanted table formula cells list
+      → expanded (Err cause) cells list ≡ portions written wanted table formula cells list
   portions_refused table formula cells list e c = rw c (sym (counts_refused written wanted table formula cells list (sym told ∙ e)))

@@ -1,13 +1,12 @@
 -- What the calls answer to a table that does not pass: the refusal that the rules of 1 to 13 give.
+use Rattle.std.specs.Prelude.{Err}
 use Prim.Native.Nat.{ℕ, ◌<◌}
 use mathlib.Core.Path.{◌≡◌, ap, ◌∙◌}
 use mathlib.Core.Logic.{◌↔◌}
 use mathlib.Core.List.{List}
 use lib.ListN.{get_or}
 use Rattle.answers.specs.declared.Refusal.{Refusal}
-use Rattle.answers.specs.declared.Answer.{Answer}
-use Rattle.answers.specs.declared.Verdict.{Verdict}
-use Rattle.answers.specs.declared.Verdict.TheVariants.{Refused}
+use Rattle.answers.specs.Refusals.{Answer, Verdict}
 use Rattle.checker.specs.Check.{check}
 use Rattle.causes.specs.Unlaid.{RefusesTable, NotPassed}
 use Rattle.causes.proofs.CauseTheorems.{refused_exactly, refused_once}
@@ -17,7 +16,7 @@ use Rattle.meaning.proofs.Exactly.{not_passed}
 
 module _ (table : List ℕ) (bytes : (at : ℕ) → get_or table at 0 < 256) where
   -- A verdict as `check_table` promises it is a refusal exactly if the rules give that refusal.
-  pub verdict_refuses : {verdict : Verdict} → verdict ≡ check table → (cause : Refusal) → (verdict ≡ Refused cause) ↔ RefusesTable table cause
+  pub verdict_refuses : {verdict : Verdict} → verdict ≡ check table → (cause : Refusal) → (verdict ≡ Err cause) ↔ RefusesTable table cause
   verdict_refuses e cause = rw e (refused_exactly table bytes cause)
 
   -- A call that answers as an expansion does gives a table that does not pass its one refusal, and leaves all that was lent as it was.

@@ -24,8 +24,8 @@ fn written(answer: Answer) -> usize
     ensures { result ≡ the-written-Each answer }
 {
     match answer {
-        Answer::Accepted(_, _, size) => size,
-        Answer::Refusing(_) => 0,
+        Ok(made) => made.length,
+        Err(_) => 0,
     }
 }
 

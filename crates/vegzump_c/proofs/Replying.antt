@@ -2,8 +2,7 @@
 use mathlib.Core.Path.{◌≡◌, ap, ◌∙◌}
 use mathlib.Core.List.{List}
 use Prim.Native.Nat.{ℕ}
-use Rattle.answers.specs.declared.Answer.{Answer}
-use Rattle.answers.specs.Refusals.{numbered}
+use Rattle.answers.specs.Refusals.{Answer, numbered}
 use Rattle.vegzump_c.specs.declared.Reply.{Reply}
 use Rattle.meaning.specs.Expand.{Expanded, expanded}
 use Rattle.vegzump_c.specs.Replies.{reply, replied, reply_of}

@@ -65,8 +65,11 @@ Else2 = lts.Else2 tie.the-claims reads.Pre reads.Post goal.the-invariant-loop-ce
 abbrev PastAfterEnumTold : Type 0
 PastAfterEnumTold = lts.Past-After-enum_told tie.the-claims reads.Pre reads.Post goal.the-invariant-loop-cells goal.the-decreases-loop-cells
 
-abbrev PastAfterEnumTold2 : Type 0
-PastAfterEnumTold2 = lts.Past-After-enum_told2 tie.the-claims reads.Pre reads.Post goal.the-invariant-loop-cells goal.the-decreases-loop-cells
+abbrev PastAfterEnumToldAt4 : Type 0
+PastAfterEnumToldAt4 = lts.Past-After-enum_told_at4 tie.the-claims reads.Pre reads.Post goal.the-invariant-loop-cells goal.the-decreases-loop-cells
+
+abbrev PastAfterT : Type 0
+PastAfterT = lts.Past-After-t tie.the-claims reads.Pre reads.Post goal.the-invariant-loop-cells goal.the-decreases-loop-cells
 
 abbrev PastAfterKnownTold : Type 0
 PastAfterKnownTold = lts.Past-After-known_told tie.the-claims reads.Pre reads.Post goal.the-invariant-loop-cells goal.the-decreases-loop-cells
@@ -77,14 +80,11 @@ PastAfterKnownTold2 = lts.Past-After-known_told2 tie.the-claims reads.Pre reads.
 abbrev PastAfterKnownTold3 : Type 0
 PastAfterKnownTold3 = lts.Past-After-known_told3 tie.the-claims reads.Pre reads.Post goal.the-invariant-loop-cells goal.the-decreases-loop-cells
 
-abbrev PastAfterKnownTold4 : Type 0
-PastAfterKnownTold4 = lts.Past-After-known_told4 tie.the-claims reads.Pre reads.Post goal.the-invariant-loop-cells goal.the-decreases-loop-cells
+abbrev PastAfterR : Type 0
+PastAfterR = lts.Past-After-r tie.the-claims reads.Pre reads.Post goal.the-invariant-loop-cells goal.the-decreases-loop-cells
 
-abbrev PastAfterKnownTold5 : Type 0
-PastAfterKnownTold5 = lts.Past-After-known_told5 tie.the-claims reads.Pre reads.Post goal.the-invariant-loop-cells goal.the-decreases-loop-cells
-
-abbrev PastAfterKnownTold6 : Type 0
-PastAfterKnownTold6 = lts.Past-After-known_told6 tie.the-claims reads.Pre reads.Post goal.the-invariant-loop-cells goal.the-decreases-loop-cells
+abbrev PastAfterU : Type 0
+PastAfterU = lts.Past-After-u tie.the-claims reads.Pre reads.Post goal.the-invariant-loop-cells goal.the-decreases-loop-cells
 
 abbrev Start : Type 0
 Start = lts.Start tie.the-claims reads.Pre reads.Post goal.the-invariant-loop-cells goal.the-decreases-loop-cells
@@ -261,10 +261,10 @@ module _ (point : AfterFinish) where
   f_stack : length point.finish-outcome.new.stack ≡ length (here f-place).stack
   f_stack = point.finish-outcome.auto.stack ∙ stack_same f-step
 
-abbrev refused-by : PastAfterEnumTold2 → AfterFinish
+abbrev refused-by : PastAfterEnumToldAt4 → AfterFinish
 refused-by t = t.before.before.before.before.before
 
-abbrev given_by : PastAfterKnownTold → AfterFinish
+abbrev given_by : PastAfterT → AfterFinish
 given_by t = t.before.before.before.before.before
 
 -- after the call that waits goes on
@@ -272,7 +272,7 @@ module _ (point : AfterReturned) where
   abbrev waited : Else1
   waited = point.before.before
 
-  abbrev valued-at : PastAfterKnownTold
+  abbrev valued-at : PastAfterT
   valued-at = waited.before
 
   abbrev r-place : AtLoop
@@ -284,11 +284,11 @@ module _ (point : AfterReturned) where
       point.returned-c.new.vars (f_last (given_by valued-at)) point.returned-c.result
   leaves may s =
       let f = given_by valued-at in
-      laws.closed_on (going f may s) (resulting f may) valued-at.in-Value.is waited.if-level-eq0.false point.returned-c.ensures (small r-place may)
+      laws.closed_on (going f may s) (resulting f may) valued-at.in-Ok.is waited.if-level-eq0.false point.returned-c.ensures (small r-place may)
 
 -- after a call is begun
 module _ (point : AfterBegin) where
-  abbrev opened : PastAfterKnownTold4
+  abbrev opened : PastAfterKnownTold3
   opened = point.before.before
 
   abbrev b-step : AfterItemStep
@@ -325,7 +325,7 @@ module _ (point : AfterBegin) where
 
 -- after a call is entered
 module _ (point : AfterEntered) where
-  abbrev entered_at : PastAfterKnownTold6
+  abbrev entered_at : PastAfterU
   entered_at = point.before.before.before.before
 
   abbrev e-begin : AfterBegin
@@ -357,7 +357,7 @@ module _ (point : Else2) where
       t-entered.entered-c.new.vars (cells' (b-step (e-begin t-entered))) t-entered.entered-c.result
   enters may s =
       let b = e-begin t-entered in
-      laws.opened_on (calls b may s) (starts b may) (entered_at t-entered).in-Entered.is t-entered.entered-c.ensures (e_frames t-entered)
+      laws.opened_on (calls b may s) (starts b may) (entered_at t-entered).in-Ok-begun.is t-entered.entered-c.ensures (e_frames t-entered)
       (small t-place may) point.if-frames-level.false
 
 pub loop-cells-init : goal.loop-cells-init
@@ -399,7 +399,7 @@ returns-then-level-eq0 c =
     λ patterns asks.
     let may = asked (f-place f) asks in
     record {
-      goes = λ R s. laws.closed_root (going f may (begins (f-place f) s)) (resulting f may) o.in-Value.is c.if-level-eq0.true;
+      goes = λ R s. rw o.in-Ok.is (laws.closed_root (going f may (begins (f-place f) s)) (resulting f may) o.in-Ok.is c.if-level-eq0.true);
       remembers = (inv (f-place f) may).remembers;
     }
 
@@ -409,7 +409,7 @@ returned-c-requires c =
     let o = c.before.before.before in
     let f = given_by o in
     let may = some (f-place f) in
-    laws.below_fits (going f may may.stood) (resulting f may) o.in-Value.is else_place.if-level-eq0.false
+    laws.below_fits (going f may may.stood) (resulting f may) o.in-Ok.is else_place.if-level-eq0.false
 
 pub loop-cells-smaller-in-Finished : goal.loop-cells-smaller-in-Finished
 loop-cells-smaller-in-Finished c = let may = some (r-place c.before) in (leaves c.before may may.stood).less
@@ -421,7 +421,7 @@ loop-cells-preserved-in-Finished c =
     let w = inv (r-place c.before) may in
     laws.turning_next w _ (f_cells f) (f_stack f) refl w.remembers (λ R s. (leaves c.before may s).stands)
 
-abbrev stopped_by : PastAfterKnownTold2 → AfterItemStep
+abbrev stopped_by : PastAfterKnownTold → AfterItemStep
 stopped_by s = s.before.before.before.before.before
 
 pub returns-in-Stopped : goal.returns-in-Stopped
@@ -435,7 +435,7 @@ returns-in-Stopped c =
       remembers = w.remembers;
     }
 
-abbrev taken-by : PastAfterKnownTold3 → AfterItemStep
+abbrev taken-by : PastAfterKnownTold2 → AfterItemStep
 taken-by s = s.before.before.before.before.before
 
 pub valued-c-requires : goal.valued-c-requires
@@ -447,7 +447,7 @@ valued-c-requires c =
 
 -- after a value
 module _ (point : AfterValued) where
-  abbrev taken : PastAfterKnownTold3
+  abbrev taken : PastAfterKnownTold2
   taken = point.before.before
 
   abbrev v-place : AtLoop
@@ -471,7 +471,7 @@ loop-cells-preserved-in-Taken c =
     let w = inv (place p) may in
     laws.turning_next w _ (cells_same p) (stack_same p) refl w.remembers (λ R s. (moves c.before may s).stands)
 
-abbrev opened-by : PastAfterKnownTold4 → AtLoop
+abbrev opened-by : PastAfterKnownTold3 → AtLoop
 opened-by s = place s.before.before.before.before.before
 
 pub overflow_sub-level-in-Opened : goal.overflow_sub-level-in-Opened
@@ -486,16 +486,16 @@ begin-begun-requires c =
       tokens_fit = (lent l).tokens_fit;
     }
 
-abbrev refuses-by : PastAfterKnownTold5 → AfterBegin
+abbrev refuses-by : PastAfterR → AfterBegin
 refuses-by t = t.before
 
-pub returns-in-Refused : goal.returns-in-Refused
-returns-in-Refused c =
+pub returns-in-Err : goal.returns-in-Err
+returns-in-Err c =
     let b = refuses-by c.before in
     λ patterns asks.
     let may = asked (b-place b) asks in
     record {
-      goes = λ R s. laws.opened_refused (calls b may (begins (b-place b) s)) (starts b may) c.in-Refused.is;
+      goes = λ R s. laws.opened_refused (calls b may (begins (b-place b) s)) (starts b may) c.in-Err.is;
       remembers = (starts b may).remembers;
     }
 
@@ -516,7 +516,7 @@ paused-requires c =
     let e = pauses-at c.before.before.before in
     let b = e-begin e in
     let may = some (b-place b) in
-    laws.opened_savable (calls b may may.stood) (starts b may) (entered_at e).in-Entered.is e.entered-c.ensures (e_frames e) (small (b-place b) may)
+    laws.opened_savable (calls b may may.stood) (starts b may) (entered_at e).in-Ok-begun.is e.entered-c.ensures (e_frames e) (small (b-place b) may)
 
 -- after the call that is entered is saved too
 module _ (point : AfterPaused) where
@@ -539,7 +539,7 @@ returns-then-frames-level c =
     record {
       goes =
           λ R s.
-          laws.opened_paused (calls b may (begins (b-place b) s)) (starts b may) (entered_at e).in-Entered.is e.entered-c.ensures (e_frames e)
+          laws.opened_paused (calls b may (begins (b-place b) s)) (starts b may) (entered_at e).in-Ok-begun.is e.entered-c.ensures (e_frames e)
           (small (b-place b) may) q.paused.ensures q.paused.auto.frames (full q).if-frames-level.true;
       remembers = (starts b may).remembers;
     }

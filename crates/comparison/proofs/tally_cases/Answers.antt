@@ -1,7 +1,7 @@
 -- `tally_cases`: what is left gives what the whole file gives.
-use mathlib.Core.Path.{◌≡◌, sym, ap, ◌∙◌}
+use mathlib.Core.Path.{sym, ap, ◌∙◌}
 use native.Mathlib.Omega.{arith}
-use Rattle.std.specs.Prelude.{Ok, Some}
+use Rattle.std.specs.Prelude.{Ok}
 use Rattle.std.proofs.lemmas.Result.{err_from_is_err_and}
 use Rattle.cases.proofs.CaseLaws.{next_within}
 use Rattle.cases.proofs.TallyLaws.{tallying_start, tallying_next, tallying_end, tallying_broken}

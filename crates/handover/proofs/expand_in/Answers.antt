@@ -2,6 +2,7 @@
 use mathlib.Core.Path.{sym}
 use native.Mathlib.Omega.{arith}
 use lib.Seq.{length-take-le}
+use Rattle.std.proofs.lemmas.Result.{err_from_is_err_and}
 use Rattle.decoding.proofs.Split.{Bytes}
 use Rattle.handover.proofs.LastStep as last_step
 use Rattle.handover.proofs.expand_in.Goals as goal
@@ -9,32 +10,33 @@ use Rattle.handover.proofs.expand_in.Goals as goal
 pub overflow_mul-end : goal.overflow_mul-end
 overflow_mul-end c =
     let bytes : Bytes c.args.table.now = λ i. omega (arith, c.type_inv.table i) in
-    omega (arith, (last_step.rows_lie _ bytes c.requires.parseable _ c.parse_passed-parsed.ensures c.in-Value.is).few)
+    omega (arith, (last_step.rows_lie _ bytes c.requires.parseable _ c.parse_passed.ensures c.in_ok-parsed.was).few)
 
 pub slice_bounds-emit-end : goal.slice_bounds-emit-end
 slice_bounds-emit-end c =
     let bytes : Bytes c.args.table.now = λ i. omega (arith, c.type_inv.table i) in
-    (last_step.rows_lie _ bytes c.requires.parseable _ c.parse_passed-parsed.ensures c.in-Value.is).inside
+    (last_step.rows_lie _ bytes c.requires.parseable _ c.parse_passed.ensures c.in_ok-parsed.was).inside
 
-pub slice_bounds-emit-end-in-Value : goal.slice_bounds-emit-end-in-Value
-slice_bounds-emit-end-in-Value c =
+pub slice_bounds-emit-end-2 : goal.slice_bounds-emit-end-2
+slice_bounds-emit-end-2 c =
     let bytes : Bytes c.args.table.now = λ i. omega (arith, c.type_inv.table i) in
-    sym (length-take-le _ _ (last_step.rows_lie _ bytes c.requires.parseable _ c.parse_passed-parsed.ensures c.in-Value.is).inside)
+    sym (length-take-le _ _ (last_step.rows_lie _ bytes c.requires.parseable _ c.parse_passed.ensures c.in_ok-parsed.was).inside)
 
 pub emit-requires : goal.emit-requires
 emit-requires c =
     let bytes : Bytes c.args.table.now = λ i. omega (arith, c.type_inv.table i) in
     record {
-      emittable = last_step.emittable _ bytes c.requires.parseable _ c.parse_passed-parsed.ensures c.in-Value.is;
+      emittable = last_step.emittable _ bytes c.requires.parseable _ c.parse_passed.ensures c.in_ok-parsed.was;
       writable = c.requires.writable;
     }
 
-pub returns-in-Halted : goal.returns-in-Halted
-returns-in-Halted c =
+pub returns-in_err-parsed : goal.returns-in_err-parsed
+returns-in_err-parsed c =
     let bytes : Bytes c.args.table.now = λ i. omega (arith, c.type_inv.table i) in
-    last_step.call_refuses _ bytes c.requires.parseable _ c.parse_passed-parsed.ensures _ _ _ c.in-Halted.is
+    let p = err_from_is_err_and c.from_residual.result c.from_residual.ensures.1 in
+    rw (p.1, p.2) (last_step.call_refuses _ bytes c.requires.parseable _ c.parse_passed.ensures _ _ _ c.in_err-parsed.was)
 
-pub returns-in-Value : goal.returns-in-Value
-returns-in-Value c =
+pub returns : goal.returns
+returns c =
     let bytes : Bytes c.args.table.now = λ i. omega (arith, c.type_inv.table i) in
-    last_step.emits _ bytes c.requires.parseable _ c.parse_passed-parsed.ensures c.in-Value.is c.emit.ensures
+    last_step.emits _ bytes c.requires.parseable _ c.parse_passed.ensures c.in_ok-parsed.was c.emit.ensures

@@ -4,6 +4,7 @@ use mathlib.Core.Path.{◌≡◌, sym, ◌∙◌}
 use mathlib.Core.List.{List}
 use lib.ListN.{length, take, drop, length-take}
 use borrow.Author.Tests.{eqb-true}
+use Rattle.std.proofs.lemmas.Result.{err_from_is_err_and}
 use Rattle.grammar.proofs.LookupLaws.{front_inside}
 use Rattle.decoding.specs.Layout.{initial_progress}
 use Rattle.layout.proofs.RememberedLaws.{remembered_start, keyword_room, outside_room, remembered_next}
@@ -47,11 +48,13 @@ overflow_add-to c = omega (arith, front_inside c.args.table.now c.loop-tag.at (s
 pub slice_bounds-v-end : goal.slice_bounds-v-end
 slice_bounds-v-end c = omega (arith, front_inside c.args.table.now c.loop-tag.at (sym c.in-Field.is ∙ c.front_at-front.ensures))
 
-pub returns-in-Err : goal.returns-in-Err
-returns-in-Err c =
+pub returns-in_err-checked-in-Field : goal.returns-in_err-checked-in-Field
+returns-in_err-checked-in-Field c =
+    let p = err_from_is_err_and c.from_residual.result c.from_residual.ensures.1 in
     let stands = sym c.in-Field.is ∙ c.front_at-front.ensures in
-    laws.turn_stopped c.loop-tag.invariant.0 stands c.if-table-gt-LONGEST_TABLE.false
-    (sym c.in-Err.is ∙ c.check_field-checked.ensures)
+    rw (p.1, p.2)
+    (laws.turn_stopped c.loop-tag.invariant.0 stands c.if-table-gt-LONGEST_TABLE.false
+    c.in_err-checked-in-Field.ensures)
 
 pub loop-tag-smaller : goal.loop-tag-smaller
 loop-tag-smaller c = omega (arith, front_inside c.args.table.now c.loop-tag.at (sym c.in-Field.is ∙ c.front_at-front.ensures))
@@ -67,7 +70,7 @@ remember-requires c =
     let lent : List ℕ = take (at + 3 + size - (at + 3)) (drop (at + 3) table) in
     let place : at + 3 ≤ 65536 = omega (arith, inside) in
     let small : length lent ≤ 65536 = omega (arith, length-take (at + 3 + size - (at + 3)) (drop (at + 3) table), inside) in
-    let further = sym c.in-Ok.is ∙ c.check_field-checked.ensures in
+    let further = c.in_ok-checked-in-Field.ensures in
     record {
       as_keyword =
           record {
@@ -88,7 +91,7 @@ remember-requires c =
 pub loop-tag-preserved : goal.loop-tag-preserved
 loop-tag-preserved c =
     let stands = sym c.in-Field.is ∙ c.front_at-front.ensures in
-    let further = sym c.in-Ok.is ∙ c.check_field-checked.ensures in
+    let further = c.in_ok-checked-in-Field.ensures in
     let e = c.remember.ensures in (
       laws.turn_next c.loop-tag.invariant.0 stands further,
       remembered_next c.loop-tag.invariant.0 c.loop-tag.invariant.1 stands further e.keywords_are e.outsides_are,

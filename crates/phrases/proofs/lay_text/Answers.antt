@@ -3,11 +3,11 @@ use Rattle.rooms.proofs.LayingLaws.{lays_then}
 use Rattle.phrases.specs.Output.{text_line}
 use Rattle.phrases.proofs.lay_text.Goals as goal
 
-pub returns-in-Accepted : goal.returns-in-Accepted
+pub returns-in-Ok : goal.returns-in-Ok
 unfolding text_line
-returns-in-Accepted c =
-    rw c.in-Accepted.is (lays_then (rw c.front.ensures at c.lay-n.ensures) c.lay.ensures)
+returns-in-Ok c =
+    rw c.in-Ok.is (lays_then (rw c.front.ensures at c.lay-n.ensures) c.lay.ensures)
 
-pub returns-in-Refusing : goal.returns-in-Refusing
+pub returns-in-Err : goal.returns-in-Err
 unfolding text_line
-returns-in-Refusing c = rw c.in-Refusing.is c.lay-in-Refusing.ensures
+returns-in-Err c = rw c.in-Err.is c.lay-in-Err.ensures

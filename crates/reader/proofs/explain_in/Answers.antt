@@ -7,33 +7,33 @@ use Rattle.parser.proofs.Cutting.{cut_fits}
 use Rattle.reader.proofs.ReadingLaws as laws
 use Rattle.reader.proofs.explain_in.Goals as goal
 
-pub scan-scanned-requires : goal.scan-scanned-requires
-scan-scanned-requires c = laws.text_lent c.requires
+pub scan-requires : goal.scan-requires
+scan-requires c = laws.text_lent c.requires
 
 pub overflow_mul-end : goal.overflow_mul-end
-overflow_mul-end c = omega (arith, (laws.text_fits c.requires c.args.head c.scan-scanned.ensures c.in-Tokens.is).few)
+overflow_mul-end c = omega (arith, (laws.text_fits c.requires c.args.head c.scan.ensures c.in-Ok.is).few)
 
 pub slice_bounds-explain-end : goal.slice_bounds-explain-end
-slice_bounds-explain-end c = omega (arith, (laws.text_fits c.requires c.args.head c.scan-scanned.ensures c.in-Tokens.is).long)
+slice_bounds-explain-end c = omega (arith, (laws.text_fits c.requires c.args.head c.scan.ensures c.in-Ok.is).long)
 
-pub slice_bounds-explain-end-in-Tokens : goal.slice_bounds-explain-end-in-Tokens
-slice_bounds-explain-end-in-Tokens c =
-    sym (length-take-le _ _ (laws.text_fits c.requires c.args.head c.scan-scanned.ensures c.in-Tokens.is).long)
+pub slice_bounds-explain-end-2 : goal.slice_bounds-explain-end-2
+slice_bounds-explain-end-2 c =
+    sym (length-take-le _ _ (laws.text_fits c.requires c.args.head c.scan.ensures c.in-Ok.is).long)
 
 pub explain-requires : goal.explain-requires
 explain-requires c =
-    let fits = laws.text_fits c.requires c.args.head c.scan-scanned.ensures c.in-Tokens.is in
+    let fits = laws.text_fits c.requires c.args.head c.scan.ensures c.in-Ok.is in
     record { patterns = _; holds = record { ready = c.requires.holds.readable.ready; tokens_fit = cut_fits fits } }
 
-pub returns-in-Unscanned : goal.returns-in-Unscanned
-returns-in-Unscanned c =
+pub returns-in_default : goal.returns-in_default
+returns-in_default c =
     λ patterns ready.
     laws.explain_unscanned (source_of c.args.table.now c.args.texts.now patterns) _ _ c.args.head
-    (laws.text_refused c.requires c.args.head c.scan-scanned.ensures c.in-Unscanned.is) _ _
+    (laws.text_refused c.requires c.args.head c.scan.ensures c.in_default.is) _ _
 
-pub returns-in-Tokens : goal.returns-in-Tokens
-returns-in-Tokens c =
+pub returns : goal.returns
+returns c =
     λ patterns ready.
     laws.explain_scanned (source_of c.args.table.now c.args.texts.now patterns) _ _ c.args.head
-    (laws.text_holds c.requires c.args.head c.scan-scanned.ensures c.in-Tokens.is)
+    (laws.text_holds c.requires c.args.head c.scan.ensures c.in-Ok.is)
     (c.explain.ensures patterns ready)

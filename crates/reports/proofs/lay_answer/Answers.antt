@@ -5,18 +5,18 @@ use Rattle.spellings.specs.Bytes.{bytes}
 use Rattle.reports.specs.Lines.{answer_line}
 use Rattle.reports.proofs.lay_answer.Goals as goal
 
-pub returns-in-Accepted : goal.returns-in-Accepted
+pub returns-in-Ok : goal.returns-in-Ok
 unfolding bytes answer_line
-returns-in-Accepted c =
-    rw c.in-Accepted.is (record {
+returns-in-Ok c =
+    rw c.in-Ok.is (record {
       lays = lays_then (lays_then c.lay-n.ensures c.lay_values-m.ensures.lays) c.lay.ensures;
       answer_len_bound = accepted_short _ _ _ c.lay_values-m.ensures.c_len_bound;
     })
 
-pub returns-in-Refusing : goal.returns-in-Refusing
+pub returns-in-Err : goal.returns-in-Err
 unfolding bytes answer_line
-returns-in-Refusing c =
-    rw c.in-Refusing.is (record {
-      lays = lays_then (lays_then c.lay-n-in-Refusing.ensures c.lay_numbers-m.ensures.lays) c.lay-in-Refusing.ensures;
+returns-in-Err c =
+    rw c.in-Err.is (record {
+      lays = lays_then (lays_then c.lay-n-in-Err.ensures c.lay_numbers-m.ensures.lays) c.lay-in-Err.ensures;
       answer_len_bound = refused_short _ c.lay_numbers-m.ensures.x_len_bound;
     })

@@ -6,11 +6,11 @@ use Rattle.sorts.proofs.check_variable.Goals as goal
 pub check_item-requires : goal.check_item-requires
 check_item-requires c = c.requires.places
 
-pub shape_of-sorts-in-Unsorted : goal.shape_of-sorts-in-Unsorted
-shape_of-sorts-in-Unsorted c = refl
+pub shape_of-sorts-in-Err : goal.shape_of-sorts-in-Err
+shape_of-sorts-in-Err c = refl
 
-pub returns-in-Unsorted : goal.returns-in-Unsorted
-returns-in-Unsorted c = search laws.item_refused
+pub returns-in-Err : goal.returns-in-Err
+returns-in-Err c = search laws.item_refused
 
-pub returns-in-As : goal.returns-in-As
-returns-in-As c = search laws.item_added
+pub returns-in-Ok : goal.returns-in-Ok
+returns-in-Ok c = search laws.item_added

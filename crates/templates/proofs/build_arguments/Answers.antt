@@ -7,13 +7,14 @@ use Rattle.templates.proofs.build_arguments.Goals as goal
 pub head_at-requires : goal.head_at-requires
 head_at-requires c = (laws.listing_first c.loop-at.invariant.0 c.loop-at-test.true).0
 
-pub returns-in_default : goal.returns-in_default
-returns-in_default c =
-    record {
-      lists = laws.listing_full c.loop-at.invariant.0 c.loop-at-test.true _ _ c.build_node.ensures c.in_default.is;
+pub returns-in_err-x-in-Node : goal.returns-in_err-x-in-Node
+returns-in_err-x-in-Node c =
+    rw c.from_residual.ensures
+    (record {
+      lists = laws.listing_full c.loop-at.invariant.0 c.loop-at-test.true _ _ c.build_node.ensures c.in_err-x-in-Node.was;
       few = tt;
       kept = tt;
-    }
+    })
 
 pub returns : goal.returns
 returns c = record { lists = search laws.listing_end; few = search rules; kept = search rules }
@@ -30,7 +31,7 @@ loop-at-preserved-in-Leaf c =
 pub loop-at-preserved : goal.loop-at-preserved
 loop-at-preserved c = (
   laws.listing_next c.loop-at.invariant.0 c.loop-at-test.true _ _ c.build_node.ensures (search rules)
-      c.in-Made.is c.put-in-Node.new.env (holds_more _ c.put-in-Node.ensures),
+      c.in_ok-x-in-Node.was c.put-in-Node.new.env (holds_more _ c.put-in-Node.ensures),
   cc,
   kept_behind _ c.put-in-Node.ensures c.loop-at.invariant.2,
 )

@@ -15,12 +15,12 @@ run_text-outcome-requires c =
 
 pub judge-requires : goal.judge-requires
 judge-requires c =
-    c.run_text-outcome.ensures.few _ _ c.in-Value.is
+    c.run_text-outcome.ensures.few _ _ c.in-Ok.is
 
-pub returns-in-Halted : goal.returns-in-Halted
-returns-in-Halted c = λ patterns ready. search (laws.attempt_halted, c.run_text-outcome.ensures.runs patterns ready)
+pub returns-in-Err : goal.returns-in-Err
+returns-in-Err c = λ patterns ready. search (laws.attempt_halted, c.run_text-outcome.ensures.runs patterns ready)
 
-pub returns-in-Value : goal.returns-in-Value
-returns-in-Value c =
+pub returns-in-Ok : goal.returns-in-Ok
+returns-in-Ok c =
     λ patterns ready.
     search (laws.attempt_done, c.run_text-outcome.ensures.runs patterns ready)

@@ -22,17 +22,16 @@ pub returns-then-v-count : goal.returns-then-v-count
 returns-then-v-count c =
     laws.named_is c.args.text.now c.args.at c.digit_run-n.ensures c.args.count
     (sym c.if-not-dollar.false ∙ c.is_dollar-dollar.ensures)
-    (sym c.in-Value.is ∙ c.value-number.ensures)
+    c.in_ok-v.ensures
     (omega arith)
 
-pub returns-else-v-count : goal.returns-else-v-count
-returns-else-v-count c =
+pub returns : goal.returns
+returns c =
     laws.over_is c.args.text.now c.args.at c.digit_run-n.ensures c.args.count
-    (sym c.in-Value.is ∙ c.value-number.ensures)
+    c.in_ok-v.ensures
     (omega arith)
 
-pub returns-in-TooLarge : goal.returns-in-TooLarge
-returns-in-TooLarge c =
-    laws.large_is c.args.text.now c.args.at c.digit_run-n.ensures c.args.count
-    (sym c.in-TooLarge.is ∙ c.value-number.ensures)
-    c.requires.1
+pub returns-in_err-v : goal.returns-in_err-v
+returns-in_err-v c =
+    rw c.from_residual.ensures
+    (laws.large_is c.args.text.now c.args.at c.digit_run-n.ensures c.args.count c.in_err-v.ensures c.requires.1)
