@@ -31,6 +31,7 @@ use Rattle.emitter.specs.declared.Writing.{Writing}
 use Rattle.emitter.specs.declared.Writing.TheVariants.{Text}
 use Rattle.emitter.specs.Writing.{writes, lent_for, Writable, Emits}
 use Rattle.expansion.specs.declared.State.{State}
+use Rattle.expansion.specs.Outcome.{Outcome}
 use Rattle.expansion.specs.Run.{done}
 use Rattle.expansion.specs.Figure3 as Figure3
 use Rattle.soundness.specs.Passing.{Passing, passing_of, Lexemes}
@@ -39,7 +40,7 @@ use Rattle.meaning.specs.Expand.{expanded, with_cells, finished, expand_table, e
 use Rattle.meaning.specs.Meaning as Meaning
 use Rattle.meaning.proofs.Stages as stages
 use Rattle.parser.specs.declared.Parsed.{Parsed}
-use Rattle.parser.specs.Parse.{Parseable, ParseAnswer, parsed_into, parse_into}
+use Rattle.parser.specs.Parse.{Parseable, parsed_into, parse_into}
 use Rattle.handover.specs.Expands.{Expands}
 use Rattle.handover.proofs.Naming as naming
 use Rattle.handover.proofs.Ending.{Ended, Reached, ended, refusing, reached}
@@ -161,16 +162,17 @@ module _ {bs : List ℕ} (bytes : Bytes bs) (passes : Passes bs) {formula tokens
 -- ------------------------------------------------------------------ a parse, handed over
 
 module _ (bs : List ℕ) (bytes : Bytes bs) {room formula tokens words : List ℕ} (asked : Parseable bs room formula tokens words) (cells : List ℕ)
-    {tokens' words' cells' : List ℕ} {parse : ParseAnswer}
-    (whole : (P : Passes bs) → parsed_into parse tokens' words' cells' ≡ parse_into (syntax_of P.table) formula tokens words cells) where
+    {tokens' words' cells' : List ℕ} {parsed : Parsed}
+    (whole : (P : Passes bs) → parsed_into parsed tokens' words' cells' ≡ parse_into (syntax_of P.table) formula tokens words cells) where
   abbrev passed : Passes bs
   passed = asked.checked.passes
 
-  ends : {answer : ParseAnswer} → parse ≡ answer → Ended (syntax_of passed.table) formula tokens words cells tokens' words' cells' answer
+  ends : {outcome : Outcome} → parsed.outcome ≡ outcome
+      → Ended (syntax_of passed.table) formula tokens words cells parsed.words tokens' words' cells' outcome
   ends e = rw e at (ended (syntax_of passed.table) formula tokens words cells (whole passed))
 
   -- A call whose parse refuses.
-  pub call_refuses : (writing : Writing) (text list : List ℕ) {refusal : Refusal} → parse ≡ Err refusal
+  pub call_refuses : (writing : Writing) (text list : List ℕ) {refusal : Refusal} → parsed.outcome ≡ Err refusal
       → Expands writing bs formula cells text list (Err refusal) cells' text list
   call_refuses writing text list e =
       let lent = lent_for writing text list in
@@ -182,22 +184,22 @@ module _ (bs : List ℕ) (bytes : Bytes bs) {room formula tokens words : List �
         kept = refl;
       }
 
-  module _ {parsed : Parsed} (value : parse ≡ Ok parsed) where
-    abbrev at_value : Reached (syntax_of passed.table) formula tokens words cells parsed.words parsed.row parsed.state tokens' words' cells'
+  module _ {row : ℕ} {state : State} (value : parsed.outcome ≡ Ok (row, state)) where
+    abbrev at_value : Reached (syntax_of passed.table) formula tokens words cells parsed.words row state tokens' words' cells'
     at_value = reached (syntax_of passed.table) formula tokens words cells (ends value)
 
     -- The rows made lie in the cells.
-    pub rows_lie : RowsLie parsed.state.made cells'
+    pub rows_lie : RowsLie state.made cells'
     rows_lie = lie bytes passed asked.rooms at_value
 
     -- The last step is given what it asks.
-    pub emittable : Emittable bs formula words' parsed.words (take (parsed.state.made * columns) cells') parsed.row
+    pub emittable : Emittable bs formula words' parsed.words (take (state.made * columns) cells') row
     emittable = given bytes passed asked.rooms at_value
 
     -- What the last step answers and writes is what the expansion does.
     pub emits : {writing : Writing} {text list : List ℕ} {answer : Answer} {text' list' : List ℕ}
-        → Emits writing (length (take (parsed.state.made * columns) cells') / columns)
-        (term_of bs formula words' parsed.words (take (parsed.state.made * columns) cells') parsed.row) text list answer text' list'
+        → Emits writing (length (take (state.made * columns) cells') / columns)
+        (term_of bs formula words' parsed.words (take (state.made * columns) cells') row) text list answer text' list'
         → Expands writing bs formula cells text list answer cells' text' list'
     emits {writing} {text} {list} e =
         record { wrote = ends_so bytes passed asked.rooms at_value (writes writing) (lent_for writing text list) e.wrote; kept = e.kept }

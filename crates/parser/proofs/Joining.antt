@@ -31,7 +31,8 @@ use Rattle.checker.proofs.PassedNames.{names_within}
 use Rattle.checker.proofs.Joined.{passed_grammar, passed_holds, passed_places}
 use Rattle.expansion.specs.Outcome.{Outcome}
 use Rattle.expansion.specs.Outcomes.{ran}
-use Rattle.parser.specs.Parse.{HoldsPassed, CheckedRoom, Parseable, parsed_into, parsed_as, parse_into, run_in}
+use Rattle.parser.specs.declared.Parsed.{Parsed}
+use Rattle.parser.specs.Parse.{HoldsPassed, CheckedRoom, Parseable, halted_parse, parsed_into, parse_into, run_in}
 use Rattle.steps.specs.Source.{source, GoesOn}
 use Rattle.steps.proofs.SourceLaws.{productions_from_lem}
 use Rattle.parser.proofs.Parsing as parsing
@@ -102,8 +103,8 @@ module _ {bs : List ℕ} (bytes : Bytes bs) where
       module _ {scanned : Scanned} {tokens' words' : List ℕ} (fills : filled scanned tokens' words' ≡ scan_into (lexicon_by kinds [] bs) formula tokens words)
         where
           -- A scan that refuses is the end of the parse.
-          pub stops_whole : (cells : List ℕ) {refusal : Refusal} → scanned ≡ Err refusal
-              → parsed_into (Err refusal) tokens' words' cells ≡ parse_into syntax formula tokens words cells
+          pub stops_whole : (cells : List ℕ) {refusal : Refusal} {parsed : Parsed} → scanned ≡ Err refusal → parsed ≡ halted_parse refusal
+              → parsed_into parsed tokens' words' cells ≡ parse_into syntax formula tokens words cells
           stops_whole cells h = parsing.into_unscanned syntax formula tokens words cells (rw h at (in_lexicon fills))
 
           module _ {many count : ℕ} (rooms : RoomFor formula tokens words) (accepts : scanned ≡ Ok (many, count)) where
@@ -114,13 +115,12 @@ module _ {bs : List ℕ} (bytes : Bytes bs) where
             -- ------------------------------------------------------------------ the run
 
             -- The run of the tokens, cut behind the last, ends the parse.
-            pub runs_whole : (cells : List ℕ) {outcome ended : Outcome} {cells' : List ℕ}
-                → ran outcome cells' ≡ run_in bs (take (many * 4) tokens') cells → outcome ≡ ended
-                → parsed_into (parsed_as count ended) tokens' words' cells' ≡ parse_into syntax formula tokens words cells
-            runs_whole cells {ended = ended} e ends =
-                parsing.into_run syntax formula tokens words cells ended (rw accepts at (in_lexicon fills))
+            pub runs_whole : (cells : List ℕ) {outcome : Outcome} {cells' : List ℕ}
+                → ran outcome cells' ≡ run_in bs (take (many * 4) tokens') cells
+                → parsed_into (record { outcome = outcome; words = count }) tokens' words' cells' ≡ parse_into syntax formula tokens words cells
+            runs_whole cells {outcome} e =
+                parsing.into_run syntax formula tokens words cells outcome (rw accepts at (in_lexicon fills))
                 (rw (
-                  ends,
                   productions_from_lem (begun passes) ∙ passed_grammar bytes passes,
                   cut_tokens scan_fills.tokens_fit ∙ scan_fills.tokens_are,
                   root_passed,

@@ -1,6 +1,6 @@
 -- Scan and run in one, under a table that passed the check, with the rooms that are lent: refusals 14 to 21, or the value of the root's call. This
 -- is what an expansion does before its last step. It mirrors code: nobody needs this file to believe `expand`.
-use Rattle.std.specs.Prelude.{ℕ, ◌≡◌, List, Result as Either, Ok, Err}
+use Rattle.std.specs.Prelude.{ℕ, ◌≡◌, List, Ok, Err}
 use Rattle.answers.specs.declared.Refusal.{Refusal}
 use Rattle.answers.specs.Refusals.{Verdict}
 use Rattle.productions.specs.Index.{root_in}
@@ -15,24 +15,19 @@ use Rattle.expansion.specs.Expansion.{input_of, run}
 use Rattle.calls.specs.Lent.{source, LentTokens, Ready, reading}
 use Rattle.parser.specs.declared.Parsed.{Parsed}
 
--- what a parse answers: what it gives, or a refusal
-abbrev pub ParseAnswer : Type 0
-ParseAnswer = Either Parsed Refusal
-
 -- the answer, and all that was lent as it is at exit
 pub record ParsedInto : Type 0 where
-  pub answer : ParseAnswer
+  pub answer : Parsed
   pub tokens : List ℕ
   pub words : List ℕ
   pub cells : List ℕ
 
-abbrev pub parsed_into : ParseAnswer → List ℕ → List ℕ → List ℕ → ParsedInto
+abbrev pub parsed_into : Parsed → List ℕ → List ℕ → List ℕ → ParsedInto
 parsed_into answer tokens words cells = record { answer = answer; tokens = tokens; words = words; cells = cells }
 
--- the answer where the formula has so many words and its tokens are run, by the outcome of the run
-abbrev pub parsed_as : ℕ → Outcome → ParseAnswer
-parsed_as words (Ok (v, s)) = Ok (record { row = v; state = s; words = words })
-parsed_as words (Err r) = Err r
+-- a refusal before the run
+abbrev pub halted_parse : Refusal → Parsed
+halted_parse r = record { outcome = Err r; words = 0 }
 
 abbrev pub outcome_of : Result ℕ → Outcome
 outcome_of (done v s cells) = Ok (v, s)
@@ -44,10 +39,10 @@ cells_after (halt r cells) = cells
 
 -- the run of a formula's tokens, which leaves the rooms of the scan as they are
 abbrev pub parse_filled : Syntax → Lexed → Filled → List ℕ → ParsedInto
-parse_filled syntax l (filled (Err r) tokens words) cells = parsed_into (Err r) tokens words cells
+parse_filled syntax l (filled (Err r) tokens words) cells = parsed_into (halted_parse r) tokens words cells
 parse_filled syntax l (filled (Ok (n, m)) tokens words) cells =
     let x : Result ℕ = run (input_of syntax.productions l.tokens cells) syntax.root cells in
-    parsed_into (parsed_as m (outcome_of x)) tokens words (cells_after x)
+    parsed_into (record { outcome = outcome_of x; words = m }) tokens words (cells_after x)
 
 unfoldable pub parse_into : Syntax → List ℕ → List ℕ → List ℕ → List ℕ → ParsedInto
 parse_into syntax formula tokens words cells =

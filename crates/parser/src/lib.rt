@@ -10,19 +10,28 @@ ghost use Rattle.parser.specs.Parse.{Runnable, Parseable, parsed_into, parse_int
 
 use answers::Refusal;
 use expander::run;
-use expansion::{Outcome, State};
+use expansion::Outcome;
 use grammar::limits::{LONGEST_TABLE, MIDDLE_TABLE, SMALL_TABLE};
 use productions::index::root_of;
 use productions::room::{ROOM, reached};
 use scanner::room::TOKEN;
+use tokens::Scanned;
 
-// What a parse gives: the row of the root's value, the state that its run ends in, and how many words the formula has that are neither keywords nor outside
-// names.
-#[derive(Clone, Copy)]
+// The outcome of a parse, and how many words the formula has that are neither keywords nor outside names.
+#[derive(Drop)]
 pub struct Parsed {
-    pub row: u32,
-    pub state: State,
+    pub outcome: Outcome,
     pub words: usize,
+}
+
+// A refusal before the run.
+fn halted(r: Refusal) -> Parsed
+    ensures { result ≡ record { outcome = Err r; words = 0 } }
+{
+    Parsed {
+        outcome: Err(r),
+        words: 0,
+    }
 }
 
 // The run of tokens with a room for the templates of a table of up to N bytes. It is never laid into its caller, whose frame stays without this room.
@@ -65,17 +74,21 @@ pub fn parse_passed(
     tokens: &mut [u32],
     words: &mut [u32],
     cells: &mut [u32],
-) -> Result<Parsed, Refusal>
+) -> Parsed
     requires { Parseable table.now room.now formula.now tokens.old words.old }
     ensures { (P : Passes table.now) → parsed_into result tokens.new words.new cells.new
         ≡ parse_into (syntax_of P.table) formula.now tokens.old words.old cells.old }
 {
-    let (n, count) = scanner::scan(table, reached(room), &[], formula, tokens, words)?;
-    let end = n * TOKEN;
-    let (row, state) = run_tokens(cells, table, room, &tokens[..end])?;
-    Ok(Parsed {
-        row,
-        state,
-        words: count,
-    })
+    let scanned = scanner::scan(table, reached(room), &[], formula, tokens, words);
+    match scanned {
+        Err(r) => halted(r),
+        Ok((n, count)) => {
+            let end = n * TOKEN;
+            let outcome = run_tokens(cells, table, room, &tokens[..end]);
+            Parsed {
+                outcome,
+                words: count,
+            }
+        }
+    }
 }
