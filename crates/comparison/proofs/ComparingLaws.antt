@@ -1,27 +1,39 @@
 -- What holding an expansion against a case comes to, test by test.
-use Prim.Native.Nat.{ℕ, ◌≤◌, min}
+use Prim.Native.Nat.{ℕ, ◌+◌, ◌≤◌, min}
 use mathlib.Core.Path.{◌≡◌, refl, sym, ap, ◌∙◌}
 use mathlib.Core.Bool.{Bool, true, false, ◌&&◌, true≢false}
-use mathlib.Core.List.{List}
+use mathlib.Core.List.{List, []}
 use native.Mathlib.Decide.{dec_le}
 use native.Mathlib.Omega.{arith}
-use lib.ListN.{length, take}
+use lib.ListN.{length, take, drop}
 use lib.Seq.{take_all}
 use Rattle.spellings.specs.Bytes.{one_if}
 use Rattle.answers.specs.Refusals.{Answer, numbered}
 use Rattle.answers.specs.declared.Refusal.{Refusal}
 use Rattle.meaning.specs.Expand.{Expanded, expanded, expand}
 use Rattle.std.specs.Prelude.{Option, Some, None, Result, Ok, Err, is_ok}
+use Rattle.std.specs.Option.{unwrap_or}
 use Rattle.std.specs.Result.{result_or}
 use mir.Val.{bool_byte}
 use Rattle.reports.specs.declared.lines.Difference.{Difference}
 use Rattle.reports.specs.declared.lines.Difference.TheVariants.{OtherAnswer, OtherRooms}
-use Rattle.reports.specs.Lines.{Tally, same_refusal, tally_line}
-use Rattle.rooms.specs.Laying.{Lays}
+use Rattle.reports.specs.Lines.{Tally, same_refusal, compared_line, tally_line}
+use Rattle.rooms.specs.Laying.{laid_end, laid, Lays}
 use Rattle.cases.specs.declared.case.Case.{Case}
 use Rattle.cases.specs.Cases.{table_of, formula_of, left_as_expected}
 use Rattle.cases.specs.Tallies.{tallied, cases_in}
-use Rattle.comparison.specs.Comparing.{expanded_in, judged, compared_in, differs}
+use Rattle.comparison.specs.Comparing.{expanded_in, judged, compared_in, compared, differs}
+
+-- where nothing is laid, a room stays as it is
+nothing_laid : (room : List ℕ) → Lays room 0 [] 0 room
+unfolding laid_end laid
+nothing_laid room = let ends : 0 ≡ min (length room) (0 + 0) = omega arith in record { end = ends; put = rw (← ends) refl }
+
+-- a case that is as expected has no line
+pub unlaid : (file : List ℕ) (c : Case) (index : ℕ) (line : List ℕ) {found : Option Difference} {size : Option ℕ} → found ≡ compared file c → found ≡ None
+    → size ≡ None → Lays line 0 (compared_line index c.expected (compared file c)) (unwrap_or size 0) line
+unfolding compared_line
+unlaid file c index line e none size = rw (← e, none, size) (nothing_laid line)
 
 front_is : (room : List ℕ) (asked : ℕ) {count : ℕ} → count ≡ min asked (length room) → take count room ≡ take asked room
 front_is room asked {count} e = by (dec_le asked (length room))
