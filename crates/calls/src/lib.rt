@@ -6,7 +6,7 @@ ghost use Rattle.steps.specs.Source.{SomeLent, EachLent};
 ghost use Rattle.calls.specs.Calls.{MayGo, Continues};
 
 use choices::MEMORY;
-use expansion::{MOST_OPEN, Outcome};
+use expansion::MOST_OPEN;
 use frames::FRAME;
 use grammar::limits::MOST_VARIABLES;
 use productions::room::ROOM;

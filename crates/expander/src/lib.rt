@@ -67,7 +67,7 @@ fn longer_items(
 }
 
 // The same, where no middle room is long enough: in a long one, or in one for all calls.
-// Each size is written out: functions that call each other have no sizes for parameters that differ.
+// Each size is written out, since functions that call each other may not differ in their const parameters.
 #[cycle(items_in_longer_items_longest_items)]
 fn longest_items(
     cells: &mut [u32],

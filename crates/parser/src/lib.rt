@@ -15,7 +15,6 @@ use grammar::limits::{LONGEST_TABLE, MIDDLE_TABLE, SMALL_TABLE};
 use productions::index::root_of;
 use productions::room::{ROOM, reached};
 use scanner::room::TOKEN;
-use tokens::Scanned;
 
 // The outcome of a parse, and how many words the formula has that are neither keywords nor outside names.
 #[derive(Drop)]

@@ -55,7 +55,8 @@ pub fn judge(cells: &[u32], head: TextHead, x: u32, s: State, others: usize) -> 
     }
 }
 
-// Why a text is refused that is read with its words as words, and is not with its words as outside names: 27 if it is small enough, else 26.
+// Why a text is refused that is read with its words as words, and is not with its words as outside names: `WordAtBinder` (27) if it is small
+// enough, else `Unread` (26).
 pub fn because(cells: &[u32], sort: u8, x: u32, s: State) -> TextFault
     requires { s.made ≤ most_cells }
     ensures { cause_of result ≡ because_of sort x s cells.now }
