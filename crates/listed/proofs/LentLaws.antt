@@ -19,8 +19,9 @@ use Rattle.boundaries.specs.declared.Formula.TheVariants.{Parentheses, Selection
 use Rattle.boundaries.specs.declared.Table.{Table}
 use Rattle.boundaries.specs.Lines.{times, between, formula_bytes, first_lines, line_at, label_at, differs, saying}
 use Rattle.phrases.specs.Output.{lent_cells, lent_text}
+use Rattle.listed.specs.declared.Files.{Files}
 use Rattle.listed.specs.declared.Told.{Told}
-use Rattle.listed.specs.Lent.{long_text, expanded_in, answer_at, differs_at, Files, bytes_of, table_at, told_to, differ_to, listed_output, Tells}
+use Rattle.listed.specs.Lent.{long_text, expanded_in, answer_at, differs_at, bytes_of, table_at, told_to, differ_to, listed_output, Tells}
 
 module _ (table : List ℕ) {long : Bool} {y formula cells text : List ℕ} {answer : Answer} (ey : y ≡ formula) where
   -- with the longer text

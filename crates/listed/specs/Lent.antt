@@ -9,6 +9,7 @@ use Rattle.boundaries.specs.declared.Table.{Table}
 use Rattle.boundaries.specs.declared.Table.TheVariants.{House, Twice, SixteenLevels, SeventeenLevels}
 use Rattle.boundaries.specs.Lines.{formula_bytes, line_at, label_at, differs, saying}
 use Rattle.phrases.specs.Output.{lent_cells, lent_text}
+use Rattle.listed.specs.declared.Files.{Files}
 use Rattle.listed.specs.declared.Told.{Told}
 
 -- the text of thirteen `twice`
@@ -32,24 +33,14 @@ differs_at i table = differs (line_at i).expected (answer_at i table)
 abbrev pub told_at : ℕ → List ℕ → List ℕ
 told_at i table = label_at i ++ saying (line_at i).expected (answer_at i table)
 
--- the bytes of the files of the tables
-pub record Files : Type 0 where
-  pub house : List ℕ
-  pub twice : List ℕ
-  pub sixteen : List ℕ
-  pub seventeen : List ℕ
-
-abbrev pub files : List ℕ → List ℕ → List ℕ → List ℕ → Files
-files house twice sixteen seventeen = record { house = house; twice = twice; sixteen = sixteen; seventeen = seventeen }
-
--- those of one table
+-- the bytes of the file of a table
 unfoldable pub bytes_of : Files → Table → List ℕ
-bytes_of f House = f.house
-bytes_of f Twice = f.twice
-bytes_of f SixteenLevels = f.sixteen
-bytes_of f SeventeenLevels = f.seventeen
+bytes_of f House = f.house.now
+bytes_of f Twice = f.twice.now
+bytes_of f SixteenLevels = f.sixteen.now
+bytes_of f SeventeenLevels = f.seventeen.now
 
--- those of line i's table
+-- those of the file of line i's table
 abbrev pub table_at : Files → ℕ → List ℕ
 table_at f i = bytes_of f (line_at i).table
 
