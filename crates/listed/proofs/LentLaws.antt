@@ -16,12 +16,11 @@ use Rattle.reports.specs.Lines.{total}
 use Rattle.boundaries.specs.declared.Line.{Line}
 use Rattle.boundaries.specs.declared.Formula.{Formula}
 use Rattle.boundaries.specs.declared.Formula.TheVariants.{Parentheses, Selections, Twice, Nothing}
-use Rattle.boundaries.specs.declared.Table.{Table}
 use Rattle.boundaries.specs.Lines.{times, between, formula_bytes, first_lines, line_at, label_at, differs, saying}
 use Rattle.phrases.specs.Output.{lent_cells, lent_text}
 use Rattle.listed.specs.declared.Files.{Files}
 use Rattle.listed.specs.declared.Told.{Told}
-use Rattle.listed.specs.Lent.{long_text, expanded_in, answer_at, differs_at, bytes_of, table_at, told_to, differ_to, listed_output, Tells}
+use Rattle.listed.specs.Lent.{long_text, expanded_in, answer_at, differs_at, table_at, told_to, differ_to, listed_output, Tells}
 
 module _ (table : List ℕ) {long : Bool} {y formula cells text : List ℕ} {answer : Answer} (ey : y ≡ formula) where
   -- with the longer text
@@ -98,13 +97,6 @@ module _ (i : ℕ) {table : List ℕ} {line : Line} {found : Answer} (is : line 
       let same : differs line.expected found ≡ differs_at i table = rw (is, e) refl in
       let own : value ≡ differs_at i table = sym t ∙ et ∙ same in
       record { lays = rw (is, e) at lays; counts = counted ∙ ap (λ (b : Bool). told.differ + one_if b) own }
-
--- a line that is told under the table that it names
-pub tells_own : (f : Files) {i : ℕ} {line : Line} {table : Table} → line ≡ line_at i → line.table ≡ table → {told r : Told} {out out' : List ℕ}
-    → Tells i (bytes_of f table) told out r out' → Tells i (table_at f i) told out r out'
-tells_own f {i} {line} {table} is e tells =
-    let own : bytes_of f table ≡ table_at f i = rw (← is, e) refl in
-    rw (← own) tells
 
 -- ------------------------------------------------------------------ all lines
 

@@ -8,7 +8,7 @@ loop-i-init c = laws.telling_start
 
 pub loop-i-preserved : goal.loop-i-preserved
 loop-i-preserved c =
-    laws.telling_next c.loop-i.invariant (omega (arith, c.loop-i-test.true)) c.lay_own-told.ensures
+    laws.telling_next c.loop-i.invariant (omega (arith, c.loop-i-test.true)) (rw (← c.line_at.ensures, ← c.bytes_of.ensures) c.lay_answered-told.ensures)
 
 pub returns : goal.returns
 returns c =
