@@ -2,11 +2,11 @@
 use Prim.Native.Nat.{ℕ, suc, min, ◌+◌, ◌-◌, ◌≤◌, ◌<◌}
 use mathlib.Core.Path.{◌≡◌, refl, sym, ap, ap₂, ◌∙◌}
 use mathlib.Core.Bool.{Bool, true, false, ◌&&◌}
-use mathlib.Core.List.{List, [], ◌∷◌}
+use mathlib.Core.List.{List, [], ◌∷◌, ◌++◌}
 use native.Mathlib.Omega.{arith}
 use lib.Dec.{eqb, leb, ltb}
-use lib.ListN.{length, get_or, take, drop, set, length-set, length-drop, drop_of_length-le}
-use lib.Seq.{drop-cons, take_all, set_out}
+use lib.ListN.{length, get_or, take, drop, set, length-set, length-drop, drop_of_length-le, take-append-drop}
+use lib.Seq.{drop-cons, take_all, take-suc, take-suc-set, get_or-drop, drop-drop, drop-set-lt, set_out}
 use borrow.Author.Tests.{lt-ltb, le-ltb, eq-eqb, ne_eqb, eqb-true, eqb-false, leb-true}
 use Rattle.spellings.proofs.BytesLaws.{by_test}
 use Rattle.std.specs.Prelude.{Result, Ok, Err, ⊤}
@@ -18,7 +18,7 @@ use Rattle.bodies.specs.declared.Fault.TheVariants.{Undefined}
 use Rattle.judgements.proofs.TemplateSorts.{both}
 use Rattle.bodies.specs.TemplateBytes.{closed_bytes, fill_bytes, templates_fault, places}
 use Rattle.bodies.specs.HeadBytes.{signature_at}
-use Rattle.bodies.specs.BodyBytes.{unless_faulty, call_at, item_at, result_at, ParametersLoaded, one_more, SortAdded}
+use Rattle.bodies.specs.BodyBytes.{unless_faulty, call_at, item_at, result_at, ParametersLoaded, ParameterSorts, one_more, SortAdded}
 use Rattle.bodies.proofs.TemplateInduction.{choose}
 use Rattle.bodies.proofs.TemplateLoops.{places_set}
 
@@ -71,6 +71,56 @@ module _ {sig room₀ : List ℕ} where
       }
 
 -- ------------------------------------------------------------------ the sorts of variables
+
+-- the first `count` parameters of a signature are variables
+pub record Copying (sig L₀ L : List ℕ) (count place : ℕ) : Type 0 where
+  -- the sorts are as many as they were
+  pub as_many : length L ≡ length L₀
+  -- the next parameter
+  pub next : place ≡ count + 1
+  -- no more are copied than there are
+  pub most : count ≤ length sig - 1
+  -- the first ones are copied
+  pub copied : take count L ≡ take count (drop 1 sig)
+  -- the others stay
+  pub stays : drop count L ≡ drop count L₀
+
+module _ {sig L₀ : List ℕ} where
+  -- no sort yet
+  pub copying_start : Copying sig L₀ L₀ 0 1
+  copying_start = record { as_many = refl; next = refl; most = omega arith; copied = refl; stays = refl }
+
+  -- one sort more
+  pub copying_next :
+      {L : List ℕ} {count place sort : ℕ} → length sig ≤ length L₀ → Copying sig L₀ L count place → place < length sig → sort ≡ get_or sig place 0
+      → Copying sig L₀ (set L count sort) place (place + 1)
+  copying_next {L} {count} {place} {sort} h c p e =
+      let far : place ≡ suc count = omega (arith, c.next) in
+      let one : 1 + count ≡ place = omega (arith, c.next) in
+      let rest : length (drop 1 sig) ≡ length sig - 1 = length-drop 1 sig in
+      record {
+        as_many = length-set L count sort ∙ c.as_many;
+        next = refl;
+        most = omega arith;
+        copied =
+            cc (
+              take-suc-set L count sort (omega (arith, c.as_many, c.next)),
+              c.copied,
+              get_or-drop 1 sig count 0,
+              take-suc (drop 1 sig) count 0 (omega (arith, c.next)),
+            );
+        stays =
+            drop-set-lt place L count sort (omega (arith, c.next))
+            ∙ (rw c.next (sym (drop-drop 1 count L) ∙ ap (drop 1) c.stays ∙ drop-drop 1 count L₀));
+      }
+
+  -- all sorts
+  pub copying_end : {L : List ℕ} {count place : ℕ} → Copying sig L₀ L count place → length sig ≤ place → ParameterSorts sig L₀ L count
+  copying_end {L} {count} {place} c h =
+      let rest : length (drop 1 sig) ≡ length sig - 1 = length-drop 1 sig in
+      let front : take count L ≡ drop 1 sig = c.copied ∙ take_all count (drop 1 sig) (omega (arith, c.next)) in
+      let all : count ≡ length sig - 1 = omega (arith, c.next, c.most) in
+      record { count_is = all; sorts_are = sym (take-append-drop count L) ∙ ap₂ ◌++◌ front c.stays ∙ rw all refl }
 
 -- one sort more behind those of `count` variables, and none where there are 16
 module _ (L : List ℕ) (count sort : ℕ) (equal : length L ≡ 16) where

@@ -6,75 +6,112 @@ use mathlib.Core.List.{List, [], ◌∷◌, ◌++◌, append_assoc}
 use native.Mathlib.Decide.{ℕ_discrete, dec_lt}
 use native.Mathlib.Nat.{add-zero}
 use native.Mathlib.Omega.{arith}
-use lib.ListN.{length, get_or, set, take, drop, replicate, length-append, length-set, length-take, length-drop, get_or-append}
-use lib.Seq.{drop-cons, ext_get_or, get_or-append-add, get_or-set_same, get_or-set_other, get_or-drop, drop-set-lt, drop-length, drop-append-add, drop-drop}
-use borrow.Rule.Slice.PartMut.{put_mid}
+use lib.ListN.{length, get_or, set, drop, length-append, length-set, length-drop, get_or-append}
+use lib.Seq.{drop-cons, get_or-append-add, get_or-set_same, get_or-set_other, get_or-drop, drop-set-lt, drop-length, drop-append-add, drop-drop}
 use borrow.Author.Tests.{eq-eqb, ne_eqb}
-use Rattle.std.proofs.lemmas.Slice.{take-put_mid, drop-put_mid}
 use Rattle.grammar.specs.Limits.{most}
 use Rattle.productions.specs.Room.{Entry, no_entry, places_number, flag_number, link_number, place_from, is_of, is_nullable_of, entry_numbers, room_of}
 use Rattle.productions.specs.Room.{overwritten, values_of, begun, laid, RoomAndSets, RoomAt}
 use Rattle.productions.specs.Room.{sets_at, places_at, productions_at, links_at, room_size, place_base, start_base, nullable_base, patterns_base, no_places}
-use Rattle.productions.proofs.RoomLaws.{length-values, get_d_values, length_room, place_small, entry_first, entry_link, length-entries, first_part}
+use Rattle.productions.proofs.RoomLaws.{length-values, length_room, place_small, entry_first, entry_link, length-entries, first_part}
 use Rattle.productions.proofs.RoomLaws.{second_part, length_parts, parts_are}
 
 -- ------------------------------------------------------------------ the room is begun
 
-module _ (kinds : ℕ) (sets room : List ℕ) (whole : RoomAndSets room sets) where
-  abbrev headed : List ℕ
-  headed = set room 0 kinds
-
-  abbrev with_sets : List ℕ
-  with_sets = put_mid sets_at most.nonterminals headed sets
-
+-- the first sets before number `nonterminal` are written, and the nonterminals before it have no place
+pub record Beginning (kinds : ℕ) (sets room₀ : List ℕ) (nonterminal : ℕ) (room : List ℕ) : Type 0 where
+  -- `nonterminal` is a nonterminal or the end
+  pub small : nonterminal ≤ most.nonterminals
+  -- the room has its size
+  pub size : length room ≡ room_size
+  -- so had the room before
+  pub many : length room₀ ≡ room_size
+  -- there is a first set for each nonterminal
+  pub sets_many : length sets ≡ most.nonterminals
   -- the kinds stand in front
-  head_is : (room : List ℕ) → 0 < length room → take 1 (set room 0 kinds) ≡ kinds ∷ []
-  head_is [] some = absurd (omega arith)
-  head_is (number ∷ numbers) some = refl
+  pub head : get_or room 0 0 ≡ kinds
+  -- the sets written are those given
+  pub set_in : (at_place : ℕ) → at_place < nonterminal → get_or room (sets_at + at_place) 0 ≡ get_or sets at_place 0
+  -- a nonterminal has no production yet, and no nullable one
+  pub place_in : (at_place : ℕ) → at_place < nonterminal → get_or room (places_at + at_place) 0 ≡ no_places
+  -- the numbers behind are as before
+  pub tail : (at_place : ℕ) → get_or room (productions_at + at_place) 0 ≡ get_or room₀ (productions_at + at_place) 0
 
-  -- a first set for each nonterminal
-  sets_are : sets ≡ values_of (λ n. get_or sets n 0) most.nonterminals 0
-  sets_are =
-      ext_get_or 0 sets (values_of (λ n. get_or sets n 0) most.nonterminals 0) (whole.many ∙ sym (length-values _ most.nonterminals 0))
-      (λ n below. set_is n (omega (arith, whole.many)))
-    where
-      set_is : (n : ℕ) → n < most.nonterminals → get_or sets n 0 ≡ get_or (values_of (λ n. get_or sets n 0) most.nonterminals 0) n 0
-      set_is n below =
-          let same : 0 + n ≡ n = omega arith in
-          ap (λ n. get_or sets n 0) (sym same) ∙ sym (get_d_values (λ n. get_or sets n 0) most.nonterminals 0 n below)
+-- the kinds are written first
+pub beginning_start : (kinds : ℕ) (sets room : List ℕ) → RoomAndSets room sets → Beginning kinds sets (set room 0 kinds) 0 (set room 0 kinds)
+beginning_start kinds sets room h =
+    record {
+      small = omega arith;
+      size = length-set room 0 kinds ∙ h.size;
+      many = length-set room 0 kinds ∙ h.size;
+      sets_many = h.many;
+      head = get_or-set_same room 0 kinds 0 (omega (arith, h.size));
+      set_in = λ i l. absurd (omega arith);
+      place_in = λ i l. absurd (omega arith);
+      tail = λ i. refl;
+    }
 
-  -- the room stays as long
-  size_is : length with_sets ≡ room_size
-  size_is =
-      omega (
-        arith,
-        whole.many,
-        whole.size,
-        length-set room 0 kinds,
-        length-append (take 1 headed) (sets ++ drop most.nonterminals (drop 1 headed)),
-        length-append sets (drop most.nonterminals (drop 1 headed)),
-        length-take 1 headed,
-        length-drop most.nonterminals (drop 1 headed),
-        length-drop 1 headed,
-      )
+module _ {kinds : ℕ} {sets room₀ : List ℕ} {nonterminal : ℕ} {room : List ℕ} (beginning : Beginning kinds sets room₀ nonterminal room) where
+  module _ (under : nonterminal < most.nonterminals) where
+    untouched : (at_place : ℕ) → (at_place ≡ 1 + nonterminal → ⊥) → (at_place ≡ places_at + nonterminal → ⊥)
+        → get_or (set (set room (sets_at + nonterminal) (get_or sets nonterminal 0)) (places_at + nonterminal) no_places) at_place 0 ≡ get_or room at_place 0
+    untouched at_place a b =
+        get_or-set_other (set room (sets_at + nonterminal) (get_or sets nonterminal 0)) (places_at + nonterminal) at_place no_places 0 b
+        ∙ get_or-set_other room (sets_at + nonterminal) at_place (get_or sets nonterminal 0) 0 a
 
-  -- The kinds, the sets and no places, written one after the other.
-  pub begun_written : {written places : List ℕ} → written ≡ sets
-      → places ≡ replicate (length (take most.nonterminals (drop places_at (put_mid sets_at most.nonterminals headed written)))) no_places
-      → put_mid places_at most.nonterminals (put_mid sets_at most.nonterminals headed written) places ≡ begun kinds sets room
-  unfolding begun place_from values_of
-  begun_written {written} {places} written_are places_are =
-      let long : 1 ≤ length headed = omega (arith, length-set room 0 kinds, whole.size) in
-      let front : take places_at with_sets ≡ kinds ∷ sets = take-put_mid 1 64 headed sets places_at (omega (arith, whole.many)) long
-      ∙ ap (λ first. first ++ sets) (head_is room (omega (arith, whole.size))) in
-      let behind : drop most.nonterminals (drop places_at with_sets) ≡ drop productions_at room =
-      drop-drop most.nonterminals places_at with_sets
-      ∙ drop-put_mid 1 64 headed sets productions_at (omega arith) long whole.many
-      ∙ drop-set-lt productions_at room 0 kinds (omega arith) in
-      let many : length (take most.nonterminals (drop places_at with_sets)) ≡ most.nonterminals =
-      omega (arith, length-take most.nonterminals (drop places_at with_sets), length-drop places_at with_sets, size_is) in
-      let filled : places ≡ replicate most.nonterminals no_places = rw (written_are, many) at places_are in
-      rw (written_are, front, behind, filled) (ap (λ all. kinds ∷ (all ++ (replicate most.nonterminals no_places ++ drop productions_at room))) sets_are)
+    set_next : (at_place : ℕ) → at_place < nonterminal + 1 → Dec (at_place ≡ nonterminal)
+        → get_or (set (set room (sets_at + nonterminal) (get_or sets nonterminal 0)) (places_at + nonterminal) no_places) (sets_at + at_place) 0 ≡ get_or sets at_place 0
+    set_next at_place l (yes e) =
+        rw e
+        (get_or-set_other (set room (sets_at + nonterminal) (get_or sets nonterminal 0)) (places_at + nonterminal) (sets_at + nonterminal) no_places 0
+        (λ q. omega arith)
+        ∙ get_or-set_same room (sets_at + nonterminal) (get_or sets nonterminal 0) 0 (omega (arith, beginning.size)))
+    set_next at_place l (no e) = untouched (sets_at + at_place) (λ q. e (omega arith)) (λ q. omega arith) ∙ beginning.set_in at_place (omega (arith, below e l))
+      where
+        below : (at_place ≡ nonterminal → ⊥) → at_place < nonterminal + 1 → at_place < nonterminal
+        below e l = omega arith
+
+    place_next : (at_place : ℕ) → at_place < nonterminal + 1 → Dec (at_place ≡ nonterminal)
+        → get_or (set (set room (sets_at + nonterminal) (get_or sets nonterminal 0)) (places_at + nonterminal) no_places) (places_at + at_place) 0 ≡ no_places
+    place_next at_place l (yes e) =
+        rw e
+        (get_or-set_same (set room (sets_at + nonterminal) (get_or sets nonterminal 0)) (places_at + nonterminal) no_places 0
+        (omega (arith, beginning.size, length-set room (sets_at + nonterminal) (get_or sets nonterminal 0))))
+    place_next at_place l (no e) = untouched (places_at + at_place) (λ q. omega arith) (λ q. e (omega arith)) ∙ beginning.place_in at_place (below e l)
+      where
+        below : (at_place ≡ nonterminal → ⊥) → at_place < nonterminal + 1 → at_place < nonterminal
+        below e l = omega arith
+
+    -- two numbers for each nonterminal
+    pub beginning_next : Beginning kinds sets room₀ (nonterminal + 1)
+        (set (set room (sets_at + nonterminal) (get_or sets nonterminal 0)) (places_at + nonterminal) no_places)
+    beginning_next =
+        record {
+          small = omega arith;
+          size = length-set (set room (sets_at + nonterminal) (get_or sets nonterminal 0)) (places_at + nonterminal) no_places
+              ∙ length-set room (sets_at + nonterminal)
+              (get_or sets nonterminal 0) ∙ beginning.size;
+          many = beginning.many;
+          sets_many = beginning.sets_many;
+          head = untouched 0 (λ q. omega arith) (λ q. omega arith) ∙ beginning.head;
+          set_in = λ i l. set_next i l (ℕ_discrete i nonterminal);
+          place_in = λ i l. place_next i l (ℕ_discrete i nonterminal);
+          tail = λ i. untouched (productions_at + i) (λ q. omega arith) (λ q. omega arith) ∙ beginning.tail i;
+        }
+
+  begun_here : most.nonterminals ≤ nonterminal → room ≡ begun kinds sets room₀
+  unfolding begun place_from
+  begun_here h =
+      parts_are kinds (λ i. get_or sets i 0) (places_number []) (drop productions_at room₀) room
+      (omega (arith, beginning.size, beginning.many, length-drop productions_at room₀))
+      beginning.head
+      (λ i l. beginning.set_in i (omega arith)) (λ i l. beginning.place_in i (omega arith)) (λ i. beginning.tail i ∙ sym (get_or-drop productions_at room₀ i 0))
+
+-- the kinds stand in front of what is kept
+pub beginning_end : {kinds : ℕ} (sets room₀ : List ℕ) {nonterminal : ℕ} {room : List ℕ} → Beginning kinds sets (set room₀ 0 kinds) nonterminal room
+    → most.nonterminals ≤ nonterminal → room ≡ begun kinds sets room₀
+unfolding begun
+beginning_end {kinds} sets room₀ c h = begun_here c h ∙ rw (drop-set-lt productions_at room₀ 0 kinds (omega arith)) refl
 
 -- ------------------------------------------------------------------ an entry is laid
 

@@ -114,14 +114,16 @@ pub fn patterns(room: &[u64; ROOM], j: usize) -> u64
     link(room, j) / PATTERNS
 }
 
-// Begins a room: the kinds that are reached, and the first sets of the nonterminals, which have no production yet.
+// Begins a room: the kinds that are reached, and the first sets of the nonterminals, which have no production yet. One by one, as `spellings::copy_into`.
 pub fn begin(room: &mut [u64], kinds: u64, sets: &[u64])
     requires { RoomAndSets room.old sets.now }
     ensures { room.new ≡ begun kinds sets.now room.old }
 {
     room[0] = kinds;
-    room[FIRST_SETS..PLACES].copy_from_slice(sets);
-    room[PLACES..PRODUCTIONS].fill(NO_PLACES);
+    for n in 0..EACH_NONTERMINAL {
+        room[FIRST_SETS + n] = sets[n];
+        room[PLACES + n] = NO_PLACES;
+    }
 }
 
 // Where the productions of a nonterminal are, with one more at a place in front of the others.
