@@ -229,6 +229,22 @@ newest_on {cells} {half} {hash} {below} {link} w d =
       hashed = w.hashed;
     }
 
+-- a row that is no first row changes nothing
+pub linked_skip : {rows : ℕ} {cells links : List ℕ} → LinkedTo rows cells links → rows < length links / 2 → rows < most_cells → (FirstBinding cells rows → ⊥)
+    → LinkedTo (rows + 1) cells links
+linked_skip {rows} {cells} {links} k r l d =
+    record {
+      few = omega arith;
+      some = k.some;
+      room = omega arith;
+      heads = λ h b. newest_on (k.heads h b) (λ f e. d f);
+      nexts =
+          λ i b f.
+          by_test (eqb i rows)
+          (λ t. absurd (d (subst (FirstBinding cells) (eqb-true i rows t) f)))
+          (λ t. k.nexts i (omega (arith, eqb-false i rows t)) f);
+    }
+
 module _ {rows : ℕ} {cells links : List ℕ} (linked : LinkedTo rows cells links) (below : rows < length links / 2) (under : rows < most_cells)
     (binds_first : FirstBinding cells rows) where
   x : ℕ

@@ -10,7 +10,7 @@ use mir.Val.{Fits}
 use lib.Dec.{eqb, leb, ltb}
 use lib.ListN.{length, get_or, take, drop, length-drop}
 use lib.Seq.{take_all}
-use borrow.Author.Tests.{eq-eqb, ne_eqb, ltb-true}
+use borrow.Author.Tests.{eq-eqb, ne_eqb, ltb-true, not-true, not-false}
 use Rattle.answers.specs.Refusals.{refusal}
 use Rattle.answers.specs.Checked.{Checked, ok, bad, need, verdict, ◌>>◌}
 use Rattle.std.specs.List.{list_all}
@@ -21,6 +21,16 @@ use Rattle.grammar.specs.Values.{Field}
 use Rattle.decoding.specs.declared.Progress.{Progress}
 use Rattle.decoding.specs.Prefix.{templates_of, is_templates, is_template}
 use Rattle.decoding.specs.Layout.{is_empty, is_nonterminal, is_head, is_item, is_root, is_known, follows, is_repeated, is_spelled, has_room, passed, is_whole, check_field}
+
+-- ------------------------------------------------------------------ tests
+
+-- a test that the code made
+pub passes : {answer test : Bool} → answer ≡ test → not answer ≡ false → test ≡ true
+passes {answer} e f = sym e ∙ not-false answer f
+
+-- and one that failed
+pub fails : {answer test : Bool} → answer ≡ test → not answer ≡ true → test ≡ false
+fails {answer} e f = sym e ∙ not-true answer f
 
 -- ------------------------------------------------------------------ values
 

@@ -3,11 +3,13 @@ use Prim.Native.Nat.{ℕ, ◌+◌, ◌-◌, ◌*◌, ◌/◌, ◌%◌, ◌^◌, 
 use mathlib.Core.Path.{◌≡◌, refl, sym, ap, ap₂, ◌∙◌}
 use mathlib.Core.List.{List, [], ◌∷◌, ◌++◌}
 use mathlib.Core.Logic.{◌⊎◌}
-use native.Mathlib.Nat.{add-zero}
+use native.Mathlib.Nat.{add-zero, mul-le-mul_left}
 use native.Mathlib.Numerals.{add-one, add-two}
 use native.Mathlib.Omega.{arith}
 use lib.ListN.{length, set, drop, length-append, length-set}
 use lib.Seq.{sets, sets-eq}
+use mir.Syntax.{w64}
+use mir.Val as val
 use Rattle.spellings.proofs.BuffersLaws.{written_fits, written_not}
 use Rattle.terms.specs.Cells.{column}
 use Rattle.terms.specs.Rows.{term_at, field_list_at}
@@ -39,6 +41,12 @@ wrote_then {list} {at} {first} {second} w w' =
     }
 
 -- ------------------------------------------------------------------ an entry
+
+module _ {written wanted n at : ℕ} (m : EntryFits written wanted at) {amount : ℕ}
+    (wide : (amount ≡ n) × (amount < 4294967296)) where
+  -- a number of 32 bits times a count of portions is a number of 64 bits
+  pub product_fits : val.Fits w64 (amount * wanted)
+  product_fits = record { fits = omega (arith, mul-le-mul_left amount m.counts.few, wide.1) }
 
 -- an entry that fits
 pub entry_put : (written wanted : ℕ) {n at amount : ℕ} → amount ≡ n → {list : List ℕ} → at + 3 ≤ length list

@@ -18,7 +18,7 @@ use Rattle.meaning.proofs.EachLaws.{Keeps, expand_keeps, all_cons}
 -- ------------------------------------------------------------------ the parts of a turn
 
 -- no bytes, where the end or the buffer is not behind the beginning
-formula_none : (formulas : List ℕ) (from end : ℕ) → min end (length formulas) ≤ from → [] ≡ formula_in formulas from end
+pub formula_none : (formulas : List ℕ) (from end : ℕ) → min end (length formulas) ≤ from → [] ≡ formula_in formulas from end
 formula_none formulas from end h = by (dec_le end from)
   where
     by : Dec (end ≤ from) → [] ≡ formula_in formulas from end
@@ -26,7 +26,7 @@ formula_none formulas from end h = by (dec_le end from)
     by (no n) = let over : length formulas ≤ from = omega arith in rw (drop_of_length-le formulas over, take-nil) refl
 
 -- the bytes between, as far as the buffer goes
-formula_some : (formulas : List ℕ) (from end : ℕ) → take (min end (length formulas) - from) (drop from formulas) ≡ formula_in formulas from end
+pub formula_some : (formulas : List ℕ) (from end : ℕ) → take (min end (length formulas) - from) (drop from formulas) ≡ formula_in formulas from end
 formula_some formulas from end = by (dec_le end (length formulas))
   where
     by : Dec (end ≤ length formulas) → take (min end (length formulas) - from) (drop from formulas) ≡ formula_in formulas from end
